@@ -1,0 +1,4 @@
+pub mod ToldLemmas
+pub mod FaultsLemmas
+pub mod InMemoryLemmas
+pub mod StreamsLemmas

@@ -1,0 +1,63 @@
+//! What takes bytes, a piece at a time, until it fails.
+//!
+//!     Took(n)  the first n bytes of the piece were taken
+//!     Failed   a fault: nothing was taken, and the count of faults rose
+ghost use Rattle.std.specs.Prelude.{◌≡◌, ℕ, Option, List, [], ◌<◌, ◌≤◌, length, take, OnOk, OnErr, IsOk};
+ghost use Rattle.as4_flow.specs.Told.{behind, TakesFront};
+ghost use Rattle.as4_flow.specs.Faults.{Rose};
+
+/// What a write answers.
+#[derive(Clone, Copy, Debug, PartialEq, Eq)]
+pub enum Put {
+    /// This many bytes were taken, at least one. The others are to be written again.
+    Took(usize),
+    /// Nothing was taken.
+    Failed,
+}
+
+pub trait Sink {
+    ghost use Rattle.as4_flow.specs.Put.{IfTook};
+
+    /// The bytes that were taken so far, where the sink tells them.
+    ghost taken: { Self → Option (List ℕ) };
+
+    /// How many faults there were, up to the last value of a `u64`.
+    ghost faults: { Self → ℕ };
+
+    /// Takes the front of the piece, as much as goes at once.
+    fn write(&mut self, piece: &[u8]) -> Put
+        requires { 0 < length piece.now }
+        ensures some { IfTook result (λ n. (1 ≤ n) × (n ≤ length piece.now)) }
+        ensures bytes { IfTook result (λ n. taken self.new ≡ behind (taken self.old) (take n piece.now)) }
+
+        ensures stays { result ≡ Put.Failed → taken self.new ≡ taken self.old }
+        ensures failed { result ≡ Put.Failed → Rose (faults self.old) (faults self.new) }
+        ensures counted { faults self.old ≤ faults self.new };
+}
+
+/// The sink failed, and took only a front of the bytes: what it takes after this continues nothing.
+#[derive(Clone, Copy, Debug, PartialEq, Eq)]
+pub struct SendFailed;
+
+/// Writes all the bytes, in as many pieces as the sink wants. It takes no memory.
+#[tactic(auto, using(crate::proofs::ToldLemmas::behind_more))]
+pub fn send_all<K: Sink>(sink: &mut K, bytes: &[u8]) -> Result<(), SendFailed>
+    ensures ok { OnOk result (K.taken sink.new ≡ behind (K.taken sink.old) bytes.now) }
+    ensures err { OnErr result (Rose (K.faults sink.old) (K.faults sink.new)) }
+
+    // Whatever the answer, what came is a front of the bytes.
+    ensures front { TakesFront bytes.now (K.taken sink.old) (K.taken sink.new) }
+    ensures counted { K.faults sink.old ≤ K.faults sink.new }
+
+    // No bytes make no call.
+    ensures nothing { bytes.now ≡ [] → IsOk result × (sink.new ≡ sink.old) }
+{
+    let mut sent = 0;
+    while sent < bytes.len() {
+        match sink.write(&bytes[sent..]) {
+            Put::Took(n) => sent += n,
+            Put::Failed => return Err(SendFailed),
+        }
+    }
+    Ok(())
+}
