@@ -1,0 +1,10 @@
+-- What a signal must hold beside what its fields say.
+use Rattle.std.specs.Prelude.{ℕ, List, Bool, true, ◌&&◌, Option, is_some, length, nat_le}
+use Rattle.as4_values.specs.declared.signal_body.SignalBody.{SignalBody}
+use Rattle.as4_values.specs.declared.signal_body.SignalBody.TheVariants.{Pull, Receipt, Errors}
+
+-- a receipt refers to the message that it is for, and errors are 1 to 256
+abbrev pub is_signal : Option (List ℕ) → SignalBody → Bool
+is_signal ref_to (Pull mpc) = true
+is_signal ref_to (Receipt copy) = is_some ref_to
+is_signal ref_to (Errors items) = nat_le 1 (length items) && nat_le (length items) 256

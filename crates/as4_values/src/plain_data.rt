@@ -1,0 +1,51 @@
+ghost use Rattle.std.specs.Prelude.{◌≡◌, ◌↔◌, IsTrue, IfOk};
+
+use crate::memory::NoMemory;
+use std::alloc::Global;
+
+/// Data without identity: a copy equals its source, and equality can be asked without memory.
+pub trait PlainData {
+    /// An equal value of its own.
+    fn try_clone(&self, alloc: Global) -> Result<Self, NoMemory>
+        ensures { IfOk result (λ copy. copy ≡ self.now) };
+
+    /// Whether the two are equal.
+    fn same(&self, other: &Self) -> bool
+        ensures { IsTrue result ↔ (self.now ≡ other.now) };
+}
+
+impl<T: PlainData> PlainData for Option<T> {
+    fn try_clone(&self, alloc: Global) -> Result<Option<T>, NoMemory> {
+        match self {
+            None => Ok(None),
+            Some(value) => Ok(Some(value.try_clone(alloc)?)),
+        }
+    }
+
+    fn same(&self, other: &Option<T>) -> bool {
+        match (self, other) {
+            (None, None) => true,
+            (Some(value), Some(other)) => value.same(other),
+            _ => false,
+        }
+    }
+}
+
+/// Copies of four values, for structs of many fields.
+pub fn try_clone_four<A: PlainData + Drop, B: PlainData + Drop, C: PlainData + Drop, D: PlainData>(
+    alloc: Global,
+    first: &A,
+    second: &B,
+    third: &C,
+    fourth: &D,
+) -> Result<(A, B, C, D), NoMemory>
+    ensures { IfOk result (λ copies. (copies.0 ≡ first.now) × (copies.1 ≡ second.now)
+        × (copies.2 ≡ third.now) × (copies.3 ≡ fourth.now)) }
+{
+    Ok((
+        first.try_clone(alloc)?,
+        second.try_clone(alloc)?,
+        third.try_clone(alloc)?,
+        fourth.try_clone(alloc)?,
+    ))
+}
