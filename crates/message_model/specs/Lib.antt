@@ -1,0 +1,4 @@
+pub mod Markup
+pub mod Package
+pub mod UnitText
+pub mod Wire
