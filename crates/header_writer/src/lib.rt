@@ -1,0 +1,10 @@
+//! Writes message units as envelopes: one canonical text for each.
+#![tactic(auto)]
+
+mod envelope;
+mod markup;
+mod signal_text;
+mod user_text;
+mod written;
+
+pub use envelope::{write_envelope, write_signal_envelope, write_user_envelope};
