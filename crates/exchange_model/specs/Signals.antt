@@ -1,0 +1,15 @@
+-- The signals that answer messages (ebMS 3.0 Core, section 5.2.3; AS4 Profile, section 5.1.8).
+use Rattle.std.specs.Prelude.{◌≡◌, ℕ, Some}
+use Rattle.as4_values.specs.Stamp.{IsStampOf}
+use Rattle.as4_values.specs.Identifiers.{signal_id}
+use Rattle.as4_values.specs.declared.header.UserHeader.{UserHeader}
+use Rattle.as4_values.specs.declared.signal.Signal.{Signal}
+use Rattle.as4_values.specs.declared.signal_body.SignalBody.TheVariants as body
+
+-- the receipt of a user message, made at the moment `ms` with this nonce: it refers to the message and holds
+-- a copy of its header
+pub record IsReceiptOf (header : UserHeader) (ms nonce : ℕ) (signal : Signal) : Type 0 where
+  pub stamped : IsStampOf ms signal.stamp
+  pub named : signal.id ≡ signal_id nonce
+  pub refers : signal.ref_to ≡ Some header.id
+  pub copies : signal.body ≡ body.Receipt (Some header)
