@@ -1,0 +1,44 @@
+-- The message file of a plain message is read again.
+use Rattle.std.proofs.Common.{◌≡◌, ℕ, List, [], ◌∷◌, ◌++◌, Some, None, refl, ap, append_assoc, ◌∙◌}
+use Rattle.std.specs.Prelude.{codes}
+use Rattle.message_model.specs.Wire.{message_file}
+use Rattle.message_model.specs.Package.{crlf, package_media, hex_digits}
+use Rattle.as4_message.specs.PlainReading.{IsFreeOf}
+use Rattle.as4_message.specs.FileReading.{file_at}
+use Rattle.as4_message.proofs.ReadingLemmas.{behind_again, before_again, from_again, free_of}
+
+file_again : (media body : List ℕ) → IsFreeOf 13 media → file_at (message_file media body) ≡ Some (media, body)
+unfolding file_at
+file_again media body free =
+    let field = codes "Content-Type: " in
+    let rest = media ++ 13 ∷ 10 ∷ 13 ∷ 10 ∷ body in
+    let flat : message_file media body ≡ field ++ rest =
+    append_assoc (field ++ media ++ crlf) crlf body ∙ append_assoc (field ++ media) crlf (crlf ++ body) ∙ append_assoc field media (crlf ++ (crlf ++ body)) in
+    rw (
+      flat,
+      behind_again field rest,
+      before_again 13 media (10 ∷ 13 ∷ 10 ∷ body) free,
+      from_again 13 media (10 ∷ 13 ∷ 10 ∷ body) free,
+      behind_again (13 ∷ 10 ∷ 13 ∷ 10 ∷ []) body,
+    ) refl
+
+package_media_is_free : IsFreeOf 13 (package_media 0)
+unfolding package_media hex_digits
+package_media_is_free = free_of 13 (package_media 0) refl
+
+-- the file of a package is read again
+pub package_file_again : (body : List ℕ) → file_at (message_file (package_media 0) body) ≡ Some (package_media 0, body)
+package_file_again body = file_again (package_media 0) body package_media_is_free
+
+-- what isn't taken apart is no such file
+pub no_file : (file body : List ℕ) → None ≡ file_at file → file ≡ message_file (package_media 0) body → ⊥
+no_file file body none is =
+    let read = none ∙ ap file_at is ∙ package_file_again body in
+    cc
+
+-- and what is taken apart has the parts of the file
+pub parts_of_file : (file media whole body : List ℕ) → Some (media, whole) ≡ file_at file → file ≡ message_file (package_media 0) body → (media ≡ package_media 0) × (whole ≡ body)
+parts_of_file file media whole body some is =
+    let read = some ∙ ap file_at is ∙ package_file_again body in
+    let pair : (media, whole) ≡ (package_media 0, body) = cc in
+    (ap (λ (p : List ℕ × List ℕ). p.0) pair, ap (λ (p : List ℕ × List ℕ). p.1) pair)

@@ -1,0 +1,10 @@
+pub mod CanonicalLemmas
+pub mod CutLemmas
+pub mod FileLemmas
+pub mod MessageLemmas
+pub mod PackageLemmas
+pub mod PlainLemmas
+pub mod ReadingLemmas
+pub mod UnescapeLemmas
+pub mod ValueLemmas
+pub mod WireLemmas

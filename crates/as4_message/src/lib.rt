@@ -1,0 +1,20 @@
+//! Messages: from a media text and a body to a message, and back.
+#![tactic(auto)]
+
+mod message_file;
+mod plain_envelope;
+mod plain_package;
+mod plain_values;
+mod plain_wire;
+mod read;
+mod refusal;
+#[cfg(test)]
+mod tests;
+mod unescape;
+mod write;
+
+pub use message_file::{read_message_file, write_message_file, write_signal_file};
+pub use mime_package::Wire;
+pub use read::read_message;
+pub use refusal::MessageRefusal;
+pub use write::write_message;

@@ -1,0 +1,218 @@
+//! The values of a plain message, from its texts.
+
+ghost use Rattle.std.specs.Prelude.{◌≡◌, ◌++◌, ◌≤◌, List, ℕ, [], ◌∷◌, Some, IfOk, IfErr, MatchResult, codes, length};
+ghost use Rattle.as4_values.specs.Word.{IsWord};
+ghost use Rattle.as4_values.specs.declared.word.Word.TheVariants.{Identifier};
+ghost use Rattle.as4_values.specs.Texts.{IsPlainText};
+ghost use Rattle.as4_values.specs.Stamp.{IsStamp};
+ghost use Rattle.message_model.specs.Markup.{escaped};
+ghost use Rattle.as4_values.specs.declared.payload.Payload.{Payload as PayloadValue};
+ghost use Rattle.as4_message.specs.Raw.{raw_texts};
+ghost use Rattle.as4_message.specs.Pieces.{HoldsPieces};
+ghost use Rattle.as4_message.specs.Plain.{IsPlainHeader, ArePlainSides, IsPlainWork, side_of, service_of, part_of, header_of, with_id};
+
+use crate::plain_envelope::RawHeader;
+use crate::refusal::MessageRefusal;
+use crate::unescape::unescape;
+use as4_values::{
+    IdRefusal, MessageId, NoMemory, Octets, PartInfo, Party, Payload, Seq, Service, Side,
+    StampRefusal, StampText, Text, TextRefusal, UserHeader, Word, is_plain_text, read_stamp,
+};
+use std::alloc::Global;
+
+/// What a reference to a part of the package begins with (RFC 2392).
+const HREF_START: &[u8] = b"cid:";
+
+/// A plain text.
+fn text_of(alloc: Global, bytes: &[u8]) -> Result<Text, MessageRefusal>
+    ensures found { IfOk result (λ text. (text ≡ bytes.now) × IsPlainText bytes.now) }
+    ensures only { IsPlainText bytes.now → IfErr result (λ e. e ≡ MessageRefusal.NoMemory) }
+{
+    match Text::read(alloc, bytes) {
+        Ok(text) => Ok(text),
+        Err(TextRefusal::BadText { .. }) => Err(MessageRefusal::Unbuilt),
+        Err(TextRefusal::NoMemory) => Err(MessageRefusal::NoMemory),
+    }
+}
+
+fn stamp_of(alloc: Global, bytes: &[u8]) -> Result<StampText, MessageRefusal>
+    ensures found { IfOk result (λ stamp. (stamp ≡ bytes.now) × IsStamp bytes.now) }
+    ensures only { IsStamp bytes.now → IfErr result (λ e. e ≡ MessageRefusal.NoMemory) }
+{
+    match read_stamp(alloc, bytes) {
+        Ok(stamp) => Ok(stamp),
+        Err(StampRefusal::BadStamp { .. }) => Err(MessageRefusal::Unbuilt),
+        Err(StampRefusal::NoMemory) => Err(MessageRefusal::NoMemory),
+    }
+}
+
+/// The identifier whose escaped form these bytes are.
+fn id_of(alloc: Global, raw: &[u8]) -> Result<MessageId, MessageRefusal>
+    ensures found { IfOk result (λ id. (escaped id ≡ raw.now) × IsWord Identifier id) }
+    ensures only { (id : List ℕ) → escaped id ≡ raw.now → IsWord Identifier id
+        → MatchResult result (λ read. read ≡ id) (λ e. e ≡ MessageRefusal.NoMemory) }
+{
+    let Some(bytes) = unescape(alloc, raw)? else {
+        return Err(MessageRefusal::Unbuilt);
+    };
+    match MessageId::read(alloc, bytes.as_slice()) {
+        Ok(id) => Ok(id),
+        Err(IdRefusal::BadId { .. }) => Err(MessageRefusal::Unbuilt),
+        Err(IdRefusal::NoMemory) => Err(MessageRefusal::NoMemory),
+    }
+}
+
+/// A side of one party.
+fn side_of(alloc: Global, id: &[u8], role: &[u8]) -> Result<Side, MessageRefusal>
+    ensures found { IfOk result (λ side. (side ≡ side_of id.now role.now) × IsPlainText id.now × IsPlainText role.now) }
+    ensures only { IsPlainText id.now → IsPlainText role.now → IfErr result (λ e. e ≡ MessageRefusal.NoMemory) }
+{
+    let id = text_of(alloc, id)?;
+    let role = text_of(alloc, role)?;
+    let mut parties = Vec::with_capacity(alloc, 1)?;
+    parties.push(Party { id, kind: None })?;
+    Ok(Side {
+        parties: Seq::of(parties),
+        role,
+    })
+}
+
+/// The part info that refers to a Content-ID.
+#[tactic(auto, using(crate::proofs::ValueLemmas::href_is_text))]
+fn part_of(alloc: Global, cid: &[u8]) -> Result<PartInfo, MessageRefusal>
+    ensures found { IfOk result (λ part. (part ≡ part_of cid.now) × IsPlainText cid.now × IsWord Identifier cid.now) }
+    ensures only { IsPlainText cid.now → IsWord Identifier cid.now → IfErr result (λ e. e ≡ MessageRefusal.NoMemory) }
+{
+    if !is_plain_text(cid) || Word::Identifier.first_wrong(cid).is_some() {
+        return Err(MessageRefusal::Unbuilt);
+    }
+    let mut href = Vec::with_capacity(alloc, HREF_START.len() + cid.len())?;
+    href.extend_from_slice(HREF_START)?;
+    href.extend_from_slice(cid)?;
+    Ok(PartInfo {
+        href: Some(text_of(alloc, href.as_slice())?),
+        properties: Seq::of(Vec::new(alloc)),
+    })
+}
+
+/// The sender's side and the receiver's.
+fn sides_of(alloc: Global, raw: &RawHeader<'_>) -> Result<(Side, Side), MessageRefusal>
+    ensures found { IfOk result (λ sides. (sides.0 ≡ side_of raw.now.from.now raw.now.from_role.now)
+        × (sides.1 ≡ side_of raw.now.to.now raw.now.to_role.now) × ArePlainSides (raw_texts raw.now)) }
+    ensures only { ArePlainSides (raw_texts raw.now) → IfErr result (λ e. e ≡ MessageRefusal.NoMemory) }
+{
+    let from = side_of(alloc, raw.from, raw.from_role)?;
+    let to = side_of(alloc, raw.to, raw.to_role)?;
+    Ok((from, to))
+}
+
+/// The service, the action and the conversation.
+fn work_of(alloc: Global, raw: &RawHeader<'_>) -> Result<(Service, Text, Text), MessageRefusal>
+    ensures found { IfOk result (λ work. (work.0 ≡ service_of raw.now.service.now)
+        × (work.1 ≡ raw.now.action.now) × (work.2 ≡ raw.now.conversation.now) × IsPlainWork (raw_texts raw.now)) }
+    ensures only { IsPlainWork (raw_texts raw.now) → IfErr result (λ e. e ≡ MessageRefusal.NoMemory) }
+{
+    let value = text_of(alloc, raw.service)?;
+    let action = text_of(alloc, raw.action)?;
+    let conversation = text_of(alloc, raw.conversation)?;
+    Ok((Service { value, kind: None }, action, conversation))
+}
+
+/// The list of the one part info.
+fn parts_of(alloc: Global, cid: &[u8]) -> Result<Seq<PartInfo>, MessageRefusal>
+    ensures found { IfOk result (λ parts. (parts ≡ part_of cid.now ∷ []) × IsPlainText cid.now × IsWord Identifier cid.now) }
+    ensures only { IsPlainText cid.now → IsWord Identifier cid.now → IfErr result (λ e. e ≡ MessageRefusal.NoMemory) }
+{
+    let part = part_of(alloc, cid)?;
+    let mut parts = Vec::with_capacity(alloc, 1)?;
+    parts.push(part)?;
+    Ok(Seq::of(parts))
+}
+
+/// The header with this identifier and the other texts.
+fn header_with(
+    alloc: Global,
+    raw: &RawHeader<'_>,
+    id: MessageId,
+) -> Result<UserHeader, MessageRefusal>
+    requires { IsWord Identifier id }
+    ensures found { IfOk result (λ header.
+        (header ≡ header_of (with_id (raw_texts raw.now) id)) × IsPlainHeader (with_id (raw_texts raw.now) id)) }
+    ensures only { IsPlainHeader (with_id (raw_texts raw.now) id) → IfErr result (λ e. e ≡ MessageRefusal.NoMemory) }
+{
+    let stamp = stamp_of(alloc, raw.stamp)?;
+    let (from, to) = sides_of(alloc, raw)?;
+    let (service, action, conversation) = work_of(alloc, raw)?;
+    let parts = parts_of(alloc, raw.cid)?;
+    Ok(UserHeader {
+        mpc: None,
+        stamp,
+        id,
+        ref_to: None,
+        from,
+        to,
+        agreement: None,
+        service,
+        action,
+        conversation: Some(conversation),
+        properties: Seq::of(Vec::new(alloc)),
+        parts,
+    })
+}
+
+/// The header that these texts spell.
+pub fn header_of(alloc: Global, raw: &RawHeader<'_>) -> Result<UserHeader, MessageRefusal>
+    ensures found { IfOk result (λ header. (id : List ℕ) × (escaped id ≡ raw.now.id.now)
+        × (header ≡ header_of (with_id (raw_texts raw.now) id)) × IsPlainHeader (with_id (raw_texts raw.now) id)) }
+    ensures only { (id : List ℕ) → escaped id ≡ raw.now.id.now → IsPlainHeader (with_id (raw_texts raw.now) id)
+        → MatchResult result (λ header. header ≡ header_of (with_id (raw_texts raw.now) id)) (λ e. e ≡ MessageRefusal.NoMemory) }
+{
+    let id = id_of(alloc, raw.id)?;
+    header_with(alloc, raw, id)
+}
+
+/// The longest media text of a part, in bytes.
+const MAX_MEDIA: usize = 1024;
+
+/// The payload of these pieces; the content is copied once.
+#[tactic(auto, using(crate::proofs::ValueLemmas::plain_is_media))]
+fn payload_of(
+    alloc: Global,
+    cid: &[u8],
+    media: &[u8],
+    content: &[u8],
+) -> Result<Payload, MessageRefusal>
+    ensures found { IfOk result (λ payload. HoldsPieces payload cid.now media.now content.now) }
+    ensures only { IsWord Identifier cid.now → IsPlainText media.now → length media.now ≤ MAX_MEDIA
+        → IfErr result (λ e. e ≡ MessageRefusal.NoMemory) }
+{
+    if Word::Identifier.first_wrong(cid).is_some()
+        || !is_plain_text(media)
+        || media.len() > MAX_MEDIA
+    {
+        return Err(MessageRefusal::Unbuilt);
+    }
+    Ok(Payload {
+        cid: Octets::of(Vec::from_slice(alloc, cid)?),
+        media: Octets::of(Vec::from_slice(alloc, media)?),
+        content: Octets::of(Vec::from_slice(alloc, content)?),
+    })
+}
+
+/// The list of the one payload.
+pub fn payloads_of(
+    alloc: Global,
+    cid: &[u8],
+    media: &[u8],
+    content: &[u8],
+) -> Result<Seq<Payload>, MessageRefusal>
+    ensures found { IfOk result (λ payloads. (payload : PayloadValue) × (payloads ≡ payload ∷ [])
+        × HoldsPieces payload cid.now media.now content.now) }
+    ensures only { IsWord Identifier cid.now → IsPlainText media.now → length media.now ≤ MAX_MEDIA
+        → IfErr result (λ e. e ≡ MessageRefusal.NoMemory) }
+{
+    let payload = payload_of(alloc, cid, media, content)?;
+    let mut payloads = Vec::with_capacity(alloc, 1)?;
+    payloads.push(payload)?;
+    Ok(Seq::of(payloads))
+}
