@@ -1,0 +1,46 @@
+//! The program `as4`: the words behind its name and the system's streams, given to `as4_tool`.
+//! `as4 --help` shows the words.
+#![tactic(auto)]
+
+use as4_flow::{ReaderSource, Sink, WriterSink, send_all};
+use as4_tool::{Status, run};
+use as4_values::{Octets, Seq};
+use std::env;
+use std::env::Env;
+use std::io::ErrorKind;
+use std::process::ExitCode;
+
+fn main(rt: HostRuntime) -> ExitCode {
+    let mut errors = WriterSink::of(rt.stderr());
+    let words = match words_of(&rt) {
+        Ok(words) => words,
+        Err(status) => return refused(&mut errors, status),
+    };
+    let Ok(mut input) = ReaderSource::of(rt.alloc(), rt.stdin()) else {
+        return refused(&mut errors, Status::NoMemory);
+    };
+    let mut output = WriterSink::of(rt.stdout());
+    ExitCode::from(run(rt.alloc(), &words, &mut input, &mut output, &mut errors))
+}
+
+// The words behind the program's name. One that isn't UTF-8 makes them bad words.
+fn words_of<R: Env + AllocGlobal>(rt: &R) -> Result<Seq<Octets>, Status> {
+    let args = match env::args(rt) {
+        Ok(args) => args,
+        Err(e) if e.kind() == ErrorKind::OutOfMemory => return Err(Status::NoMemory),
+        Err(_) => return Err(Status::BadWords),
+    };
+    let mut words = Vec::new(rt.alloc());
+    for word in args.skip(1) {
+        if words.push(Octets::of(word.into_bytes())).is_err() {
+            return Err(Status::NoMemory);
+        }
+    }
+    Ok(Seq::of(words))
+}
+
+// Tells what came before the run.
+fn refused<E: Sink>(errors: &mut E, status: Status) -> ExitCode {
+    let _ = send_all(errors, status.lines());
+    ExitCode::from(status.code())
+}

@@ -1,0 +1,20 @@
+-- The words of the program.
+use Rattle.std.specs.Prelude.{◌≡◌, ℕ, ◌^◌, ◌<◌, ◌≤◌, List, [], ◌∷◌, codes, decimal}
+use Rattle.as4_tool.specs.declared.command.TheConstants.{LAST_STAMP}
+use Rattle.as4_tool.specs.declared.command.Command.{Command}
+use Rattle.as4_tool.specs.declared.command.Command.TheVariants.{Help, Version, Answer}
+
+-- these words, each a list of bytes, spell the command
+abbrev pub Spells : List (List ℕ) → Command → Type 0
+Spells words Help = words ≡ codes "--help" ∷ []
+Spells words Version = words ≡ codes "--version" ∷ []
+Spells words (Answer stamp nonce) =
+    (words ≡ codes "answer" ∷ decimal stamp ∷ decimal nonce ∷ []) × (stamp ≤ LAST_STAMP) × (nonce < 2 ^ 128)
+
+-- these words spell some command
+abbrev pub IsCommand : List (List ℕ) → Type 0
+IsCommand words = (command : Command) × Spells words command
+
+-- these words ask for an answer
+abbrev pub AsksAnswer : List (List ℕ) → Type 0
+AsksAnswer words = (stamp : ℕ) × (nonce : ℕ) × Spells words (Answer stamp nonce)

@@ -1,0 +1,98 @@
+//! The words of the program.
+//!
+//!     --help                 shows the words
+//!     --version              shows the version
+//!     answer STAMP NONCE     reads a request and writes the answer
+ghost use Rattle.std.specs.Prelude.{◌≡◌, ℕ, List, [], ◌∷◌, ◌<◌, ◌^◌, codes, IfSome, IfNone};
+ghost use Rattle.std.specs.Fmt.{decimal};
+
+use as4_values::{Octets, Seq};
+use itoa::Buffer;
+use std::str;
+
+/// The last moment of the clock, 9999-12-31T23:59:59.999Z, in milliseconds since 1970-01-01T00:00:00Z.
+pub const LAST_STAMP: u64 = 253_402_300_799_999;
+
+/// What the words ask for.
+#[derive(Clone, Copy, Debug, PartialEq, Eq)]
+pub enum Command {
+    Help,
+    Version,
+    Answer {
+        /// The moment of the answer, in milliseconds since 1970-01-01T00:00:00Z.
+        stamp: u64,
+        /// What makes the answer's identifiers unlike all others.
+        nonce: u128,
+    },
+}
+
+ghost use Rattle.as4_tool.specs.Command.{Spells, IsCommand};
+
+/// Reads the words behind the program's name.
+pub fn command_of(words: &Seq<Octets>) -> Option<Command>
+    ensures found { IfSome result (λ command. Spells words.now command) }
+    ensures only { (command : Command) → Spells words.now command → result ≡ Some command }
+    ensures none { IfNone result (¬ IsCommand words.now) }
+{
+    match words.items() {
+        [word] => lone_command_of(word.bytes()),
+        [word, stamp, nonce] if word.bytes() == b"answer".as_slice() => {
+            answer_of(stamp.bytes(), nonce.bytes())
+        }
+        _ => None,
+    }
+}
+
+/// No words spell two commands.
+pub fn one_spelling()
+    ensures { (words : List (List ℕ)) (one other : Command) → Spells words one → Spells words other → one ≡ other }
+{}
+
+// Reads a command of one word.
+fn lone_command_of(word: &[u8]) -> Option<Command>
+    ensures found { IfSome result (Spells (word.now ∷ [])) }
+    ensures only { (command : Command) → Spells (word.now ∷ []) command → result ≡ Some command }
+{
+    if word == b"--help".as_slice() {
+        return Some(Command::Help);
+    }
+    if word == b"--version".as_slice() {
+        return Some(Command::Version);
+    }
+    None
+}
+
+// Reads the two words behind `answer`.
+fn answer_of(stamp: &[u8], nonce: &[u8]) -> Option<Command>
+    ensures found { IfSome result (Spells (codes "answer" ∷ stamp.now ∷ nonce.now ∷ [])) }
+    ensures only { (command : Command) → Spells (codes "answer" ∷ stamp.now ∷ nonce.now ∷ []) command → result ≡ Some command }
+{
+    let stamp = number_of(stamp)?;
+    let nonce = number_of(nonce)?;
+    if stamp > u128::from(LAST_STAMP) {
+        return None;
+    }
+    Some(Command::Answer {
+        stamp: stamp as u64,
+        nonce,
+    })
+}
+
+// Reads a decimal number without sign and without leading zeros: one that is printed as this word.
+fn number_of(word: &[u8]) -> Option<u128>
+    ensures found { IfSome result (λ number. word.now ≡ decimal number) }
+    ensures range { IfSome result (λ number. number < 2 ^ 128) }
+    ensures only { (number : ℕ) → number < 2 ^ 128 → word.now ≡ decimal number → result ≡ Some number }
+{
+    let Ok(text) = str::from_utf8(word) else {
+        return None;
+    };
+    let Ok(number) = text.parse::<u128>() else {
+        return None;
+    };
+    let mut buffer = Buffer::new();
+    if buffer.format(number).as_bytes() != word {
+        return None;
+    }
+    Some(number)
+}
