@@ -7,7 +7,7 @@ use crate::{Got, Source};
 use std::alloc::{AllocError, Global};
 
 /// The most bytes that one read asks for.
-const PIECE: usize = 1 << 18;
+const PIECE: usize = 1 << 16;
 
 /// The least that the buffer grows by, in bytes.
 const LEAST_STEP: usize = 1 << 20;

@@ -13,7 +13,7 @@ use std::io::{ErrorKind, Read, Write};
 const TRIES: u32 = 1_000;
 
 /// The most bytes that one read asks for.
-const MOST: usize = 1 << 18;
+const MOST: usize = 1 << 16;
 
 /// Any reader of std as a source, as standard input or a socket. A read that gives nothing is its end.
 #[derive(Drop)]
@@ -28,7 +28,7 @@ pub struct ReaderSource<R: Read + Drop> {
 impl<R: Read + Drop> ReaderSource<R> {
     ghost use Rattle.as4_flow.specs.Streams.{reader_of, read_faults};
 
-    /// The only memory that it takes is this one's: 256 KiB.
+    /// The only memory that it takes is this one's: 64 KiB.
     pub fn of(alloc: Global, reader: R) -> Result<ReaderSource<R>, AllocError>
         ensures reader { IfOk result (λ source. reader_of source ≡ reader) }
         ensures faults { IfOk result (λ source. read_faults source ≡ 0) }

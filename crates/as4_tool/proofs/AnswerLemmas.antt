@@ -1,5 +1,5 @@
 -- A source read to its end.
-use Rattle.std.proofs.Common.{◌≡◌, ℕ, List, [], Option, Result, Ok, Err, IfOk, IsErrOf, MatchResult, subst, sym, ◌∙◌}
+use Rattle.std.proofs.Common.{◌≡◌, ℕ, List, [], Option, Result, Ok, Err, IfOk, IsErrOf, MatchResult, subst, sym}
 use Rattle.as4_message.specs.declared.refusal.MessageRefusal.{MessageRefusal}
 use Rattle.as4_message.specs.declared.refusal.MessageRefusal.TheVariants as refusal
 use Rattle.as4_flow.specs.Told.{Told, before}

@@ -1,7 +1,5 @@
-use Rattle.std.proofs.Common.{◌≡◌, ℕ, ◌≤◌, List, length, Err, inl, ap, sym}
+use Rattle.std.proofs.Common.{◌≤◌, length, Err, inl, ap, sym}
 use Rattle.as4_tool.specs.Answer.{IsAnswer, IsOther}
-use Rattle.as4_tool.specs.Ends.{Writes}
-use Rattle.as4_tool.specs.Status.{code_of}
 use Rattle.as4_tool.specs.declared.running.TheConstants.{LIMIT}
 use Rattle.as4_tool.proofs.AnswerLemmas.{told_whole}
 use Rattle.as4_tool.proofs.running.answer.Goals as goal

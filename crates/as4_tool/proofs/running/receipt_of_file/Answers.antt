@@ -1,4 +1,4 @@
-use Rattle.std.proofs.Common.{◌≡◌, ap, [], ◌∷◌, ◌∙◌}
+use Rattle.std.proofs.Common.{ap, [], ◌∷◌, ◌∙◌}
 use Rattle.message_model.specs.Wire.{file_of}
 use Rattle.as4_message.specs.Plain.{header_of}
 use Rattle.as4_tool.proofs.AnswerLemmas.{ok_of, never_unbuilt}
