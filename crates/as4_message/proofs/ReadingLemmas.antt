@@ -1,9 +1,10 @@
 -- What is read is spelled so, and what is spelled so is read.
-use Rattle.std.proofs.Common.{◌≡◌, ◌≢◌, ℕ, ◌<◌, Bool, true, false, List, [], ◌∷◌, ◌++◌, Some, length, drop, arith, refl, ◌∙◌, append_assoc, append-nil, nat_eq, eq-eqb, inl, inr, length-append, length-take}
-use Rattle.std.specs.Prelude.{slice_index, codes, ◌==◌, if◌then◌else◌, zero, suc}
+use Rattle.std.proofs.Common.{◌≡◌, ◌≢◌, ℕ, ◌<◌, Bool, true, false, List, [], ◌∷◌, ◌++◌, Option, None, Some, length, drop, arith, refl, sym, ◌∙◌, append_assoc, append-nil, nat_eq, eq-eqb, inl, inr, length-append, length-take}
+use Rattle.std.specs.Prelude.{slice_index, codes, ◌==◌, if◌then◌else◌, zero, suc, unwrap_or}
+use Rattle.memchr.specs.Find.{IsFirstByte, is_byte}
 use Rattle.std.proofs.lemmas.Bool.Decides.{eqb_tells, Decides-eqb}
 use Rattle.std.proofs.lemmas.Slice.Eq.{starts_is}
-use Rattle.std.proofs.lemmas.Bool.{eqb-false, eqb-true}
+use Rattle.std.proofs.lemmas.Bool.{eqb-false, eqb-true, false_from_ne_true}
 use Rattle.std.specs.List.{position_or_len, starts_with}
 use Rattle.std.proofs.lemmas.List.{take_at, drop_at, get_or_append_left, get_or_at, get_or-take, take-append-drop}
 use Rattle.std.proofs.lemmas.List.Sums.{position_or_len_is, fails_before_first}
@@ -21,6 +22,15 @@ unfolding behind
 behind_again front rest =
     let begins : starts_with nat_eq (front ++ rest) front ≡ true = (starts_is Decides-eqb (front ++ rest) front (starts_with nat_eq (front ++ rest) front) refl).1 rest refl in
     rw (begins, drop_at front rest (length front) refl) refl
+
+-- the first place of a byte, or the length where it has none
+pub place_is : (stop : ℕ) (bytes : List ℕ) (place : Option ℕ) → IsFirstByte (is_byte stop) bytes place → unwrap_or place (length bytes) ≡ position_or_len (λ b. b == stop) bytes
+place_is stop bytes None nowhere =
+    sym (position_or_len_is (λ (b : ℕ). b == stop) bytes (length bytes) 0 (omega arith)
+    (λ k below. false_from_ne_true _ (nowhere k (omega arith) below)) (λ within. absurd (omega arith)))
+place_is stop bytes (Some at) first =
+    sym (position_or_len_is (λ (b : ℕ). b == stop) bytes at 0 (omega arith)
+    (λ k below. false_from_ne_true _ (first.0.before k (omega arith) below)) (λ within. first.1))
 
 -- the same as a test that computes
 abbrev pub is_free_of : ℕ → List ℕ → Bool

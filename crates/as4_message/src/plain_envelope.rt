@@ -8,6 +8,8 @@ ghost use Rattle.message_model.specs.UnitText.{envelope_start, envelope_end, env
 ghost use Rattle.as4_message.specs.Raw.{raw_texts};
 ghost use Rattle.as4_message.specs.PlainReading.{behind, before_byte, from_byte, text_at, start_at, end_at, pair_at, parties_at, collaboration_at, part_at, user_message_at, envelope_at, raw_pair, raw_parties, raw_collaboration, raw_part, raw_message};
 
+use memchr::memchr;
+
 /// What stands behind these bytes.
 #[tactic(auto, using(crate::proofs::ReadingLemmas::behind_found), unfolding(crate::specs::PlainReading::behind))]
 pub fn behind<'a>(front: &[u8], bytes: &'a [u8]) -> Option<&'a [u8]>
@@ -23,17 +25,12 @@ pub fn behind<'a>(front: &[u8], bytes: &'a [u8]) -> Option<&'a [u8]>
 }
 
 /// The place of the first byte that is `stop`, or the length where there is none.
-#[tactic(auto, using(std::proofs::lemmas::List::Sums::position_or_len_is))]
+#[tactic(auto, using(crate::proofs::ReadingLemmas::place_is))]
 fn place_of(stop: u8, bytes: &[u8]) -> usize
     ensures value { result ≡ position_or_len (λ byte. byte == stop) bytes.now }
     ensures within { result ≤ length bytes.now }
 {
-    for (at, byte) in bytes.iter().enumerate() {
-        if *byte == stop {
-            return at;
-        }
-    }
-    bytes.len()
+    memchr(stop, bytes).unwrap_or(bytes.len())
 }
 
 /// The bytes before the first one that is `stop`, and those from it on.
