@@ -1,5 +1,11 @@
+pub mod AddressLemmas
+pub mod FormLemmas
 pub mod IdentifierLemmas
-pub mod ReadStampLemmas
+pub mod MatchLemmas
+pub mod ModeLemmas
+pub mod MomentLemmas
+pub mod MomentTextLemmas
 pub mod SignalLemmas
 pub mod StampLemmas
 pub mod TextLemmas
+pub mod XmlLemmas

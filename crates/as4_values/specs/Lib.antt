@@ -1,7 +1,16 @@
+pub mod Address
 pub mod Counts
 pub mod Identifiers
+pub mod ModeFields
+pub mod ModeMatch
+pub mod ModeRanges
+pub mod Moment
 pub mod Payload
+pub mod PlainTexts
 pub mod SignalParts
 pub mod Stamp
+pub mod StampParts
 pub mod Texts
 pub mod Word
+pub mod XmlBytes
+pub mod formers

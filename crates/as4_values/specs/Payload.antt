@@ -1,5 +1,5 @@
 -- What names and types a part of a package.
-use Rattle.std.specs.Prelude.{◌≡◌, ℕ, ◌-◌, ◌<◌, ◌≤◌, List, Bool, false, not, ◌&&◌, ◌||◌, ◌==◌, IsTrue, length, slice_index}
+use Rattle.std.specs.Prelude.{◌≡◌, ℕ, ◌-◌, ◌<◌, ◌≤◌, List, Bool, false, not, ◌||◌, ◌==◌, IsTrue, length, slice_index}
 use Rattle.std.specs.List.{AllWithin}
 use Rattle.as4_values.specs.Word.{IsWord}
 use Rattle.as4_values.specs.declared.word.Word.TheVariants.{Identifier}

@@ -1,5 +1,5 @@
--- Texts of a header, and the plain ones among them.
-use Rattle.std.specs.Prelude.{◌≡◌, ℕ, ◌+◌, ◌-◌, ◌<◌, ◌≤◌, ◌⊎◌, List, [], Bool, false, not, ◌&&◌, ◌||◌, ◌==◌, nat_le, IsTrue, length, slice_index, encode_utf8_all}
+-- Texts of a header.
+use Rattle.std.specs.Prelude.{◌≡◌, ◌≢◌, ℕ, ◌+◌, ◌-◌, ◌<◌, ◌≤◌, ◌⊎◌, List, ◌++◌, Bool, false, ◌&&◌, ◌||◌, ◌==◌, nat_le, IsTrue, length, take, drop, slice_index, encode_utf8, encode_utf8_all}
 use Rattle.std.specs.List.{AllWithin}
 
 -- how many bytes a text has at most
@@ -16,38 +16,49 @@ is_xml_char c =
     (c == 9) || (c == 10) || (c == 13) || (nat_le 0x20 c && nat_le c 0xD7FF)
     || (nat_le 0xE000 c && nat_le c 0xFFFD) || (nat_le 0x10000 c && nat_le c 0x10FFFF)
 
--- some characters of XML, in UTF-8, without a blank at either end
-pub record IsText (bytes : List ℕ) : Type 0 where
+-- characters of XML, in UTF-8
+abbrev pub IsXml : List ℕ → Type 0
+IsXml bytes =
+    (chars : List ℕ) × AllWithin (λ c. IsTrue (is_xml_char c)) chars 0 (length chars)
+    × (encode_utf8_all chars ≡ bytes)
+
+-- nothing but blanks
+abbrev pub IsBlank : List ℕ → Type 0
+IsBlank bytes = AllWithin (λ b. IsTrue (is_blank b)) bytes 0 (length bytes)
+
+-- something that neither begins nor ends with a blank
+pub record IsTrimmed (bytes : List ℕ) : Type 0 where
   pub some : 0 < length bytes
-  pub limited : length bytes ≤ text_limit
-  pub spelled : (chars : List ℕ) × AllWithin (λ c. IsTrue (is_xml_char c)) chars 0 (length chars)
-      × (encode_utf8_all chars ≡ bytes)
   pub first : is_blank (slice_index bytes 0) ≡ false
   pub last : is_blank (slice_index bytes (length bytes - 1)) ≡ false
 
--- printable ASCII but for what is escaped in XML or in a URL: `"`, `%`, `&`, `<` and `>`
-abbrev pub is_plain : ℕ → Bool
-is_plain b =
-    nat_le 32 b && nat_le b 126
-    && not ((b == 34) || (b == 37) || (b == 38) || (b == 60) || (b == 62))
-
--- the byte at a place of a plain text: at both ends no space
-abbrev pub allows_at : List ℕ → ℕ → Bool
-allows_at bytes at =
-    is_plain (slice_index bytes at)
-    && not ((slice_index bytes at == 32) && ((at == 0) || (at + 1 == length bytes)))
-
--- a text that stands in a document and in a URL as it is
-pub record IsPlainText (bytes : List ℕ) : Type 0 where
-  pub some : 0 < length bytes
+-- the value of a text: characters of XML, no more than the limit, without a blank at either end
+pub record IsText (bytes : List ℕ) : Type 0 where
+  pub trimmed : IsTrimmed bytes
   pub limited : length bytes ≤ text_limit
-  pub each : (k : ℕ) → k < length bytes → IsTrue (allows_at bytes k)
+  pub spelled : IsXml bytes
 
--- the bytes stop being a plain text at this place: there is no byte at all, or the first byte that isn't
--- allowed, or the first one past the limit
-abbrev pub PlainGoesWrong : List ℕ → ℕ → Type 0
-PlainGoesWrong bytes at =
-    ((k : ℕ) → k < at → IsTrue (allows_at bytes k))
-    × (((bytes ≡ []) × (at ≡ 0))
-    ⊎ ((at < length bytes) × (at < text_limit) × (allows_at bytes at ≡ false))
-    ⊎ ((at < length bytes) × (at ≡ text_limit)))
+-- `core` is what the bytes have between the blanks at both ends, `at` where it begins
+abbrev pub HasCore : List ℕ → List ℕ → ℕ → Type 0
+HasCore bytes core at =
+    (front back : List ℕ) × IsBlank front × IsBlank back × IsTrimmed core
+    × (bytes ≡ front ++ core ++ back) × (at ≡ length front)
+
+-- the bytes are read as this text
+abbrev pub Spells : List ℕ → List ℕ → Type 0
+Spells bytes text = IsText text × ((at : ℕ) × HasCore bytes text at)
+
+-- at this place no character of XML begins, though all bytes before it are such characters
+pub record IsNoXmlFrom (bytes : List ℕ) (at : ℕ) : Type 0 where
+  pub short : at < length bytes
+  pub front : IsXml (take at bytes)
+  pub none : (c : ℕ) (rest : List ℕ) → IsTrue (is_xml_char c) → drop at bytes ≢ encode_utf8 c ++ rest
+
+-- the bytes are no text, for what stands at this place: no character of XML, wherever it comes; else the
+-- first byte past the limit; else, where there are only blanks, the end
+abbrev pub TextGoesWrong : List ℕ → ℕ → Type 0
+TextGoesWrong bytes at =
+    IsNoXmlFrom bytes at
+    ⊎ (IsXml bytes × ((core : List ℕ) × (start : ℕ) × HasCore bytes core start
+    × (text_limit < length core) × (at ≡ start + text_limit)))
+    ⊎ (IsBlank bytes × (at ≡ length bytes))

@@ -1,32 +1,44 @@
 //! The values of AS4 messages: lists of bytes, identifiers, texts, stamps, headers, payloads and signals.
 #![tactic(auto)]
 
+mod address;
 mod code;
 mod header;
 mod lists;
 mod memory;
 mod message;
 mod message_id;
+mod mode;
+mod moment;
 mod payload;
 mod plain_data;
+mod plain_text;
+mod route;
 mod signal;
 mod signal_body;
 mod stamp;
+mod stamp_form;
 #[cfg(test)]
 mod tests;
 mod text;
 mod word;
+mod xml;
 
+pub use address::{MAX_ADDRESS, has_address_form, is_address};
 pub use code::Code;
 pub use header::{Agreement, PartInfo, Party, Property, Service, Side, UserHeader};
 pub use lists::{Octets, Seq};
 pub use memory::NoMemory;
 pub use message::{Message, Unit};
 pub use message_id::{MessageId, submission_ids_differ};
+pub use mode::Mode;
+pub use moment::{MAX_MOMENT, is_moment_stamp, one_stamp, stamp_text};
 pub use payload::{Load, Payload};
 pub use plain_data::PlainData;
+pub use plain_text::is_plain_text;
+pub use route::Route;
 pub use signal::Signal;
 pub use signal_body::{ErrorItem, Severity, SignalBody};
-pub use stamp::{MAX_MOMENT, StampRefusal, StampText, one_stamp, read_stamp, stamp_text};
-pub use text::{Text, TextRefusal, is_plain_text};
+pub use stamp::{StampRefusal, StampText, read_stamp};
+pub use text::{Text, TextRefusal, one_text};
 pub use word::{IdRefusal, Word};

@@ -1,9 +1,11 @@
-ghost use Rattle.std.specs.Prelude.{◌≡◌, ℕ, ◌<◌, ◌↔◌, List, IsNone, IfSome, IfOk, IfErr, IsTrue, length};
-ghost use Rattle.as4_values.specs.Texts.{IsText, IsPlainText, PlainGoesWrong, allows_at, is_plain};
+ghost use Rattle.std.specs.Prelude.{◌≡◌, ℕ, ◌-◌, ◌<◌, ◌≤◌, ◌↔◌, List, false, IfOk, IfErr, IsTrue, length, slice_index};
+ghost use Rattle.std.specs.List.{AllWithin};
+ghost use Rattle.as4_values.specs.Texts.{IsText, Spells, TextGoesWrong, is_blank};
 
 use crate::lists::Octets;
 use crate::memory::NoMemory;
 use crate::plain_data::PlainData;
+use crate::xml::{first_not_xml, is_blank};
 use std::alloc::Global;
 use std::marker::Model;
 
@@ -17,11 +19,12 @@ pub struct Text {
     octets: Octets,
 }
 
-/// Why bytes are no text that is read.
+/// Why bytes are read as no text.
 #[derive(Clone, Copy, Debug, PartialEq, Eq)]
 pub enum TextRefusal {
-    /// The first byte that a plain text doesn't have; 65,536 where all bytes before it are allowed and more
-    /// follow; 0 where there are no bytes.
+    /// The first byte of all that belongs to no character that XML allows; of a broken sequence, its first.
+    /// Where there is none, the 65,537th byte from the first that is no blank on; where there are only
+    /// blanks, or nothing, how many bytes there are.
     BadText { at: usize },
     /// Memory ran out.
     NoMemory,
@@ -36,21 +39,20 @@ impl Model for Text {
 }
 
 impl Text {
-    /// Reads a plain text: all of the bytes, as they stand. Texts that aren't plain are refused for now.
-    #[tactic(auto, using(crate::proofs::TextLemmas::plain_is_text))]
+    /// Reads a text: what stands between the blanks at both ends (XML 1.0, section 2.3).
     pub fn read(alloc: Global, bytes: &[u8]) -> Result<Text, TextRefusal>
-        ensures found { IfOk result (λ text. (text ≡ bytes.now) × IsPlainText bytes.now) }
-        ensures only { IsPlainText bytes.now → IfErr result (λ e. e ≡ TextRefusal.NoMemory) }
-        ensures bad_text { (at : ℕ) → (result ≡ Err (TextRefusal.BadText at)) ↔ PlainGoesWrong bytes.now at }
+        ensures found { IfOk result (λ text. Spells bytes.now text) }
+        ensures only { (text : List ℕ) → Spells bytes.now text → IfErr result (λ e. e ≡ TextRefusal.NoMemory) }
+        ensures bad_text { (at : ℕ) → (result ≡ Err (TextRefusal.BadText at)) ↔ TextGoesWrong bytes.now at }
     {
-        if let Some(at) = first_not_plain(bytes) {
-            return Err(TextRefusal::BadText { at });
-        }
-        match Vec::from_slice(alloc, bytes) {
-            Ok(items) => Ok(Text {
-                octets: Octets::of(items),
-            }),
-            Err(_) => Err(TextRefusal::NoMemory),
+        match text_in(bytes) {
+            Err(at) => Err(TextRefusal::BadText { at }),
+            Ok(text) => match Vec::from_slice(alloc, text) {
+                Ok(items) => Ok(Text {
+                    octets: Octets::of(items),
+                }),
+                Err(_) => Err(TextRefusal::NoMemory),
+            },
         }
     }
 
@@ -74,41 +76,52 @@ impl PlainData for Text {
     }
 }
 
-/// Whether a plain text may have this byte.
-pub fn is_plain(byte: u8) -> bool
-    ensures { result ≡ is_plain byte }
-{
-    (32..=126).contains(&byte) && !matches!(byte, b'"' | b'%' | b'&' | b'<' | b'>')
-}
+/// No bytes are read as two texts.
+pub fn one_text()
+    ensures { (bytes a b : List ℕ) → Spells bytes a → Spells bytes b → a ≡ b }
+{}
 
-fn allows_at(bytes: &[u8], at: usize) -> bool
-    requires { at < length bytes.now }
-    ensures { result ≡ allows_at bytes.now at }
+/// The text that the bytes are read as, or the place for which they are none.
+fn text_in(bytes: &[u8]) -> Result<&[u8], usize>
+    ensures found { IfOk result (λ text. Spells bytes.now text.now) }
+    ensures wrong { IfErr result (TextGoesWrong bytes.now) }
 {
-    let byte = bytes[at];
-    is_plain(byte) && !(byte == b' ' && (at == 0 || at + 1 == bytes.len()))
-}
-
-/// Where the bytes stop being a plain text, and nothing where they are one.
-fn first_not_plain(bytes: &[u8]) -> Option<usize>
-    ensures none { IsNone result ↔ IsPlainText bytes.now }
-    ensures wrong { IfSome result (PlainGoesWrong bytes.now) }
-    ensures only { (at : ℕ) → PlainGoesWrong bytes.now at → result ≡ Some at }
-{
-    if bytes.is_empty() {
-        return Some(0);
+    if let Some(at) = first_not_xml(bytes) {
+        return Err(at);
     }
-    for at in 0..bytes.len() {
-        if at == MAX_TEXT || !allows_at(bytes, at) {
-            return Some(at);
+    let (start, end) = (blanks_at_start(bytes), end_without_blanks(bytes));
+    if end <= start {
+        return Err(bytes.len());
+    }
+    if end - start > MAX_TEXT {
+        return Err(start + MAX_TEXT);
+    }
+    Ok(&bytes[start..end])
+}
+
+/// How many blanks stand at the front.
+fn blanks_at_start(bytes: &[u8]) -> usize
+    ensures within { result ≤ length bytes.now }
+    ensures blank { AllWithin (λ b. IsTrue (is_blank b)) bytes.now 0 result }
+    ensures next { result < length bytes.now → is_blank (slice_index bytes.now result) ≡ false }
+{
+    for (at, byte) in bytes.iter().enumerate() {
+        if !is_blank(*byte) {
+            return at;
         }
     }
-    None
+    bytes.len()
 }
 
-/// Whether the bytes are a plain text.
-pub fn is_plain_text(bytes: &[u8]) -> bool
-    ensures { IsTrue result ↔ IsPlainText bytes.now }
+/// How many bytes there are without the blanks behind.
+fn end_without_blanks(bytes: &[u8]) -> usize
+    ensures within { result ≤ length bytes.now }
+    ensures blank { AllWithin (λ b. IsTrue (is_blank b)) bytes.now result (length bytes.now) }
+    ensures last { 0 < result → is_blank (slice_index bytes.now (result - 1)) ≡ false }
 {
-    first_not_plain(bytes).is_none()
+    let mut end = bytes.len();
+    while end > 0 && is_blank(bytes[end - 1]) {
+        end -= 1;
+    }
+    end
 }

@@ -1,1 +1,2 @@
+pub mod ErrorCodes
 pub mod Signals

@@ -1,10 +1,11 @@
 -- The signals that answer messages (ebMS 3.0 Core, section 5.2.3; AS4 Profile, section 5.1.8).
-use Rattle.std.specs.Prelude.{◌≡◌, ℕ, Some}
-use Rattle.as4_values.specs.Stamp.{IsStampOf}
+use Rattle.std.specs.Prelude.{◌≡◌, ℕ, List, [], ◌∷◌, Option, Some, option_map}
+use Rattle.as4_values.specs.Moment.{IsStampOf}
 use Rattle.as4_values.specs.Identifiers.{signal_id}
 use Rattle.as4_values.specs.declared.header.UserHeader.{UserHeader}
 use Rattle.as4_values.specs.declared.signal.Signal.{Signal}
 use Rattle.as4_values.specs.declared.signal_body.SignalBody.TheVariants as body
+use Rattle.exchange_model.specs.ErrorCodes.{ErrorRow, error_row, error_item}
 
 -- the receipt of a user message, made at the moment `ms` with this nonce: it refers to the message and holds
 -- a copy of its header
@@ -13,3 +14,11 @@ pub record IsReceiptOf (header : UserHeader) (ms nonce : ℕ) (signal : Signal) 
   pub named : signal.id ≡ signal_id nonce
   pub refers : signal.ref_to ≡ Some header.id
   pub copies : signal.body ≡ body.Receipt (Some header)
+
+-- the error signal with the error of this code, made at the moment `ms` with this nonce: it refers to the
+-- message that the error is about, where that is known (ebMS 3.0 Core, section 6.2)
+pub record IsErrorSignalOf (code : ℕ) (about : Option (List ℕ)) (ms nonce : ℕ) (signal : Signal) : Type 0 where
+  pub stamped : IsStampOf ms signal.stamp
+  pub named : signal.id ≡ signal_id nonce
+  pub refers : signal.ref_to ≡ about
+  pub tells : option_map (λ row. body.Errors (error_item row about ∷ [])) (error_row code) ≡ Some signal.body

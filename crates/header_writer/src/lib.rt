@@ -2,9 +2,11 @@
 #![tactic(auto)]
 
 mod envelope;
-mod markup;
 mod signal_text;
+#[cfg(test)]
+mod tests;
 mod user_text;
+mod values;
 mod written;
 
 pub use envelope::{write_envelope, write_signal_envelope, write_user_envelope};

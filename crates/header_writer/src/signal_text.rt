@@ -3,12 +3,13 @@
 ghost use Rattle.std.specs.Prelude.{◌≡◌, ◌++◌, OnOk};
 ghost use Rattle.message_model.specs.UnitText.{severity_text, error_start, error_text, pull_text, receipt_text, body_text, signal_message};
 
-use crate::markup::{
-    id_bytes, push_attribute, push_end_tag, push_optional_attribute, push_optional_element,
-    push_tag_end, push_tag_start, text_bytes,
-};
 use crate::user_text::push_message_info;
+use crate::values::{id_bytes, text_bytes};
 use crate::written::{Written, push_all};
+use as4_envelope::{
+    push_attribute, push_end_tag, push_optional_attribute, push_optional_element, push_tag_end,
+    push_tag_start,
+};
 use as4_values::{ErrorItem, NoMemory, Severity, Signal, SignalBody, Text, UserHeader};
 
 fn severity_text(severity: Severity) -> &'static [u8]

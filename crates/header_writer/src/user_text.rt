@@ -3,11 +3,12 @@
 ghost use Rattle.std.specs.Prelude.{◌≡◌, ◌++◌, [], OnOk, unwrap_or};
 ghost use Rattle.message_model.specs.UnitText.{message_info, party_text, side_text, party_info, agreement_text, service_text, collaboration_info, property_text, part_info, user_message};
 
-use crate::markup::{
-    id_bytes, push_attribute, push_end_tag, push_escaped, push_optional_attribute,
-    push_optional_element, push_tag_end, push_tag_start, push_text_element, text_bytes,
-};
+use crate::values::{id_bytes, text_bytes};
 use crate::written::{Written, push_all, push_listed};
+use as4_envelope::{
+    push_attribute, push_end_tag, push_escaped, push_optional_attribute, push_optional_element,
+    push_tag_end, push_tag_start, push_text_element,
+};
 use as4_values::{
     Agreement, MessageId, NoMemory, PartInfo, Party, Property, Service, Side, StampText, Text,
     UserHeader,

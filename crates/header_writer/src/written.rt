@@ -2,7 +2,7 @@ ghost use Rattle.std.specs.Prelude.{◌≡◌, ◌++◌, OnOk, List, ℕ};
 ghost use Rattle.std.specs.List.{flat_map};
 ghost use Rattle.message_model.specs.Markup.{listed};
 
-use crate::markup::{push_end_tag, push_tag_end, push_tag_start};
+use as4_envelope::{push_end_tag, push_tag_end, push_tag_start};
 use as4_values::NoMemory;
 
 /// What has one text in a document.

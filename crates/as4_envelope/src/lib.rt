@@ -1,0 +1,18 @@
+//! Elements of XML as trees, and the one text in which each is written.
+#![tactic(auto)]
+
+mod copies;
+mod markup;
+#[cfg(test)]
+mod tests;
+mod tree;
+mod writable;
+mod write;
+
+pub use markup::{
+    push_attribute, push_end_tag, push_escaped, push_optional_attribute, push_optional_element,
+    push_tag_end, push_tag_start, push_text_element,
+};
+pub use tree::{Attribute, Element};
+pub use writable::{MAX_DEPTH, is_writable};
+pub use write::write_tree;

@@ -1,0 +1,22 @@
+use as4_values::{Octets, Seq};
+
+/// An attribute, by its expanded name (Namespaces in XML 1.0, section 2.1). Declarations of namespaces are none.
+#[derive(Drop)]
+pub struct Attribute {
+    /// The namespace, empty where there is none.
+    pub space: Octets,
+    pub local: Octets,
+    pub value: Octets,
+}
+
+/// An element, by its expanded name.
+#[derive(Drop)]
+pub struct Element {
+    /// The namespace, empty where there is none.
+    pub space: Octets,
+    pub local: Octets,
+    pub attributes: Seq<Attribute>,
+    /// The character data that stands directly in the element, joined.
+    pub text: Octets,
+    pub children: Seq<Element>,
+}

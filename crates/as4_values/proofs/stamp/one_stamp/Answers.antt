@@ -1,6 +1,0 @@
-use Rattle.as4_values.proofs.StampLemmas.{one_stamp_of}
-use Rattle.as4_values.proofs.stamp.one_stamp.Goals as goal
-
--- by the calendar's day numbers
-pub returns : goal.returns
-returns c = one_stamp_of

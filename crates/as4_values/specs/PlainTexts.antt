@@ -1,0 +1,21 @@
+-- Texts that stand in a document and in a URL as they are.
+use Rattle.std.specs.Prelude.{ℕ, ◌+◌, ◌<◌, ◌≤◌, List, Bool, not, ◌&&◌, ◌||◌, ◌==◌, nat_le, IsTrue, length, slice_index}
+use Rattle.as4_values.specs.Texts.{text_limit}
+
+-- printable ASCII but for what is escaped in XML or in a URL: `"`, `%`, `&`, `<` and `>`
+abbrev pub is_plain : ℕ → Bool
+is_plain b =
+    nat_le 32 b && nat_le b 126
+    && not ((b == 34) || (b == 37) || (b == 38) || (b == 60) || (b == 62))
+
+-- the byte at a place of a plain text: at both ends no space
+abbrev pub allows_at : List ℕ → ℕ → Bool
+allows_at bytes at =
+    is_plain (slice_index bytes at)
+    && not ((slice_index bytes at == 32) && ((at == 0) || (at + 1 == length bytes)))
+
+-- a text that stands in a document and in a URL as it is
+pub record IsPlainText (bytes : List ℕ) : Type 0 where
+  pub some : 0 < length bytes
+  pub limited : length bytes ≤ text_limit
+  pub each : (k : ℕ) → k < length bytes → IsTrue (allows_at bytes k)
