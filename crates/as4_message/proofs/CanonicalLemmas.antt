@@ -2,7 +2,7 @@
 use Rattle.std.proofs.Common.{◌≡◌, ℕ, ◌<◌, true, false, List, [], ◌∷◌, ◌++◌, Some, None, length, arith, refl, ap, ◌∙◌, append_assoc, append-nil, nat_eq}
 use Rattle.std.specs.Prelude.{codes}
 use Rattle.std.proofs.lemmas.Bool.Decides.{nat_tests}
-use Rattle.as4_values.specs.Texts.{IsPlainText}
+use Rattle.as4_values.specs.PlainTexts.{IsPlainText}
 use Rattle.as4_values.specs.declared.header.PartInfo.{PartInfo}
 use Rattle.as4_values.specs.declared.payload.Payload.{Payload}
 use Rattle.message_model.specs.Markup.{escaped, tag_start, tag_end, end_tag, attribute, element, text_element, optional_attribute, optional_element, listed}

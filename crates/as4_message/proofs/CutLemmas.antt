@@ -138,6 +138,22 @@ cut_none needle (x ∷ xs) finds =
           rw (other, tail) refl
     ]
 
+-- a needle is found behind a part that doesn't hold its first byte
+pub cut_free : (stop : ℕ) (tail part after : List ℕ) → IsFreeOf stop part → cut_at (stop ∷ tail) (part ++ stop ∷ (tail ++ after)) ≡ Some (part, after)
+unfolding cut_at
+cut_free stop tail [] after free =
+    let hay = stop ∷ (tail ++ after) in
+    let begins : starts_with nat_eq hay (stop ∷ tail) ≡ true = (starts_is Decides-eqb hay (stop ∷ tail) (starts_with nat_eq hay (stop ∷ tail)) refl).1 after refl in
+    rw (begins, drop_at (stop ∷ tail) after (length (stop ∷ tail)) refl) refl
+cut_free stop tail (x ∷ part) after free =
+    let hay = x ∷ (part ++ stop ∷ (tail ++ after)) in
+    elim (cases_Bool (starts_with nat_eq hay (stop ∷ tail))) [
+      | inl starts ↦ absurd (free 0 (omega arith) ((starts_there hay (stop ∷ tail) starts).reads 0 (omega arith)))
+      | inr other ↦
+          let rest = cut_free stop tail part after (λ k below. free (suc k) (omega arith)) in
+          rw (other, rest) refl
+    ]
+
 -- a part that doesn't hold the boundary ends before the line of the next one
 pub cut_again : (part after needle : List ℕ) → IsFreeOf 13 needle → slice_index needle 0 ≢ 10 → 0 < length needle → (Occurs needle part → ⊥) → cut_at needle (part ++ (13 ∷ 10 ∷ (needle ++ after))) ≡ Some (part ++ 13 ∷ 10 ∷ [], after)
 cut_again part after needle free first some outside =

@@ -1,11 +1,12 @@
 -- The message file of a plain message is read again.
-use Rattle.std.proofs.Common.{◌≡◌, ℕ, List, [], ◌∷◌, ◌++◌, Some, None, refl, ap, append_assoc, ◌∙◌}
-use Rattle.std.specs.Prelude.{codes}
+use Rattle.std.proofs.Common.{◌≡◌, ℕ, List, [], ◌∷◌, ◌++◌, Option, Some, None, length, arith, refl, ap, sym, append_assoc, ◌∙◌}
+use Rattle.std.specs.Prelude.{codes, unwrap_or}
 use Rattle.message_model.specs.Wire.{message_file}
 use Rattle.message_model.specs.Package.{crlf, package_media, hex_digits}
 use Rattle.as4_message.specs.PlainReading.{IsFreeOf}
-use Rattle.as4_message.specs.FileReading.{file_at}
-use Rattle.as4_message.proofs.ReadingLemmas.{behind_again, before_again, from_again, free_of}
+use Rattle.as4_message.specs.FileReading.{file_at, parts_of}
+use Rattle.as4_message.proofs.CutLemmas.{cut_free}
+use Rattle.as4_message.proofs.ReadingLemmas.{behind_again, free_of}
 
 file_again : (media body : List ℕ) → IsFreeOf 13 media → file_at (message_file media body) ≡ Some (media, body)
 unfolding file_at
@@ -14,17 +15,15 @@ file_again media body free =
     let rest = media ++ 13 ∷ 10 ∷ 13 ∷ 10 ∷ body in
     let flat : message_file media body ≡ field ++ rest =
     append_assoc (field ++ media ++ crlf) crlf body ∙ append_assoc (field ++ media) crlf (crlf ++ body) ∙ append_assoc field media (crlf ++ (crlf ++ body)) in
-    rw (
-      flat,
-      behind_again field rest,
-      before_again 13 media (10 ∷ 13 ∷ 10 ∷ body) free,
-      from_again 13 media (10 ∷ 13 ∷ 10 ∷ body) free,
-      behind_again (13 ∷ 10 ∷ 13 ∷ 10 ∷ []) body,
-    ) refl
+    rw (flat, behind_again field rest) (cut_free 13 (10 ∷ 13 ∷ 10 ∷ []) media body free)
 
 package_media_is_free : IsFreeOf 13 (package_media 0)
 unfolding package_media hex_digits
 package_media_is_free = free_of 13 (package_media 0) refl
+
+pub media_is_some : [] ≡ package_media 0 → ⊥
+unfolding package_media hex_digits
+media_is_some is = omega (arith, ap length is)
 
 -- the file of a package is read again
 pub package_file_again : (body : List ℕ) → file_at (message_file (package_media 0) body) ≡ Some (package_media 0, body)
@@ -42,3 +41,10 @@ parts_of_file file media whole body some is =
     let read = some ∙ ap file_at is ∙ package_file_again body in
     let pair : (media, whole) ≡ (package_media 0, body) = cc in
     (ap (λ (p : List ℕ × List ℕ). p.0) pair, ap (λ (p : List ℕ × List ℕ). p.1) pair)
+
+-- the media text of a file that is taken apart, and of one that isn't
+pub parts_some : (file media body : List ℕ) → Some (media, body) ≡ file_at file → (parts_of file).0 ≡ media
+parts_some file media body is = sym (ap (λ (o : Option (List ℕ × List ℕ)). (unwrap_or o ([], [])).0) is)
+
+pub parts_none : (file : List ℕ) → None ≡ file_at file → (parts_of file).0 ≡ []
+parts_none file is = sym (ap (λ (o : Option (List ℕ × List ℕ)). (unwrap_or o ([], [])).0) is)

@@ -8,3 +8,4 @@ pub mod ReadingLemmas
 pub mod UnescapeLemmas
 pub mod ValueLemmas
 pub mod WireLemmas
+pub mod RefusalLemmas

@@ -7,7 +7,7 @@ use Rattle.std.proofs.lemmas.List.Elements.{All-nil, All-cons}
 use Rattle.as4_values.specs.Word.{IsWord, allows}
 use Rattle.as4_values.specs.declared.word.Word.TheVariants.{Identifier}
 use Rattle.as4_values.specs.Payload.{IsContentId, IsMediaText}
-use Rattle.as4_values.specs.Texts.{IsPlainText}
+use Rattle.as4_values.specs.PlainTexts.{IsPlainText}
 use Rattle.as4_values.specs.declared.payload.Payload.{Payload}
 use Rattle.as4_values.specs.declared.header.UserHeader.{UserHeader}
 use Rattle.as4_values.specs.declared.message.Message.TheVariants as message

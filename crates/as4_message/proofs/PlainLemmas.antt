@@ -5,8 +5,8 @@ use Rattle.std.specs.List.{list_all}
 use Rattle.std.proofs.lemmas.Bool.{cases_Bool}
 use Rattle.std.proofs.lemmas.List.Folds.{list_all-append}
 use Rattle.std.proofs.lemmas.Bool.Decides.{eqb_tells, nat_tests}
-use Rattle.as4_values.specs.Texts.{is_plain, allows_at, IsPlainText}
-use Rattle.as4_values.specs.Stamp.{digits, IsStamp}
+use Rattle.as4_values.specs.PlainTexts.{is_plain, allows_at, IsPlainText}
+use Rattle.as4_values.specs.Moment.{digits, IsMomentStamp}
 use Rattle.message_model.specs.Markup.{escape_of, escaped}
 use Rattle.as4_message.specs.PlainReading.{IsFreeOf}
 use Rattle.as4_message.proofs.ReadingLemmas.{is_free_of, free_of}
@@ -66,7 +66,7 @@ digits_are_plain zero n = refl
 digits_are_plain (suc places) n =
     rw (list_all-append is_plain (digits places (n / 10)) ((48 + n % 10) ∷ []), digits_are_plain places (n / 10), digit_is_plain n) refl
 
-pub stamp_is_plain : (text : List ℕ) → IsStamp text → is_all_plain text ≡ true
+pub stamp_is_plain : (text : List ℕ) → IsMomentStamp text → is_all_plain text ≡ true
 stamp_is_plain text stamp = let c = stamp.0 in rw stamp.2 (simp (list_all-append, digits_are_plain))
 
 -- an escaped text has no `<`

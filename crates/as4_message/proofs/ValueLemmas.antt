@@ -11,7 +11,7 @@ use Rattle.as4_values.specs.declared.header.UserHeader.{UserHeader}
 use Rattle.as4_message.specs.Plain.{PlainHeader, side_of, service_of, part_of, header_of}
 use Rattle.as4_values.specs.Word.{IsWord}
 use Rattle.as4_values.specs.declared.word.Word.TheVariants.{Identifier}
-use Rattle.as4_values.specs.Texts.{IsPlainText, allows_at, is_plain}
+use Rattle.as4_values.specs.PlainTexts.{IsPlainText, allows_at, is_plain}
 use Rattle.as4_values.specs.Payload.{IsMediaText, is_space}
 
 -- behind four bytes, what is allowed in a text stays so

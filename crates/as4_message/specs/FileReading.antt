@@ -1,11 +1,12 @@
 -- How a message file is read.
-use Rattle.std.specs.Prelude.{ℕ, List, ◌++◌, Option, Some, codes}
+use Rattle.std.specs.Prelude.{ℕ, List, [], ◌++◌, Option, codes, unwrap_or}
 use Rattle.message_model.specs.Package.{crlf}
-use Rattle.as4_message.specs.PlainReading.{◌>>=◌, behind, before_byte, from_byte}
+use Rattle.as4_message.specs.PlainReading.{◌>>=◌, behind, cut_at}
 
--- the media text, up to the first CR, and the body
+-- the media text, up to the first empty line, and the body
 unfoldable pub file_at : List ℕ → Option (List ℕ × List ℕ)
-file_at bytes = do
-  rest ← behind (codes "Content-Type: ") bytes
-  body ← behind (crlf ++ crlf) (from_byte 13 rest)
-  Some (before_byte 13 rest, body)
+file_at bytes = behind (codes "Content-Type: ") bytes >>= cut_at (crlf ++ crlf)
+
+-- the media text and the body of a message file; bytes of another form have an empty one of each
+abbrev pub parts_of : List ℕ → List ℕ × List ℕ
+parts_of bytes = unwrap_or (file_at bytes) ([], [])

@@ -6,3 +6,4 @@ pub mod PlainReading
 pub mod Raw
 pub mod RawWire
 pub mod Unescaping
+pub mod Refused

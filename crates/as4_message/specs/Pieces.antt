@@ -1,6 +1,6 @@
 -- The pieces that a payload is made of.
 use Rattle.std.specs.Prelude.{◌≡◌, ℕ, List}
-use Rattle.as4_values.specs.Texts.{IsPlainText}
+use Rattle.as4_values.specs.PlainTexts.{IsPlainText}
 use Rattle.as4_values.specs.declared.payload.Payload.{Payload}
 
 -- the payload has these pieces, and its media text is plain

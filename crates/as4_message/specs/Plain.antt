@@ -3,8 +3,8 @@ use Rattle.std.specs.Prelude.{◌≡◌, ℕ, List, [], ◌∷◌, ◌++◌, Som
 use Rattle.std.proofs.Common.{lit<, lit≤}
 use Rattle.as4_values.specs.Word.{IsWord}
 use Rattle.as4_values.specs.declared.word.Word.TheVariants.{Identifier}
-use Rattle.as4_values.specs.Texts.{IsPlainText}
-use Rattle.as4_values.specs.Stamp.{IsStamp}
+use Rattle.as4_values.specs.PlainTexts.{IsPlainText}
+use Rattle.as4_values.specs.Moment.{IsMomentStamp}
 use Rattle.as4_values.specs.declared.header.Side.{Side}
 use Rattle.as4_values.specs.declared.header.Service.{Service}
 use Rattle.as4_values.specs.declared.header.PartInfo.{PartInfo}
@@ -80,7 +80,7 @@ pub record IsPlainWork (h : PlainHeader) : Type 0 where
   pub conversation : IsPlainText h.conversation
 
 pub record IsPlainHeader (h : PlainHeader) : Type 0 where
-  pub stamp : IsStamp h.stamp
+  pub stamp : IsMomentStamp h.stamp
   pub id : IsWord Identifier h.id
   pub sides : ArePlainSides h
   pub work : IsPlainWork h

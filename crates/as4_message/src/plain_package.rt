@@ -1,6 +1,6 @@
 //! Reads the package of a plain message: the root, and one other part behind it, with the first boundary.
 
-ghost use Rattle.std.specs.Prelude.{◌≡◌, ℕ, ◌-◌, ◌++◌, Option, IfSome, length, take};
+ghost use Rattle.std.specs.Prelude.{◌≡◌, ℕ, ◌-◌, ◌<◌, ◌++◌, Option, IfSome, length, take};
 ghost use Rattle.std.specs.Option.{option_map};
 ghost use Rattle.message_model.specs.Package.{crlf, dash_boundary, Occurs};
 ghost use Rattle.as4_message.specs.PlainReading.{cut_at};
@@ -9,8 +9,6 @@ ghost use Rattle.as4_message.specs.Raw.{parts_of};
 
 use crate::plain_envelope::{behind, split_at_byte};
 use memchr::memmem;
-
-const DASH_BOUNDARY: &[u8] = b"--as4-0000000000000000";
 
 /// The parts of a package of two parts, as slices of its body.
 #[derive(Clone, Copy)]
@@ -22,16 +20,26 @@ pub struct RawParts<'a> {
     pub content: &'a [u8],
 }
 
-/// What stands before and behind the first boundary.
-fn cut_at(bytes: &[u8]) -> Option<(&[u8], &[u8])>
-    ensures reads { option_map (λ cut. (cut.0.now, cut.1.now)) result ≡ cut_at (dash_boundary 0) bytes.now }
-    ensures found { IfSome result (λ cut. bytes.now ≡ cut.0.now ++ dash_boundary 0 ++ cut.1.now) }
-    ensures first { IfSome result (λ cut. (short : ℕ) → Occurs (dash_boundary 0) (take short cut.0.now) → ⊥) }
+/// What stands before and behind the first place of the needle.
+pub fn cut_at<'a>(needle: &[u8], bytes: &'a [u8]) -> Option<(&'a [u8], &'a [u8])>
+    requires { 0 < length needle.now }
+    ensures reads { option_map (λ cut. (cut.0.now, cut.1.now)) result ≡ cut_at needle.now bytes.now }
+    ensures found { IfSome result (λ cut. bytes.now ≡ cut.0.now ++ needle.now ++ cut.1.now) }
+    ensures first { IfSome result (λ cut. (short : ℕ) → Occurs needle.now (take short cut.0.now) → ⊥) }
 {
-    let at = memmem::find(bytes, DASH_BOUNDARY)?;
+    let at = memmem::find(bytes, needle)?;
     let (front, rest) = bytes.split_at(at);
-    let (_, behind) = rest.split_at(DASH_BOUNDARY.len());
+    let (_, behind) = rest.split_at(needle.len());
     Some((front, behind))
+}
+
+/// The first boundary, as it stands in a body.
+#[tactic(auto, unfolding(message_model::specs::Package::dash_boundary, message_model::specs::Package::hex_digits))]
+fn dash_boundary() -> &'static [u8]
+    ensures value { result.now ≡ dash_boundary 0 }
+    ensures some { 0 < length result.now }
+{
+    b"--as4-0000000000000000"
 }
 
 /// The bytes before the CRLF at their end.
@@ -54,7 +62,7 @@ fn ended_part(bytes: &[u8]) -> Option<(&[u8], &[u8])>
     ensures found { IfSome result (λ read. bytes.now ≡ read.0.now ++ crlf ++ dash_boundary 0 ++ read.1.now) }
     ensures free { IfSome result (λ read. Occurs (dash_boundary 0) read.0.now → ⊥) }
 {
-    let (front, behind) = cut_at(bytes)?;
+    let (front, behind) = cut_at(dash_boundary(), bytes)?;
     let part = without_line_end(front)?;
     Some((part, behind))
 }

@@ -3,8 +3,8 @@
 ghost use Rattle.std.specs.Prelude.{◌≡◌, ◌++◌, ◌≤◌, List, ℕ, [], ◌∷◌, Some, IfOk, IfErr, MatchResult, codes, length};
 ghost use Rattle.as4_values.specs.Word.{IsWord};
 ghost use Rattle.as4_values.specs.declared.word.Word.TheVariants.{Identifier};
-ghost use Rattle.as4_values.specs.Texts.{IsPlainText};
-ghost use Rattle.as4_values.specs.Stamp.{IsStamp};
+ghost use Rattle.as4_values.specs.PlainTexts.{IsPlainText};
+ghost use Rattle.as4_values.specs.Moment.{IsMomentStamp};
 ghost use Rattle.message_model.specs.Markup.{escaped};
 ghost use Rattle.as4_values.specs.declared.payload.Payload.{Payload as PayloadValue};
 ghost use Rattle.as4_message.specs.Raw.{raw_texts};
@@ -12,11 +12,12 @@ ghost use Rattle.as4_message.specs.Pieces.{HoldsPieces};
 ghost use Rattle.as4_message.specs.Plain.{IsPlainHeader, ArePlainSides, IsPlainWork, side_of, service_of, part_of, header_of, with_id};
 
 use crate::plain_envelope::RawHeader;
-use crate::refusal::MessageRefusal;
+use crate::plain_refusal::PlainRefusal;
 use crate::unescape::unescape;
 use as4_values::{
     IdRefusal, MessageId, NoMemory, Octets, PartInfo, Party, Payload, Seq, Service, Side,
-    StampRefusal, StampText, Text, TextRefusal, UserHeader, Word, is_plain_text, read_stamp,
+    StampRefusal, StampText, Text, TextRefusal, UserHeader, Word, is_moment_stamp, is_plain_text,
+    read_stamp,
 };
 use std::alloc::Global;
 
@@ -24,48 +25,57 @@ use std::alloc::Global;
 const HREF_START: &[u8] = b"cid:";
 
 /// A plain text.
-fn text_of(alloc: Global, bytes: &[u8]) -> Result<Text, MessageRefusal>
+#[tactic(auto, using(as4_values::proofs::TextLemmas::plain_spells, as4_values::proofs::TextLemmas::plain_spells_only))]
+fn text_of(alloc: Global, bytes: &[u8]) -> Result<Text, PlainRefusal>
     ensures found { IfOk result (λ text. (text ≡ bytes.now) × IsPlainText bytes.now) }
-    ensures only { IsPlainText bytes.now → IfErr result (λ e. e ≡ MessageRefusal.NoMemory) }
+    ensures only { IsPlainText bytes.now → IfErr result (λ e. e ≡ PlainRefusal.NoMemory) }
 {
+    if !is_plain_text(bytes) {
+        return Err(PlainRefusal::Other);
+    }
     match Text::read(alloc, bytes) {
         Ok(text) => Ok(text),
-        Err(TextRefusal::BadText { .. }) => Err(MessageRefusal::Unbuilt),
-        Err(TextRefusal::NoMemory) => Err(MessageRefusal::NoMemory),
+        Err(TextRefusal::BadText { .. }) => Err(PlainRefusal::Other),
+        Err(TextRefusal::NoMemory) => Err(PlainRefusal::NoMemory),
     }
 }
 
-fn stamp_of(alloc: Global, bytes: &[u8]) -> Result<StampText, MessageRefusal>
-    ensures found { IfOk result (λ stamp. (stamp ≡ bytes.now) × IsStamp bytes.now) }
-    ensures only { IsStamp bytes.now → IfErr result (λ e. e ≡ MessageRefusal.NoMemory) }
+/// The stamp of a moment.
+#[tactic(auto, using(as4_values::proofs::MomentTextLemmas::moment_is_stamp))]
+fn stamp_of(alloc: Global, bytes: &[u8]) -> Result<StampText, PlainRefusal>
+    ensures found { IfOk result (λ stamp. (stamp ≡ bytes.now) × IsMomentStamp bytes.now) }
+    ensures only { IsMomentStamp bytes.now → IfErr result (λ e. e ≡ PlainRefusal.NoMemory) }
 {
+    if !is_moment_stamp(bytes) {
+        return Err(PlainRefusal::Other);
+    }
     match read_stamp(alloc, bytes) {
         Ok(stamp) => Ok(stamp),
-        Err(StampRefusal::BadStamp { .. }) => Err(MessageRefusal::Unbuilt),
-        Err(StampRefusal::NoMemory) => Err(MessageRefusal::NoMemory),
+        Err(StampRefusal::BadStamp { .. }) => Err(PlainRefusal::Other),
+        Err(StampRefusal::NoMemory) => Err(PlainRefusal::NoMemory),
     }
 }
 
 /// The identifier whose escaped form these bytes are.
-fn id_of(alloc: Global, raw: &[u8]) -> Result<MessageId, MessageRefusal>
+fn id_of(alloc: Global, raw: &[u8]) -> Result<MessageId, PlainRefusal>
     ensures found { IfOk result (λ id. (escaped id ≡ raw.now) × IsWord Identifier id) }
     ensures only { (id : List ℕ) → escaped id ≡ raw.now → IsWord Identifier id
-        → MatchResult result (λ read. read ≡ id) (λ e. e ≡ MessageRefusal.NoMemory) }
+        → MatchResult result (λ read. read ≡ id) (λ e. e ≡ PlainRefusal.NoMemory) }
 {
     let Some(bytes) = unescape(alloc, raw)? else {
-        return Err(MessageRefusal::Unbuilt);
+        return Err(PlainRefusal::Other);
     };
     match MessageId::read(alloc, bytes.as_slice()) {
         Ok(id) => Ok(id),
-        Err(IdRefusal::BadId { .. }) => Err(MessageRefusal::Unbuilt),
-        Err(IdRefusal::NoMemory) => Err(MessageRefusal::NoMemory),
+        Err(IdRefusal::BadId { .. }) => Err(PlainRefusal::Other),
+        Err(IdRefusal::NoMemory) => Err(PlainRefusal::NoMemory),
     }
 }
 
 /// A side of one party.
-fn side_of(alloc: Global, id: &[u8], role: &[u8]) -> Result<Side, MessageRefusal>
+fn side_of(alloc: Global, id: &[u8], role: &[u8]) -> Result<Side, PlainRefusal>
     ensures found { IfOk result (λ side. (side ≡ side_of id.now role.now) × IsPlainText id.now × IsPlainText role.now) }
-    ensures only { IsPlainText id.now → IsPlainText role.now → IfErr result (λ e. e ≡ MessageRefusal.NoMemory) }
+    ensures only { IsPlainText id.now → IsPlainText role.now → IfErr result (λ e. e ≡ PlainRefusal.NoMemory) }
 {
     let id = text_of(alloc, id)?;
     let role = text_of(alloc, role)?;
@@ -79,12 +89,12 @@ fn side_of(alloc: Global, id: &[u8], role: &[u8]) -> Result<Side, MessageRefusal
 
 /// The part info that refers to a Content-ID.
 #[tactic(auto, using(crate::proofs::ValueLemmas::href_is_text))]
-fn part_of(alloc: Global, cid: &[u8]) -> Result<PartInfo, MessageRefusal>
+fn part_of(alloc: Global, cid: &[u8]) -> Result<PartInfo, PlainRefusal>
     ensures found { IfOk result (λ part. (part ≡ part_of cid.now) × IsPlainText cid.now × IsWord Identifier cid.now) }
-    ensures only { IsPlainText cid.now → IsWord Identifier cid.now → IfErr result (λ e. e ≡ MessageRefusal.NoMemory) }
+    ensures only { IsPlainText cid.now → IsWord Identifier cid.now → IfErr result (λ e. e ≡ PlainRefusal.NoMemory) }
 {
     if !is_plain_text(cid) || Word::Identifier.first_wrong(cid).is_some() {
-        return Err(MessageRefusal::Unbuilt);
+        return Err(PlainRefusal::Other);
     }
     let mut href = Vec::with_capacity(alloc, HREF_START.len() + cid.len())?;
     href.extend_from_slice(HREF_START)?;
@@ -96,10 +106,10 @@ fn part_of(alloc: Global, cid: &[u8]) -> Result<PartInfo, MessageRefusal>
 }
 
 /// The sender's side and the receiver's.
-fn sides_of(alloc: Global, raw: &RawHeader<'_>) -> Result<(Side, Side), MessageRefusal>
+fn sides_of(alloc: Global, raw: &RawHeader<'_>) -> Result<(Side, Side), PlainRefusal>
     ensures found { IfOk result (λ sides. (sides.0 ≡ side_of raw.now.from.now raw.now.from_role.now)
         × (sides.1 ≡ side_of raw.now.to.now raw.now.to_role.now) × ArePlainSides (raw_texts raw.now)) }
-    ensures only { ArePlainSides (raw_texts raw.now) → IfErr result (λ e. e ≡ MessageRefusal.NoMemory) }
+    ensures only { ArePlainSides (raw_texts raw.now) → IfErr result (λ e. e ≡ PlainRefusal.NoMemory) }
 {
     let from = side_of(alloc, raw.from, raw.from_role)?;
     let to = side_of(alloc, raw.to, raw.to_role)?;
@@ -107,10 +117,10 @@ fn sides_of(alloc: Global, raw: &RawHeader<'_>) -> Result<(Side, Side), MessageR
 }
 
 /// The service, the action and the conversation.
-fn work_of(alloc: Global, raw: &RawHeader<'_>) -> Result<(Service, Text, Text), MessageRefusal>
+fn work_of(alloc: Global, raw: &RawHeader<'_>) -> Result<(Service, Text, Text), PlainRefusal>
     ensures found { IfOk result (λ work. (work.0 ≡ service_of raw.now.service.now)
         × (work.1 ≡ raw.now.action.now) × (work.2 ≡ raw.now.conversation.now) × IsPlainWork (raw_texts raw.now)) }
-    ensures only { IsPlainWork (raw_texts raw.now) → IfErr result (λ e. e ≡ MessageRefusal.NoMemory) }
+    ensures only { IsPlainWork (raw_texts raw.now) → IfErr result (λ e. e ≡ PlainRefusal.NoMemory) }
 {
     let value = text_of(alloc, raw.service)?;
     let action = text_of(alloc, raw.action)?;
@@ -119,9 +129,9 @@ fn work_of(alloc: Global, raw: &RawHeader<'_>) -> Result<(Service, Text, Text), 
 }
 
 /// The list of the one part info.
-fn parts_of(alloc: Global, cid: &[u8]) -> Result<Seq<PartInfo>, MessageRefusal>
+fn parts_of(alloc: Global, cid: &[u8]) -> Result<Seq<PartInfo>, PlainRefusal>
     ensures found { IfOk result (λ parts. (parts ≡ part_of cid.now ∷ []) × IsPlainText cid.now × IsWord Identifier cid.now) }
-    ensures only { IsPlainText cid.now → IsWord Identifier cid.now → IfErr result (λ e. e ≡ MessageRefusal.NoMemory) }
+    ensures only { IsPlainText cid.now → IsWord Identifier cid.now → IfErr result (λ e. e ≡ PlainRefusal.NoMemory) }
 {
     let part = part_of(alloc, cid)?;
     let mut parts = Vec::with_capacity(alloc, 1)?;
@@ -134,11 +144,11 @@ fn header_with(
     alloc: Global,
     raw: &RawHeader<'_>,
     id: MessageId,
-) -> Result<UserHeader, MessageRefusal>
+) -> Result<UserHeader, PlainRefusal>
     requires { IsWord Identifier id }
     ensures found { IfOk result (λ header.
         (header ≡ header_of (with_id (raw_texts raw.now) id)) × IsPlainHeader (with_id (raw_texts raw.now) id)) }
-    ensures only { IsPlainHeader (with_id (raw_texts raw.now) id) → IfErr result (λ e. e ≡ MessageRefusal.NoMemory) }
+    ensures only { IsPlainHeader (with_id (raw_texts raw.now) id) → IfErr result (λ e. e ≡ PlainRefusal.NoMemory) }
 {
     let stamp = stamp_of(alloc, raw.stamp)?;
     let (from, to) = sides_of(alloc, raw)?;
@@ -161,11 +171,11 @@ fn header_with(
 }
 
 /// The header that these texts spell.
-pub fn header_of(alloc: Global, raw: &RawHeader<'_>) -> Result<UserHeader, MessageRefusal>
+pub fn header_of(alloc: Global, raw: &RawHeader<'_>) -> Result<UserHeader, PlainRefusal>
     ensures found { IfOk result (λ header. (id : List ℕ) × (escaped id ≡ raw.now.id.now)
         × (header ≡ header_of (with_id (raw_texts raw.now) id)) × IsPlainHeader (with_id (raw_texts raw.now) id)) }
     ensures only { (id : List ℕ) → escaped id ≡ raw.now.id.now → IsPlainHeader (with_id (raw_texts raw.now) id)
-        → MatchResult result (λ header. header ≡ header_of (with_id (raw_texts raw.now) id)) (λ e. e ≡ MessageRefusal.NoMemory) }
+        → MatchResult result (λ header. header ≡ header_of (with_id (raw_texts raw.now) id)) (λ e. e ≡ PlainRefusal.NoMemory) }
 {
     let id = id_of(alloc, raw.id)?;
     header_with(alloc, raw, id)
@@ -181,16 +191,16 @@ fn payload_of(
     cid: &[u8],
     media: &[u8],
     content: &[u8],
-) -> Result<Payload, MessageRefusal>
+) -> Result<Payload, PlainRefusal>
     ensures found { IfOk result (λ payload. HoldsPieces payload cid.now media.now content.now) }
     ensures only { IsWord Identifier cid.now → IsPlainText media.now → length media.now ≤ MAX_MEDIA
-        → IfErr result (λ e. e ≡ MessageRefusal.NoMemory) }
+        → IfErr result (λ e. e ≡ PlainRefusal.NoMemory) }
 {
     if Word::Identifier.first_wrong(cid).is_some()
         || !is_plain_text(media)
         || media.len() > MAX_MEDIA
     {
-        return Err(MessageRefusal::Unbuilt);
+        return Err(PlainRefusal::Other);
     }
     Ok(Payload {
         cid: Octets::of(Vec::from_slice(alloc, cid)?),
@@ -205,11 +215,11 @@ pub fn payloads_of(
     cid: &[u8],
     media: &[u8],
     content: &[u8],
-) -> Result<Seq<Payload>, MessageRefusal>
+) -> Result<Seq<Payload>, PlainRefusal>
     ensures found { IfOk result (λ payloads. (payload : PayloadValue) × (payloads ≡ payload ∷ [])
         × HoldsPieces payload cid.now media.now content.now) }
     ensures only { IsWord Identifier cid.now → IsPlainText media.now → length media.now ≤ MAX_MEDIA
-        → IfErr result (λ e. e ≡ MessageRefusal.NoMemory) }
+        → IfErr result (λ e. e ≡ PlainRefusal.NoMemory) }
 {
     let payload = payload_of(alloc, cid, media, content)?;
     let mut payloads = Vec::with_capacity(alloc, 1)?;

@@ -129,10 +129,12 @@ fn an_identifier_is_read_without_its_escapes(rt: HostRuntime) -> Result<(), Fail
     Ok(())
 }
 
-fn refusal(alloc: Global, media: &[u8], body: &str) -> Option<MessageRefusal> {
+/// The code of a refusal, 0 where the message isn't read yet, and nothing where it is read.
+fn refusal(alloc: Global, media: &[u8], body: &str) -> Option<u16> {
     match read_message(alloc, media, body.as_bytes()) {
-        Ok(_) => None,
-        Err(refusal) => Some(refusal),
+        Err(MessageRefusal::Refused(refusal)) => Some(refusal.code),
+        Err(MessageRefusal::Unbuilt) => Some(0),
+        _ => None,
     }
 }
 
@@ -157,20 +159,28 @@ fn no_other_spelling_is_read(rt: HostRuntime) -> Result<(), Fail> {
     for (old, new) in table {
         let body = changed(rt.alloc(), old, new)?;
         let refusal = refusal(rt.alloc(), MEDIA, body.as_str());
-        assert_eq!(rt; refusal, Some(MessageRefusal::Unbuilt), "{new} for {old}");
+        assert_eq!(rt; refusal, Some(0), "{new} for {old}");
     }
     Ok(())
 }
 
 #[test]
 fn no_other_media_text_is_read(rt: HostRuntime) -> Result<(), Fail> {
-    let unbuilt = Some(MessageRefusal::Unbuilt);
-    assert_eq!(rt; refusal(rt.alloc(), MEDIA, ""), unbuilt, "no body");
-    assert_eq!(rt;
-        refusal(rt.alloc(), b"multipart/related", BODY),
-        unbuilt,
-        "no boundary"
-    );
-    assert_eq!(rt; refusal(rt.alloc(), b"", BODY), unbuilt, "no media text");
+    let table: [(&[u8], &str, u16); 4] = [
+        (MEDIA, "", 0),
+        (b"multipart/related", BODY, 0),
+        (b"", BODY, 7),
+        (b"", "", 7),
+    ];
+    for (media, body, code) in table {
+        let refusal = refusal(rt.alloc(), media, body);
+        assert_eq!(rt;
+            refusal,
+            Some(code),
+            "{} and {} bytes",
+            media.len(),
+            body.len()
+        );
+    }
     Ok(())
 }

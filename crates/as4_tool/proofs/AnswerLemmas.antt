@@ -1,7 +1,7 @@
 -- A source read to its end.
 use Rattle.std.proofs.Common.{◌≡◌, ℕ, List, [], Option, Result, Ok, Err, IfOk, IsErrOf, MatchResult, subst, sym}
-use Rattle.as4_message.specs.declared.refusal.MessageRefusal.{MessageRefusal}
-use Rattle.as4_message.specs.declared.refusal.MessageRefusal.TheVariants as refusal
+use Rattle.as4_tool.specs.declared.answers.Unanswered.{Unanswered}
+use Rattle.as4_tool.specs.declared.answers.Unanswered.TheVariants as unanswered
 use Rattle.as4_flow.specs.Told.{Told, before}
 use Rattle.as4_flow.proofs.ToldLemmas.{read_whole}
 
@@ -14,6 +14,6 @@ pub ok_of : {A E : Type 0} (P : A → Type 0) {Q : A → Type 0} (F : E → Type
 ok_of P F (Ok a) f m = f a m
 ok_of P F (Err e) f m = tt
 
-pub never_unbuilt : {A : Type 0} (P : A → Type 0) (r : Result A MessageRefusal) → MatchResult r P (λ e. e ≡ refusal.NoMemory) → IsErrOf r refusal.Unbuilt → ⊥
+pub never_unbuilt : {A : Type 0} (P : A → Type 0) (r : Result A Unanswered) → MatchResult r P (λ e. e ≡ unanswered.NoMemory) → IsErrOf r unanswered.Unbuilt → ⊥
 never_unbuilt P (Ok a) m is = cc
 never_unbuilt P (Err e) m is = cc

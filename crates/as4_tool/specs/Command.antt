@@ -1,6 +1,6 @@
 -- The words of the program.
 use Rattle.std.specs.Prelude.{◌≡◌, ℕ, ◌^◌, ◌<◌, ◌≤◌, List, [], ◌∷◌, codes, decimal}
-use Rattle.as4_tool.specs.declared.command.TheConstants.{LAST_STAMP}
+use Rattle.as4_values.specs.declared.moment.TheConstants.{MAX_MOMENT}
 use Rattle.as4_tool.specs.declared.command.Command.{Command}
 use Rattle.as4_tool.specs.declared.command.Command.TheVariants.{Help, Version, Answer}
 
@@ -9,7 +9,7 @@ abbrev pub Spells : List (List ℕ) → Command → Type 0
 Spells words Help = words ≡ codes "--help" ∷ []
 Spells words Version = words ≡ codes "--version" ∷ []
 Spells words (Answer stamp nonce) =
-    (words ≡ codes "answer" ∷ decimal stamp ∷ decimal nonce ∷ []) × (stamp ≤ LAST_STAMP) × (nonce < 2 ^ 128)
+    (words ≡ codes "answer" ∷ decimal stamp ∷ decimal nonce ∷ []) × (stamp ≤ MAX_MOMENT) × (nonce < 2 ^ 128)
 
 -- these words spell some command
 abbrev pub IsCommand : List (List ℕ) → Type 0

@@ -1,9 +1,10 @@
 -- How a run ends: with which exit status, and what it has written then.
-use Rattle.std.specs.Prelude.{◌≡◌, ℕ, ◌⊎◌, List, [], ◌∷◌, Option}
+use Rattle.std.specs.Prelude.{◌≡◌, ℕ, ◌≤◌, ◌⊎◌, List, [], ◌∷◌, Option, length}
 use Rattle.as4_flow.specs.Told.{Told, behind, TakesFront}
 use Rattle.as4_tool.specs.Answer.{IsAnswer}
 use Rattle.as4_tool.specs.Status.{code_of, IsOneOf}
 use Rattle.as4_tool.specs.declared.texts.TheConstants.{HELP, VERSION}
+use Rattle.as4_tool.specs.declared.running.TheConstants.{LIMIT}
 use Rattle.as4_tool.specs.declared.command.Command.{Command}
 use Rattle.as4_tool.specs.declared.command.Command.TheVariants.{Help, Version, Answer}
 use Rattle.as4_tool.specs.declared.status.Status.TheVariants.{Done, ReadFault, WriteFault, NoMemory, TooLong, Unbuilt}
@@ -15,10 +16,10 @@ Writes text code taken later =
     ((code ≡ code_of Done) × (later ≡ behind taken text))
     ⊎ ((code ≡ code_of WriteFault) × TakesFront text taken later)
 
--- the input was read to its end, and its answer was written
+-- the input is within the limit and was read to its end, and its answer was written
 abbrev pub Answers : ℕ → ℕ → ℕ → (file rest taken later : Option (List ℕ)) → Type 0
 Answers stamp nonce code file rest taken later =
-    (answer : List ℕ) × Told file (λ file. IsAnswer stamp nonce file answer) × Told rest (λ rest. rest ≡ [])
+    (answer : List ℕ) × Told file (λ file. (length file ≤ LIMIT) × IsAnswer stamp nonce file answer) × Told rest (λ rest. rest ≡ [])
     × Writes answer code taken later
 
 -- the ends that each command has, by what the input had, what is left of it, and what the output had taken

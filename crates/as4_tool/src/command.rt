@@ -6,12 +6,9 @@
 ghost use Rattle.std.specs.Prelude.{◌≡◌, ℕ, List, [], ◌∷◌, ◌<◌, ◌^◌, codes, IfSome, IfNone};
 ghost use Rattle.std.specs.Fmt.{decimal};
 
-use as4_values::{Octets, Seq};
+use as4_values::{MAX_MOMENT, Octets, Seq};
 use itoa::Buffer;
 use std::str;
-
-/// The last moment of the clock, 9999-12-31T23:59:59.999Z, in milliseconds since 1970-01-01T00:00:00Z.
-pub const LAST_STAMP: u64 = 253_402_300_799_999;
 
 /// What the words ask for.
 #[derive(Clone, Copy, Debug, PartialEq, Eq)]
@@ -69,7 +66,7 @@ fn answer_of(stamp: &[u8], nonce: &[u8]) -> Option<Command>
 {
     let stamp = number_of(stamp)?;
     let nonce = number_of(nonce)?;
-    if stamp > u128::from(LAST_STAMP) {
+    if stamp > u128::from(MAX_MOMENT) {
         return None;
     }
     Some(Command::Answer {

@@ -8,20 +8,15 @@ ghost use Rattle.as4_flow.specs.Told.{Told};
 ghost use Rattle.as4_flow.specs.Faults.{Rose};
 ghost use Rattle.as4_tool.specs.Command.{Spells, IsCommand, AsksAnswer};
 ghost use Rattle.as4_tool.specs.Status.{code_of, lines_of};
-ghost use Rattle.as4_values.specs.declared.payload.Payload.{Payload as PayloadValue};
-ghost use Rattle.message_model.specs.Wire.{file_of};
-ghost use Rattle.exchange_model.specs.Signals.{IsReceiptOf};
-ghost use Rattle.as4_message.specs.Plain.{PlainHeader, header_of};
-ghost use Rattle.as4_tool.specs.Answer.{IsPlainFile, IsAnswer, IsOther};
+ghost use Rattle.as4_tool.specs.Answer.{IsOther};
 ghost use Rattle.as4_tool.specs.Ends.{Writes, Ends, Tells};
 
-use crate::command::{Command, LAST_STAMP, command_of};
+use crate::answers::{Unanswered, answer_file};
+use crate::command::{Command, command_of};
 use crate::status::Status;
 use crate::texts::{HELP, VERSION};
 use as4_flow::{ReadRefusal, SendFailed, Sink, Source, read_all, send_all};
-use as4_message::{MessageRefusal, read_message_file, write_signal_file};
-use as4_values::{Message, Octets, Seq, Signal, UserHeader};
-use msh_core::receipt;
+use as4_values::{MAX_MOMENT, Octets, Seq};
 use std::alloc::Global;
 
 /// The longest input, in bytes.
@@ -116,7 +111,7 @@ fn answer<I: Source, O: Sink>(
     input: &mut I,
     output: &mut O,
 ) -> Status
-    requires { stamp ≤ LAST_STAMP }
+    requires { stamp ≤ MAX_MOMENT }
     ensures ends { Ends (Command.Answer stamp nonce) (code_of result) (I.left input.old) (I.left input.new)
         (O.taken output.old) (O.taken output.new) }
 
@@ -138,62 +133,7 @@ fn answer<I: Source, O: Sink>(
     };
     match answer_file(alloc, stamp, nonce, &file) {
         Ok(bytes) => write(output, bytes.bytes()),
-        Err(MessageRefusal::Unbuilt) => Status::Unbuilt,
-        Err(MessageRefusal::NoMemory) => Status::NoMemory,
-    }
-}
-
-// The answer to a message file: the message file of the receipt.
-fn answer_file(
-    alloc: Global,
-    stamp: u64,
-    nonce: u128,
-    file: &[u8],
-) -> Result<Octets, MessageRefusal>
-    requires { stamp ≤ LAST_STAMP }
-    ensures answers { IfOk result (λ answer. IsAnswer stamp nonce file.now answer) }
-    ensures unbuilt { IsErrOf result MessageRefusal.Unbuilt → IsOther file.now }
-{
-    let signal = receipt_of_file(alloc, stamp, nonce, file)?;
-    file_of(alloc, &signal)
-}
-
-// The message file of a signal.
-fn file_of(alloc: Global, signal: &Signal) -> Result<Octets, MessageRefusal>
-    ensures { MatchResult result (λ file. file ≡ file_of 0 (Message.Signal signal.now)) (λ e. e ≡ MessageRefusal.NoMemory) }
-{
-    Ok(write_signal_file(alloc, signal)?)
-}
-
-// The receipt of the message in a message file.
-fn receipt_of_file(
-    alloc: Global,
-    stamp: u64,
-    nonce: u128,
-    file: &[u8],
-) -> Result<Signal, MessageRefusal>
-    requires { stamp ≤ LAST_STAMP }
-    ensures answers { IfOk result (λ signal. (header : PlainHeader) × (payload : PayloadValue)
-        × IsPlainFile file.now header payload × IsReceiptOf (header_of header) stamp nonce signal) }
-    ensures unbuilt { IsErrOf result MessageRefusal.Unbuilt → IsOther file.now }
-{
-    let message = read_message_file(alloc, file)?;
-    receipt_of(alloc, stamp, nonce, &message)
-}
-
-// The receipt of a user message.
-fn receipt_of(
-    alloc: Global,
-    stamp: u64,
-    nonce: u128,
-    message: &Message,
-) -> Result<Signal, MessageRefusal>
-    requires { stamp ≤ LAST_STAMP }
-    ensures answers { (header : UserHeader) (payloads : List PayloadValue) → message.now ≡ Message.User header payloads
-        → MatchResult result (λ signal. IsReceiptOf header stamp nonce signal) (λ e. e ≡ MessageRefusal.NoMemory) }
-{
-    match message {
-        Message::User { header, .. } => Ok(receipt(alloc, header, stamp, nonce)?),
-        Message::Signal(_) => Err(MessageRefusal::Unbuilt),
+        Err(Unanswered::Unbuilt) => Status::Unbuilt,
+        Err(Unanswered::NoMemory) => Status::NoMemory,
     }
 }

@@ -40,6 +40,13 @@ const FILE: &[u8] =
 const RECEIPT: &[u8] =
     b"Content-Type: application/soap+xml; charset=UTF-8\r\n\r\n<S:Envelope xmlns:S=\"http://www.w3.org/2003/05/soap-envelope\" xmlns:eb=\"http://docs.oasis-open.org/ebxml-msg/ebms/v3.0/ns/core/200704/\"><S:Header><eb:Messaging S:mustUnderstand=\"true\"><eb:SignalMessage><eb:MessageInfo><eb:Timestamp>1970-01-01T00:00:00.000Z</eb:Timestamp><eb:MessageId>s.00000000-0000-0000-0000-000000000001@as4</eb:MessageId><eb:RefToMessageId>m1@a</eb:RefToMessageId></eb:MessageInfo><eb:Receipt><eb:UserMessage><eb:MessageInfo><eb:Timestamp>2025-01-02T03:04:05.006Z</eb:Timestamp><eb:MessageId>m1@a</eb:MessageId></eb:MessageInfo><eb:PartyInfo><eb:From><eb:PartyId>acme</eb:PartyId><eb:Role>seller</eb:Role></eb:From><eb:To><eb:PartyId>bolt</eb:PartyId><eb:Role>buyer</eb:Role></eb:To></eb:PartyInfo><eb:CollaborationInfo><eb:Service>orders</eb:Service><eb:Action>invoice</eb:Action><eb:ConversationId>c1</eb:ConversationId></eb:CollaborationInfo><eb:PayloadInfo><eb:PartInfo href=\"cid:p1@a\"></eb:PartInfo></eb:PayloadInfo></eb:UserMessage></eb:Receipt></eb:SignalMessage></eb:Messaging></S:Header><S:Body></S:Body></S:Envelope>";
 
+/// The file of the error signal for an input that is no package, made at the moment 0 with the nonce 1.
+const ERROR: &[u8] =
+    b"Content-Type: application/soap+xml; charset=UTF-8\r\n\r\n<S:Envelope xmlns:S=\"http://www.w3.org/2003/05/soap-envelope\" xmlns:eb=\"http://docs.oasis-open.org/ebxml-msg/ebms/v3.0/ns/core/200704/\"><S:Header><eb:Messaging S:mustUnderstand=\"true\"><eb:SignalMessage><eb:MessageInfo><eb:Timestamp>1970-01-01T00:00:00.000Z</eb:Timestamp><eb:MessageId>s.00000000-0000-0000-0000-000000000001@as4</eb:MessageId></eb:MessageInfo><eb:Error errorCode=\"EBMS:0007\" severity=\"failure\" category=\"Unpackaging\" shortDescription=\"MimeInconsistency\"></eb:Error></eb:SignalMessage></eb:Messaging></S:Header><S:Body></S:Body></S:Envelope>";
+
+/// A message file that isn't read yet.
+const OTHER: &[u8] = b"Content-Type: text/xml\r\n\r\n<order/>";
+
 /// A sink that has room for all that a test writes.
 fn sink(alloc: Global, failing: u64) -> Result<MemorySink, AllocError> {
     let mut sink = MemorySink::of(alloc, Vec::new(alloc), vec![in alloc; failing]?);
@@ -90,7 +97,7 @@ fn words_are_a_command_or_bad(rt: HostRuntime) -> Result<(), Fail> {
         ("", 64, HINT),
     ];
     for (line, status, told) in table {
-        let end = end_of(alloc, line, b"file".to_vec(alloc)?, NOTHING_FAILS)?;
+        let end = end_of(alloc, line, OTHER.to_vec(alloc)?, NOTHING_FAILS)?;
         assert_eq!(rt; end.status, status, "at {line}");
         assert_eq!(rt; end.told.as_slice(), told, "at {line}");
         assert!(rt; end.written.is_empty(), "at {line}");
@@ -147,7 +154,7 @@ fn each_fault_has_its_status(rt: HostRuntime) -> Result<(), Fail> {
         ("answer 0", tell, 64, b"".as_slice()),
     ];
     for (line, failing, status, told) in table {
-        let end = end_of(alloc, line, b"file".to_vec(alloc)?, failing)?;
+        let end = end_of(alloc, line, OTHER.to_vec(alloc)?, failing)?;
         assert_eq!(rt; end.status, status, "at {line}");
         assert_eq!(rt; end.told.as_slice(), told, "at {line}");
         assert!(rt; end.written.is_empty(), "at {line}");
@@ -159,15 +166,15 @@ fn each_fault_has_its_status(rt: HostRuntime) -> Result<(), Fail> {
 fn an_input_has_a_longest_length(rt: HostRuntime) -> Result<(), Fail> {
     let alloc = rt.alloc();
     let table = [
-        (LIMIT, 13, UNBUILT),
-        (LIMIT + 1, 11, b"input too long\n".as_slice()),
+        (LIMIT, 0, b"".as_slice(), ERROR),
+        (LIMIT + 1, 11, b"input too long\n", b""),
     ];
-    for (len, status, told) in table {
+    for (len, status, told, written) in table {
         let file = vec![in alloc; 0; len]?;
         let end = end_of(alloc, "answer 0 1", file, NOTHING_FAILS)?;
         assert_eq!(rt; end.status, status, "at {len}");
         assert_eq!(rt; end.told.as_slice(), told, "at {len}");
-        assert!(rt; end.written.is_empty(), "at {len}");
+        assert_eq!(rt; end.written.as_slice(), written, "at {len}");
     }
     Ok(())
 }
@@ -183,14 +190,32 @@ fn a_message_is_answered_by_its_receipt(rt: HostRuntime) -> Result<(), Fail> {
 }
 
 #[test]
-fn no_part_of_a_message_is_answered(rt: HostRuntime) -> Result<(), Fail> {
+fn a_message_without_its_last_byte_is_not_answered(rt: HostRuntime) -> Result<(), Fail> {
     let alloc = rt.alloc();
-    for len in [0, 14, FILE.len() - 1] {
-        let file = FILE[..len].to_vec(alloc)?;
-        let end = end_of(alloc, "answer 0 1", file, NOTHING_FAILS)?;
-        assert_eq!(rt; end.status, 13, "at {len}");
-        assert_eq!(rt; end.told.as_slice(), UNBUILT, "at {len}");
-        assert!(rt; end.written.is_empty(), "at {len}");
+    let file = FILE[..FILE.len() - 1].to_vec(alloc)?;
+    let end = end_of(alloc, "answer 0 1", file, NOTHING_FAILS)?;
+    assert_eq!(rt; end.status, 13);
+    assert_eq!(rt; end.told.as_slice(), UNBUILT);
+    assert!(rt; end.written.is_empty());
+    Ok(())
+}
+
+#[test]
+fn an_input_without_a_media_text_is_answered_by_an_error(rt: HostRuntime) -> Result<(), Fail> {
+    let alloc = rt.alloc();
+    let table: [&[u8]; 6] = [
+        b"",
+        b"Content-Type: ",
+        b"Content-Type: \r\n\r\n",
+        b"Content-Type: \r\n\r\nbody",
+        b"content-type: text/xml\r\n\r\n",
+        b"Content-Type: text/xml\r\n",
+    ];
+    for file in table {
+        let end = end_of(alloc, "answer 0 1", file.to_vec(alloc)?, NOTHING_FAILS)?;
+        assert_eq!(rt; end.status, 0, "at {} bytes", file.len());
+        assert_eq!(rt; end.written.as_slice(), ERROR, "at {} bytes", file.len());
+        assert!(rt; end.told.is_empty(), "at {} bytes", file.len());
     }
     Ok(())
 }

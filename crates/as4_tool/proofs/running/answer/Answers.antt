@@ -12,8 +12,8 @@ returns-in-Ok-answer_file-clause-ends g c =
     inl (
       answer,
       told_whole (g.I.Source.left c.args.input.now) (g.I.Source.left c.read_all.new.source) c.in-Ok.file.items
-          (λ file. IsAnswer c.args.stamp c.args.nonce file answer)
-          c.in-Ok.ensures.bytes c.in-Ok.ensures.end is_answer,
+          (λ file. (length file ≤ LIMIT) × IsAnswer c.args.stamp c.args.nonce file answer)
+          c.in-Ok.ensures.bytes c.in-Ok.ensures.end (c.in-Ok.ensures.within, is_answer),
       c.in-Ok.ensures.end,
       c.write.ensures.writes,
     )

@@ -1,11 +1,10 @@
 use Rattle.as4_tool.proofs.AnswerLemmas.{ok_of, never_unbuilt}
-use Rattle.as4_tool.proofs.running.answer_file.Goals as goal
+use Rattle.as4_tool.proofs.answers.answer_file.Goals as goal
 
 pub returns-clause-answers : goal.returns-clause-answers
 returns-clause-answers c =
-    let made = c.in_ok-signal.ensures.answers in
     ok_of _ _ c.file_of.result
-    (λ answer is. (made.0, made.1, c.in_ok-signal.signal, made.2, made.3, is))
+    (λ answer is. (c.in_ok-signal.signal, c.in_ok-signal.ensures.answers, is))
     c.file_of.ensures
 
 pub returns-clause-unbuilt : goal.returns-clause-unbuilt

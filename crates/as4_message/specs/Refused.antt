@@ -1,0 +1,12 @@
+-- What is refused, and by which error code (ebMS 3.0 Core, section 6.7).
+use Rattle.std.specs.Prelude.{◌≡◌, ℕ, List, [], None}
+use Rattle.as4_message.specs.declared.refusal.Refusal.{Refusal}
+use Rattle.as4_message.specs.FileReading.{parts_of}
+
+-- without a media text there is no package: MimeInconsistency
+abbrev pub IsRefused : (media body : List ℕ) → Refusal → Type 0
+IsRefused media body refusal = (media ≡ []) × (refusal.code ≡ 7) × (refusal.about ≡ None)
+
+-- the same of a message file
+abbrev pub IsRefusedFile : List ℕ → Refusal → Type 0
+IsRefusedFile file refusal = IsRefused (parts_of file).0 (parts_of file).1 refusal
