@@ -1,0 +1,5 @@
+pub mod ExitLemmas
+pub mod FileLemmas
+pub mod ListLemmas
+pub mod TableLemmas
+pub mod TextLemmas

@@ -1,0 +1,5 @@
+pub mod ModeFile
+pub mod ModeList
+pub mod ModeParts
+pub mod Values
+pub mod Verdicts

@@ -1,0 +1,60 @@
+//! The keys of a table: those that must be there, and those that may.
+
+ghost use Rattle.std.specs.Prelude.{◌≡◌, IsTrue, Ok, IfOk, IfErr, IfSome};
+ghost use Rattle.toml.specs.View.{table_view};
+ghost use Rattle.as4_values.specs.ModeRanges.{is_short};
+ghost use Rattle.pmodes.specs.Verdicts.{in_range, needed_text, optional_text, Refuses};
+
+use crate::fault::Fault;
+use crate::refusal::Key;
+use crate::values::{text_of, value_at};
+use as4_values::Text;
+use std::alloc::Global;
+use toml::Table;
+
+/// The value of a key, where it is in range.
+pub fn in_range<T>(key: Key, read: Option<T>) -> Result<T, Fault>
+    ensures { result ≡ in_range key read }
+{
+    match read {
+        Some(value) => Ok(value),
+        None => Err(Fault::Range(key)),
+    }
+}
+
+/// A text that must be there.
+#[tactic(auto, unfolding(crate::specs::Verdicts::needed_text))]
+pub fn needed_text(alloc: Global, table: &Table, name: &str, key: Key) -> Result<Text, Fault>
+    ensures found { IfOk result (λ text. needed_text key name.now (table_view table.now) ≡ Ok text) }
+    ensures refused { IfErr result (Refuses (needed_text key name.now (table_view table.now))) }
+    ensures short { IfOk result (λ text. IsTrue (is_short text)) }
+{
+    let Some(value) = value_at(table, name) else {
+        return Err(Fault::Missing(key));
+    };
+    match text_of(alloc, value)? {
+        Some(text) => Ok(text),
+        None => Err(Fault::Range(key)),
+    }
+}
+
+/// A text that may be there.
+#[tactic(auto, unfolding(crate::specs::Verdicts::optional_text))]
+pub fn optional_text(
+    alloc: Global,
+    table: &Table,
+    name: &str,
+    key: Key,
+) -> Result<Option<Text>, Fault>
+    ensures found { IfOk result (λ text. optional_text key name.now (table_view table.now) ≡ Ok text) }
+    ensures refused { IfErr result (Refuses (optional_text key name.now (table_view table.now))) }
+    ensures short { IfOk result (λ text. IfSome text (λ text. IsTrue (is_short text))) }
+{
+    let Some(value) = value_at(table, name) else {
+        return Ok(None);
+    };
+    match text_of(alloc, value)? {
+        Some(text) => Ok(Some(text)),
+        None => Err(Fault::Range(key)),
+    }
+}

@@ -1,0 +1,20 @@
+//! Processing modes (P-Modes, ebMS 3.0 Core, section 4 and appendix D): read from a TOML file, and the match.
+#![tactic(auto)]
+
+mod business;
+mod fault;
+mod fields;
+mod lookup;
+mod matching;
+mod modes;
+mod parts;
+mod reading;
+mod refusal;
+mod sending;
+mod sides;
+#[cfg(test)]
+mod tests;
+mod values;
+
+pub use modes::{MAX_MODES, Modes};
+pub use refusal::{Key, ModeRefusal};
