@@ -78,7 +78,8 @@ fn is_behind_host(rest: &[u8]) -> bool
 {
     match rest {
         [] => true,
-        [first, rest @ ..] => *first == b'/' || (*first == b':' && is_port(&rest[..port_len(rest)])),
+        [first, rest @ ..] => *first == b'/'
+            || (*first == b':' && is_port(&rest[..port_len(rest)])),
     }
 }
 
