@@ -3,7 +3,7 @@
 ghost use Rattle.std.specs.Prelude.{◌≡◌, IsTrue, Ok, IfOk, IfErr, IfSome};
 ghost use Rattle.toml.specs.View.{table_view};
 ghost use Rattle.as4_values.specs.ModeRanges.{is_short};
-ghost use Rattle.pmodes.specs.Verdicts.{in_range, needed_text, optional_text, Refuses};
+ghost use Rattle.pmodes.specs.Verdicts.{needed_text, optional_text, Refuses};
 
 use crate::fault::Fault;
 use crate::refusal::Key;
@@ -11,16 +11,6 @@ use crate::values::{text_of, value_at};
 use as4_values::Text;
 use std::alloc::Global;
 use toml::Table;
-
-/// The value of a key, where it is in range.
-pub fn in_range<T>(key: Key, read: Option<T>) -> Result<T, Fault>
-    ensures { result ≡ in_range key read }
-{
-    match read {
-        Some(value) => Ok(value),
-        None => Err(Fault::Range(key)),
-    }
-}
 
 /// A text that must be there.
 #[tactic(auto, unfolding(crate::specs::Verdicts::needed_text))]

@@ -1,0 +1,29 @@
+ghost use Rattle.std.specs.Prelude.{IsTrue};
+ghost use Rattle.as4_effects.specs.Pairing.{pair};
+ghost use Rattle.as4_effects.specs.Sound.{delivered_body, fits_an_effect};
+
+use as4_values::{NoMemory, Payload, PlainData, Seq, UserHeader};
+use std::alloc::Global;
+
+/// A user message that came and stands in the inbox.
+#[derive(Drop)]
+pub struct Delivery {
+    pub header: UserHeader,
+    /// In the order of the package; each is named by one part info.
+    pub payloads: Seq<Payload>,
+    pub ghost paired: { IsTrue (pair header.parts payloads) },
+    pub ghost fits: { IsTrue (fits_an_effect (delivered_body header payloads)) },
+}
+
+impl PlainData for Delivery {
+    fn try_clone(&self, alloc: Global) -> Result<Delivery, NoMemory> {
+        Ok(Delivery {
+            header: self.header.try_clone(alloc)?,
+            payloads: self.payloads.try_clone(alloc)?,
+        })
+    }
+
+    fn same(&self, other: &Delivery) -> bool {
+        self.header.same(&other.header) && self.payloads.same(&other.payloads)
+    }
+}

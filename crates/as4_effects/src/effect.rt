@@ -1,0 +1,81 @@
+ghost use Rattle.std.specs.Prelude.{◌≤◌};
+
+use crate::delivery::Delivery;
+use crate::submission::Submission;
+use as4_values::{Code, NoMemory, PlainData};
+use std::alloc::Global;
+
+/// The clock was set.
+#[derive(Drop)]
+pub struct Tick {
+    /// In milliseconds since 1970, before the year 10,000.
+    pub moment: u64,
+    pub ghost dated: { moment ≤ 253402300799999 },
+}
+
+/// One change at one end of an exchange.
+#[derive(Drop)]
+pub enum Effect {
+    /// A message was handed in to be sent.
+    Submitted(Submission),
+    /// The clock was set.
+    Ticked(Tick),
+    /// The submission of this number was sent once more.
+    Tried { number: u64 },
+    /// A message came.
+    Delivered(Delivery),
+    /// The receipt for the submission of this number came (ebMS 3.0 Core, section 5.2.3.3).
+    Receipted { number: u64 },
+    /// An error for the submission of this number came, and it is given up (ebMS 3.0 Core, section 6).
+    Refused { number: u64, code: Code },
+    /// The messages that came up to this one, counted from 0, were taken over.
+    Confirmed { upto: u64 },
+}
+
+impl PlainData for Tick {
+    fn try_clone(&self, _alloc: Global) -> Result<Tick, NoMemory> {
+        Ok(Tick {
+            moment: self.moment,
+        })
+    }
+
+    fn same(&self, other: &Tick) -> bool {
+        self.moment == other.moment
+    }
+}
+
+impl PlainData for Effect {
+    fn try_clone(&self, alloc: Global) -> Result<Effect, NoMemory> {
+        match self {
+            Effect::Submitted(submission) => Ok(Effect::Submitted(submission.try_clone(alloc)?)),
+            Effect::Ticked(tick) => Ok(Effect::Ticked(tick.try_clone(alloc)?)),
+            Effect::Tried { number } => Ok(Effect::Tried { number: *number }),
+            Effect::Delivered(delivery) => Ok(Effect::Delivered(delivery.try_clone(alloc)?)),
+            Effect::Receipted { number } => Ok(Effect::Receipted { number: *number }),
+            Effect::Refused { number, code } => Ok(Effect::Refused {
+                number: *number,
+                code: code.try_clone(alloc)?,
+            }),
+            Effect::Confirmed { upto } => Ok(Effect::Confirmed { upto: *upto }),
+        }
+    }
+
+    fn same(&self, other: &Effect) -> bool {
+        match (self, other) {
+            (Effect::Submitted(submission), Effect::Submitted(other)) => submission.same(other),
+            (Effect::Ticked(tick), Effect::Ticked(other)) => tick.same(other),
+            (Effect::Tried { number }, Effect::Tried { number: other }) => number == other,
+            (Effect::Delivered(delivery), Effect::Delivered(other)) => delivery.same(other),
+            (Effect::Receipted { number }, Effect::Receipted { number: other }) => number == other,
+            (
+                Effect::Refused { number, code },
+                Effect::Refused {
+                    number: other_number,
+                    code: other_code,
+                },
+            ) => number == other_number && code.same(other_code),
+            (Effect::Confirmed { upto }, Effect::Confirmed { upto: other }) => upto == other,
+            _ => false,
+        }
+    }
+}

@@ -1,0 +1,21 @@
+//! Effects: what an event changes at one end of an exchange of messages, and the bytes that a record of it has.
+#![tactic(auto)]
+
+mod delivery;
+mod effect;
+mod measured;
+mod named;
+mod pairing;
+mod queue;
+mod sound;
+mod submission;
+#[cfg(test)]
+mod tests;
+
+pub use delivery::Delivery;
+pub use effect::{Effect, Tick};
+pub use measured::Measured;
+pub use pairing::pairs;
+pub use queue::Queue;
+pub use sound::{delivery_fits, is_id_of, is_route, submission_fits};
+pub use submission::Submission;

@@ -1,0 +1,28 @@
+use as4_values::{NoMemory, PlainData, Text};
+use std::alloc::Global;
+
+/// Where submissions wait to be sent.
+#[derive(Drop)]
+pub enum Queue {
+    /// Those that are pushed.
+    Push,
+    /// Those that are pulled from this message partition channel (ebMS 3.0 Core, section 3.4.1).
+    Channel(Text),
+}
+
+impl PlainData for Queue {
+    fn try_clone(&self, alloc: Global) -> Result<Queue, NoMemory> {
+        match self {
+            Queue::Push => Ok(Queue::Push),
+            Queue::Channel(mpc) => Ok(Queue::Channel(mpc.try_clone(alloc)?)),
+        }
+    }
+
+    fn same(&self, other: &Queue) -> bool {
+        match (self, other) {
+            (Queue::Push, Queue::Push) => true,
+            (Queue::Channel(mpc), Queue::Channel(other)) => mpc.same(other),
+            _ => false,
+        }
+    }
+}

@@ -1,0 +1,89 @@
+//! The facts that a submission and a delivery keep, as tests for whoever makes one.
+
+ghost use Rattle.std.specs.Prelude.{◌≡◌, ℕ, ◌≤◌, ◌^◌, IfOk, IfSome, IsNone};
+ghost use Rattle.as4_effects.specs.Sound.{digit_of, number_in, is_id_of, is_route, submitted_body, delivered_body, fits_an_effect};
+
+use crate::measured::Measured;
+use as4_values::{MessageId, NoMemory, Payload, Route, Seq, UserHeader, is_address};
+use std::alloc::Global;
+
+/// How many bytes an effect has at most.
+const MAX_EFFECT: u64 = 536_870_912;
+
+/// How many bytes the identifier of a submission has behind its number.
+const BEHIND_NUMBER: usize = 41;
+
+/// Whether the identifier is that of a submission of this number, by any nonce.
+pub fn is_id_of(alloc: Global, number: u64, id: &MessageId) -> Result<bool, NoMemory>
+    ensures { IfOk result (λ same. same ≡ is_id_of number id.now) }
+{
+    let digits = format!(in alloc; "{number}")?.as_bytes().len();
+    let bytes = id.bytes();
+    if bytes.len() != digits + BEHIND_NUMBER {
+        return Ok(false);
+    }
+    let Some(nonce) = number_in(&bytes[digits + 1..digits + 37]) else {
+        return Ok(false);
+    };
+    let wanted = MessageId::of_submission(alloc, number, nonce)?;
+    Ok(bytes == wanted.bytes())
+}
+
+/// The number that the digits of a UUID's text write, and nothing where it has more than 128 bits.
+#[tactic(auto, using(crate::proofs::NonceLemmas::too_great), unfolding(crate::specs::Sound::number_in))]
+fn number_in(text: &[u8]) -> Option<u128>
+    ensures some { IfSome result (λ number. number ≡ number_in 0 text.now) }
+    ensures none { IsNone result → 2 ^ 128 ≤ number_in 0 text.now }
+{
+    let mut number: u128 = 0;
+    for byte in text {
+        if *byte != b'-' {
+            number = number
+                .checked_mul(16)?
+                .checked_add(digit_of(*byte) as u128)?;
+        }
+    }
+    Some(number)
+}
+
+/// The value of a hexadecimal digit in small letters.
+fn digit_of(byte: u8) -> u8
+    ensures { result ≡ digit_of byte }
+{
+    if byte >= b'a' {
+        byte - 87
+    } else {
+        byte.saturating_sub(48)
+    }
+}
+
+/// Whether the address of the route is one.
+#[tactic(auto, unfolding(crate::specs::Sound::is_route))]
+pub fn is_route(route: &Route) -> bool
+    ensures { result ≡ is_route route.now }
+{
+    match route {
+        Route::Push { address } => is_address(address),
+        Route::Pull { address, .. } => is_address(address),
+    }
+}
+
+/// Whether a submission of these fits an effect, whatever its numbers are.
+#[tactic(auto, using(crate::proofs::LengthLemmas::grown_append, crate::proofs::LengthLemmas::grown_cons, crate::proofs::LengthLemmas::grown_number, crate::proofs::LengthLemmas::fits_by_length))]
+pub fn submission_fits(header: &UserHeader, payloads: &Seq<Payload>, route: &Route) -> bool
+    ensures { (number retries period moment : ℕ)
+        → result ≡ fits_an_effect (submitted_body number header.now payloads.now route.now retries period moment) }
+{
+    let len = header.add_len(9);
+    let len = payloads.add_len(len);
+    let len = route.add_len(len).saturating_add(20);
+    len <= MAX_EFFECT
+}
+
+/// Whether a delivery of these fits an effect.
+#[tactic(auto, using(crate::proofs::LengthLemmas::grown_append, crate::proofs::LengthLemmas::grown_cons, crate::proofs::LengthLemmas::fits_by_length))]
+pub fn delivery_fits(header: &UserHeader, payloads: &Seq<Payload>) -> bool
+    ensures { result ≡ fits_an_effect (delivered_body header.now payloads.now) }
+{
+    payloads.add_len(header.add_len(1)) <= MAX_EFFECT
+}
