@@ -1,0 +1,11 @@
+pub mod BodyLemmas
+pub mod EffectReading
+pub mod HeaderReading
+pub mod MessageReading
+pub mod NumberLemmas
+pub mod OneBody
+pub mod PayloadReading
+pub mod RecordReading
+pub mod Refusals
+pub mod UserHeaderReading
+pub mod ValueReading

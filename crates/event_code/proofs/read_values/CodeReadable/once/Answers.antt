@@ -1,0 +1,6 @@
+use Rattle.event_code.proofs.ValueReading.{words_once}
+use Rattle.as4_values.specs.declared.word.Word.TheVariants.{ErrorCode}
+use Rattle.event_code.proofs.read_values.CodeReadable.once.Goals as goal
+
+pub returns : goal.returns
+returns c = words_once ErrorCode

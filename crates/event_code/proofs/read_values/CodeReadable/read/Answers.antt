@@ -1,0 +1,10 @@
+use Rattle.as4_values.specs.Word.{IsWord}
+use Rattle.as4_values.specs.declared.word.Word.TheVariants.{ErrorCode}
+use Rattle.event_code.proofs.ValueReading.{octets_refused, word_counted}
+use Rattle.event_code.proofs.read_values.CodeReadable.read.Goals as goal
+
+pub returns-in-Err-BadId-clause-not_body : goal.returns-in-Err-BadId-clause-not_body
+returns-in-Err-BadId-clause-not_body c = λ _.
+    let octets = c.in_ok-take_octets.ensures.found in
+    octets_refused (IsWord ErrorCode) c.in_ok-take_octets.field-0.now c.args.rest.now c.take_octets.new.self (word_counted ErrorCode) octets.0 octets.1
+    (λ is. let no = c.in-Err-BadId.ensures.only is in cc)

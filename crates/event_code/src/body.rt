@@ -1,0 +1,83 @@
+//! The body of a record: the count of its effects and then each of them.
+
+ghost use Rattle.std.specs.Prelude.{◌≡◌, ◌≤◌, [], ◌∷◌, length, IfOk};
+ghost use Rattle.as4_effects.specs.Bodies.{number_body};
+ghost use Rattle.as4_effects.specs.Effects.{effect_body, effects_body, effects_limit};
+ghost use Rattle.as4_effects.specs.Sound.{effect_limit};
+ghost use Rattle.as4_effects.specs.declared.effect.Tick.{Tick};
+ghost use Rattle.as4_effects.specs.declared.effect.Effect.TheVariants.{Ticked, Confirmed};
+
+use crate::written::{Written, push_all, push_number};
+use as4_effects::{Effect, Measured};
+use as4_values::{NoMemory, Octets, Seq};
+use std::alloc::Global;
+
+/// How many bytes an effect has.
+#[tactic(auto, using(crate::proofs::BodyLemmas::counted_exactly, crate::proofs::BodyLemmas::counted_within, crate::proofs::BodyLemmas::refused_length, as4_effects::proofs::LengthLemmas::number_length), unfolding(as4_effects::specs::Effects::effect_body))]
+fn effect_len(effect: &Effect) -> u64
+    ensures exact { result ≡ length (effect_body effect.now) }
+    ensures limited { result ≤ effect_limit }
+{
+    match effect {
+        Effect::Submitted(submission) => submission.add_len(0),
+        Effect::Delivered(delivery) => delivery.add_len(0),
+        Effect::Refused { code, .. } => 13 + code.bytes().len() as u64,
+        Effect::Ticked(_) => 9,
+        Effect::Tried { .. } => 9,
+        Effect::Receipted { .. } => 9,
+        Effect::Confirmed { .. } => 9,
+    }
+}
+
+/// How many bytes the body of these effects has.
+#[tactic(auto, using(crate::proofs::BodyLemmas::more_length, crate::proofs::BodyLemmas::body_length))]
+pub fn body_len(effects: &Seq<Effect>) -> u64
+    requires { length effects.now ≤ effects_limit }
+    ensures { result ≡ length (effects_body effects.now) }
+{
+    let mut len = 2;
+    for effect in effects.items() {
+        len += effect_len(effect);
+    }
+    len
+}
+
+/// The body of one tick to this moment.
+#[tactic(auto, unfolding(as4_effects::specs::Effects::effect_body, as4_effects::specs::Effects::effects_body, as4_effects::specs::Bodies::number_body))]
+pub fn tick_body(moment: u64) -> [u8; 11]
+    requires { moment ≤ 253402300799999 }
+    ensures { (tick : Tick) → tick.moment ≡ moment → result ≡ effects_body (Ticked tick ∷ []) }
+{
+    body_of_number(2, moment)
+}
+
+/// The body of one effect that says up to where messages were taken over.
+#[tactic(auto, unfolding(as4_effects::specs::Effects::effect_body, as4_effects::specs::Effects::effects_body, as4_effects::specs::Bodies::number_body))]
+pub fn confirm_body(upto: u64) -> [u8; 11]
+    ensures { result ≡ effects_body (Confirmed upto ∷ []) }
+{
+    body_of_number(7, upto)
+}
+
+/// The body of one effect of this kind, that has but a number.
+#[tactic(auto, using(crate::proofs::NumberLemmas::eight_bytes))]
+fn body_of_number(kind: u8, number: u64) -> [u8; 11]
+    ensures { result ≡ 0 ∷ 1 ∷ kind ∷ number_body 8 number }
+{
+    let [a, b, c, d, e, f, g, h] = number.to_be_bytes();
+    [0, 1, kind, a, b, c, d, e, f, g, h]
+}
+
+/// Writes the body of these effects.
+#[tactic(auto, unfolding(as4_effects::specs::Effects::effects_body))]
+pub fn write_body(alloc: Global, effects: &Seq<Effect>) -> Result<Octets, NoMemory>
+    requires some { 1 ≤ length effects.now }
+    requires counted { length effects.now ≤ effects_limit }
+    requires limited { length (effects_body effects.now) ≤ 1073741824 }
+    ensures { IfOk result (λ body. body ≡ effects_body effects.now) }
+{
+    let mut out = Vec::with_capacity(alloc, body_len(effects) as usize)?;
+    push_number(&mut out, 2, effects.items().len() as u64)?;
+    push_all(&mut out, effects.items())?;
+    Ok(Octets::of(out))
+}

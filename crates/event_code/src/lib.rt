@@ -1,0 +1,22 @@
+//! The bytes of a record: how long they are, writing them, and reading them back.
+#![tactic(auto)]
+
+mod body;
+mod media;
+mod read_effect;
+mod read_header;
+mod read_payload;
+mod read_user_header;
+mod read_values;
+mod reading;
+mod record;
+mod refusal;
+mod rest;
+#[cfg(test)]
+mod tests;
+mod whole;
+mod written;
+
+pub use body::{body_len, confirm_body, tick_body, write_body};
+pub use record::{one_body, read_body};
+pub use refusal::BodyRefusal;

@@ -1,0 +1,123 @@
+//! Reading values off the front of bytes, each as `as4_effects` says that its bytes are.
+
+ghost use Rattle.std.specs.Prelude.{◌≡◌, ℕ, ◌≤◌, ◌<◌, ◌^◌, ◌++◌, List, length, IfOk, IfErr, IfSome};
+ghost use Rattle.std.specs.List.{flat_map};
+ghost use Rattle.as4_effects.specs.Bodies.{number_body, option_body, list_body};
+ghost use Rattle.event_code.specs.Reading.{IsPair, pair_body, IsList, Each, Once, Refuses};
+
+use crate::refusal::BodyRefusal;
+use crate::rest::Rest;
+use as4_values::Seq;
+use std::alloc::Global;
+
+/// What is read from a body.
+pub trait Readable: Drop {
+    /// Its bytes.
+    ghost body: { Self → List ℕ };
+
+    /// What holds of each value of the type.
+    ghost is_one: { Self → Type 0 };
+
+    /// Reads a value off the front.
+    fn read(alloc: Global, rest: &mut Rest) -> Result<Self, BodyRefusal>
+        ensures found { IfOk result (λ value. is_one value × (rest.old ≡ body value ++ rest.new)) }
+        ensures not_body { IfErr result (λ e. e ≡ BodyRefusal.NotBody → Refuses is_one body rest.old) };
+
+    /// No bytes begin with two values.
+    fn once()
+        ensures { Once is_one body };
+}
+
+impl Readable for u32 {
+    ghost body = { number_body 4 };
+
+    ghost is_one = { λ number. number < 256 ^ 4 };
+
+    fn read(_alloc: Global, rest: &mut Rest) -> Result<u32, BodyRefusal> {
+        Ok(rest.take_number(4)? as u32)
+    }
+
+    fn once() {}
+}
+
+impl Readable for u64 {
+    ghost body = { number_body 8 };
+
+    ghost is_one = { λ number. number < 256 ^ 8 };
+
+    fn read(_alloc: Global, rest: &mut Rest) -> Result<u64, BodyRefusal> {
+        rest.take_number(8)
+    }
+
+    fn once() {}
+}
+
+impl<A: Readable, B: Readable> Readable for (A, B) {
+    ghost body = { pair_body A.body B.body };
+
+    ghost is_one = { IsPair A.is_one B.is_one };
+
+    fn read(alloc: Global, rest: &mut Rest) -> Result<(A, B), BodyRefusal> {
+        let first = A::read(alloc, rest)?;
+        A::once();
+        let second = B::read(alloc, rest)?;
+        Ok((first, second))
+    }
+
+    fn once() {
+        A::once();
+        B::once();
+    }
+}
+
+impl<T: Readable> Readable for Option<T> {
+    ghost body = { option_body T.body };
+
+    ghost is_one = { λ option. IfSome option T.is_one };
+
+    fn read(alloc: Global, rest: &mut Rest) -> Result<Option<T>, BodyRefusal> {
+        match rest.take_byte()? {
+            0 => Ok(None),
+            1 => Ok(Some(T::read(alloc, rest)?)),
+            _ => Err(BodyRefusal::NotBody),
+        }
+    }
+
+    fn once() {
+        T::once();
+    }
+}
+
+impl<T: Readable> Readable for Seq<T> {
+    ghost body = { list_body T.body };
+
+    ghost is_one = { IsList T.is_one };
+
+    fn read(alloc: Global, rest: &mut Rest) -> Result<Seq<T>, BodyRefusal> {
+        let count = rest.take_number(4)?;
+        Ok(Seq::of(read_items(alloc, rest, count)?))
+    }
+
+    fn once() {
+        T::once();
+    }
+}
+
+/// Reads so many values, one behind the other.
+pub fn read_items<T: Readable>(
+    alloc: Global,
+    rest: &mut Rest,
+    count: u64,
+) -> Result<Vec<T>, BodyRefusal>
+    ensures found { IfOk result (λ items. (length items.items ≡ count) × Each T.is_one items.items
+        × (rest.old ≡ flat_map T.body items.items ++ rest.new)) }
+    ensures not_body { IfErr result (λ e. e ≡ BodyRefusal.NotBody
+        → Refuses (λ items. (length items ≡ count) × Each T.is_one items) (flat_map T.body) rest.old) }
+{
+    T::once();
+    let mut items = Vec::new(alloc);
+    for _ in 0..count {
+        items.push(T::read(alloc, rest)?)?;
+    }
+    Ok(items)
+}

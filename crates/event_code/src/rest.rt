@@ -1,0 +1,92 @@
+//! The bytes that are still to be read, and numbers and octets off their front.
+
+ghost use Rattle.std.specs.Prelude.{◌≡◌, ℕ, ◌<◌, ◌≤◌, ◌==◌, ◌^◌, ◌++◌, ◌∷◌, [], List, length, IfOk, OnErr};
+ghost use Rattle.as4_effects.specs.Bodies.{number_body, text_body};
+ghost use Rattle.event_code.specs.Reading.{IsCounted, Refuses};
+
+use crate::refusal::BodyRefusal;
+use std::marker::Model;
+
+/// The bytes that are still to be read.
+#[derive(Drop)]
+pub struct Rest<'a> {
+    bytes: &'a [u8],
+}
+
+impl<'a> Model for Rest<'a> {
+    ghost Value = { List ℕ };
+
+    ghost view = { λ rest. rest.bytes.now };
+}
+
+impl<'a> Rest<'a> {
+    pub fn of(bytes: &'a [u8]) -> Rest<'a>
+        ensures { result ≡ bytes.now }
+    {
+        Rest { bytes }
+    }
+
+    pub fn is_empty(&self) -> bool
+        ensures { result ≡ (length self.now == 0) }
+    {
+        self.bytes.is_empty()
+    }
+
+    /// Takes so many bytes off the front.
+    fn take(&mut self, len: usize) -> Result<&'a [u8], BodyRefusal>
+        ensures found { IfOk result (λ front. (length front.now ≡ len) × (self.old ≡ front.now ++ self.new)) }
+        ensures short { OnErr result (length self.old < len) }
+    {
+        let bytes = self.bytes;
+        if bytes.len() < len {
+            return Err(BodyRefusal::NotBody);
+        }
+        self.bytes = &bytes[len..];
+        Ok(&bytes[..len])
+    }
+
+    /// Takes one byte.
+    pub fn take_byte(&mut self) -> Result<u8, BodyRefusal>
+        ensures found { IfOk result (λ byte. self.old ≡ byte ∷ self.new) }
+        ensures short { OnErr result (self.old ≡ []) }
+    {
+        let bytes = self.bytes;
+        let Some((byte, rest)) = bytes.split_first() else {
+            return Err(BodyRefusal::NotBody);
+        };
+        self.bytes = rest;
+        Ok(*byte)
+    }
+
+    /// Takes a number of so many bytes, the highest first.
+    pub fn take_number(&mut self, places: usize) -> Result<u64, BodyRefusal>
+        requires { places ≤ 8 }
+        ensures found { IfOk result (λ number. (number < 256 ^ places) × (self.old ≡ number_body places number ++ self.new)) }
+        ensures short { OnErr result (length self.old < places) }
+    {
+        Ok(number_of(self.take(places)?))
+    }
+
+    /// Takes the bytes behind their count.
+    pub fn take_octets(&mut self) -> Result<&'a [u8], BodyRefusal>
+        ensures found { IfOk result (λ octets. IsCounted octets.now × (self.old ≡ text_body octets.now ++ self.new)) }
+        ensures not_body { OnErr result (Refuses IsCounted text_body self.old) }
+    {
+        let len = self.take_number(4)?;
+        let octets = self.take(len as usize)?;
+        Ok(octets)
+    }
+}
+
+/// The number that stands in these bytes, the highest first.
+fn number_of(bytes: &[u8]) -> u64
+    requires { length bytes.now ≤ 8 }
+    ensures within { result < 256 ^ length bytes.now }
+    ensures body { number_body (length bytes.now) result ≡ bytes.now }
+{
+    let mut number = 0;
+    for byte in bytes {
+        number = number * 256 + *byte as u64;
+    }
+    number
+}

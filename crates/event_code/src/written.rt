@@ -1,0 +1,229 @@
+//! Writes values as they stand in the body of an effect.
+#![tactic(auto, unfolding(as4_effects::specs::Bodies::text_body, as4_effects::specs::Bodies::party_body, as4_effects::specs::Bodies::side_body, as4_effects::specs::Bodies::agreement_body, as4_effects::specs::Bodies::service_body, as4_effects::specs::Bodies::property_body, as4_effects::specs::Bodies::part_body, as4_effects::specs::Bodies::header_body, as4_effects::specs::Bodies::payload_body, as4_effects::specs::Bodies::route_body, as4_effects::specs::Effects::effect_body))]
+
+ghost use Rattle.std.specs.Prelude.{◌≡◌, ◌∷◌, ◌++◌, ◌≤◌, OnOk};
+ghost use Rattle.std.specs.List.{flat_map};
+ghost use Rattle.as4_effects.specs.Bodies.{number_body, text_body};
+
+use as4_effects::{Delivery, Effect, Measured, Submission};
+use as4_values::{
+    Agreement, Code, MessageId, NoMemory, Octets, PartInfo, Party, Payload, Property, Route, Seq,
+    Service, Side, StampText, Text, UserHeader,
+};
+
+/// What is written into a body.
+pub trait Written: Measured {
+    /// Adds the bytes.
+    fn push_to(&self, out: &mut Vec<u8>) -> Result<(), NoMemory>
+        ensures { OnOk result (out.new.items ≡ out.old.items ++ Self.body self.now) };
+}
+
+/// Adds a number in so many bytes, big endian.
+#[tactic(auto, using(crate::proofs::NumberLemmas::last_places))]
+pub fn push_number(out: &mut Vec<u8>, places: usize, number: u64) -> Result<(), NoMemory>
+    requires { places ≤ 8 }
+    ensures { OnOk result (out.new.items ≡ out.old.items ++ number_body places number) }
+{
+    out.extend_from_slice(&number.to_be_bytes()[8 - places..])?;
+    Ok(())
+}
+
+/// Adds a text behind its length.
+fn push_text(out: &mut Vec<u8>, text: &[u8]) -> Result<(), NoMemory>
+    ensures { OnOk result (out.new.items ≡ out.old.items ++ text_body text.now) }
+{
+    push_number(out, 4, text.len() as u64)?;
+    out.extend_from_slice(text)?;
+    Ok(())
+}
+
+/// Adds the bytes of all items, in order.
+pub fn push_all<T: Written>(out: &mut Vec<u8>, items: &[T]) -> Result<(), NoMemory>
+    ensures { OnOk result (out.new.items ≡ out.old.items ++ flat_map T.body items.now) }
+{
+    for item in items {
+        item.push_to(out)?;
+    }
+    Ok(())
+}
+
+impl Written for Text {
+    fn push_to(&self, out: &mut Vec<u8>) -> Result<(), NoMemory> {
+        push_text(out, self.bytes())
+    }
+}
+
+impl Written for MessageId {
+    fn push_to(&self, out: &mut Vec<u8>) -> Result<(), NoMemory> {
+        push_text(out, self.bytes())
+    }
+}
+
+impl Written for StampText {
+    fn push_to(&self, out: &mut Vec<u8>) -> Result<(), NoMemory> {
+        push_text(out, self.bytes())
+    }
+}
+
+impl Written for Code {
+    fn push_to(&self, out: &mut Vec<u8>) -> Result<(), NoMemory> {
+        push_text(out, self.bytes())
+    }
+}
+
+impl Written for Octets {
+    fn push_to(&self, out: &mut Vec<u8>) -> Result<(), NoMemory> {
+        push_text(out, self.bytes())
+    }
+}
+
+impl<T: Written> Written for Option<T> {
+    fn push_to(&self, out: &mut Vec<u8>) -> Result<(), NoMemory> {
+        match self {
+            None => out.push(0)?,
+            Some(value) => {
+                out.push(1)?;
+                value.push_to(out)?;
+            }
+        }
+        Ok(())
+    }
+}
+
+impl<T: Written> Written for Seq<T> {
+    fn push_to(&self, out: &mut Vec<u8>) -> Result<(), NoMemory> {
+        push_number(out, 4, self.items().len() as u64)?;
+        push_all(out, self.items())
+    }
+}
+
+impl Written for Party {
+    fn push_to(&self, out: &mut Vec<u8>) -> Result<(), NoMemory> {
+        self.id.push_to(out)?;
+        self.kind.push_to(out)
+    }
+}
+
+impl Written for Side {
+    fn push_to(&self, out: &mut Vec<u8>) -> Result<(), NoMemory> {
+        self.parties.push_to(out)?;
+        self.role.push_to(out)
+    }
+}
+
+impl Written for Agreement {
+    fn push_to(&self, out: &mut Vec<u8>) -> Result<(), NoMemory> {
+        self.value.push_to(out)?;
+        self.kind.push_to(out)?;
+        self.pmode.push_to(out)
+    }
+}
+
+impl Written for Service {
+    fn push_to(&self, out: &mut Vec<u8>) -> Result<(), NoMemory> {
+        self.value.push_to(out)?;
+        self.kind.push_to(out)
+    }
+}
+
+impl Written for Property {
+    fn push_to(&self, out: &mut Vec<u8>) -> Result<(), NoMemory> {
+        self.name.push_to(out)?;
+        self.kind.push_to(out)?;
+        self.value.push_to(out)
+    }
+}
+
+impl Written for PartInfo {
+    fn push_to(&self, out: &mut Vec<u8>) -> Result<(), NoMemory> {
+        self.href.push_to(out)?;
+        self.properties.push_to(out)
+    }
+}
+
+impl Written for UserHeader {
+    fn push_to(&self, out: &mut Vec<u8>) -> Result<(), NoMemory> {
+        self.mpc.push_to(out)?;
+        self.stamp.push_to(out)?;
+        self.id.push_to(out)?;
+        self.ref_to.push_to(out)?;
+        self.from.push_to(out)?;
+        self.to.push_to(out)?;
+        self.agreement.push_to(out)?;
+        self.service.push_to(out)?;
+        self.action.push_to(out)?;
+        self.conversation.push_to(out)?;
+        self.properties.push_to(out)?;
+        self.parts.push_to(out)
+    }
+}
+
+impl Written for Payload {
+    fn push_to(&self, out: &mut Vec<u8>) -> Result<(), NoMemory> {
+        self.cid.push_to(out)?;
+        self.media.push_to(out)?;
+        self.content.push_to(out)
+    }
+}
+
+impl Written for Route {
+    fn push_to(&self, out: &mut Vec<u8>) -> Result<(), NoMemory> {
+        match self {
+            Route::Push { address } => {
+                out.push(0)?;
+                address.push_to(out)
+            }
+            Route::Pull { mpc, address } => {
+                out.push(1)?;
+                mpc.push_to(out)?;
+                address.push_to(out)
+            }
+        }
+    }
+}
+
+impl Written for Submission {
+    fn push_to(&self, out: &mut Vec<u8>) -> Result<(), NoMemory> {
+        out.push(1)?;
+        push_number(out, 8, self.number)?;
+        self.header.push_to(out)?;
+        self.payloads.push_to(out)?;
+        self.route.push_to(out)?;
+        push_number(out, 4, self.retries as u64)?;
+        push_number(out, 8, self.period)?;
+        push_number(out, 8, self.moment)
+    }
+}
+
+impl Written for Delivery {
+    fn push_to(&self, out: &mut Vec<u8>) -> Result<(), NoMemory> {
+        out.push(4)?;
+        self.header.push_to(out)?;
+        self.payloads.push_to(out)
+    }
+}
+
+/// Adds an effect that has but a number.
+fn push_numbered(out: &mut Vec<u8>, kind: u8, number: u64) -> Result<(), NoMemory>
+    ensures { OnOk result (out.new.items ≡ out.old.items ++ (kind ∷ number_body 8 number)) }
+{
+    out.push(kind)?;
+    push_number(out, 8, number)
+}
+
+impl Written for Effect {
+    fn push_to(&self, out: &mut Vec<u8>) -> Result<(), NoMemory> {
+        match self {
+            Effect::Submitted(submission) => submission.push_to(out),
+            Effect::Ticked(tick) => push_numbered(out, 2, tick.moment),
+            Effect::Tried { number } => push_numbered(out, 3, *number),
+            Effect::Delivered(delivery) => delivery.push_to(out),
+            Effect::Receipted { number } => push_numbered(out, 5, *number),
+            Effect::Refused { number, code } => {
+                push_numbered(out, 6, *number)?;
+                code.push_to(out)
+            }
+            Effect::Confirmed { upto } => push_numbered(out, 7, *upto),
+        }
+    }
+}
