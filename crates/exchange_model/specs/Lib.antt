@@ -1,2 +1,14 @@
+pub mod Alone
+pub mod Apply
+pub mod Coming
+pub mod DeliveredOnce
+pub mod End
 pub mod ErrorCodes
+pub mod Least
+pub mod LosslessRound
+pub mod Questions
+pub mod Refusing
 pub mod Signals
+pub mod Submitting
+pub mod Table
+pub mod World

@@ -1,11 +1,11 @@
 -- The signals that answer messages (ebMS 3.0 Core, section 5.2.3; AS4 Profile, section 5.1.8).
-use Rattle.std.specs.Prelude.{◌≡◌, ℕ, List, [], ◌∷◌, Option, Some, option_map}
+use Rattle.std.specs.Prelude.{◌≡◌, ℕ, List, [], ◌∷◌, Option, Some, None, option_map}
 use Rattle.as4_values.specs.Moment.{IsStampOf}
 use Rattle.as4_values.specs.Identifiers.{signal_id}
 use Rattle.as4_values.specs.declared.header.UserHeader.{UserHeader}
 use Rattle.as4_values.specs.declared.signal.Signal.{Signal}
 use Rattle.as4_values.specs.declared.signal_body.SignalBody.TheVariants as body
-use Rattle.exchange_model.specs.ErrorCodes.{ErrorRow, error_row, error_item}
+use Rattle.exchange_model.specs.ErrorCodes.{error_row, error_item}
 
 -- the receipt of a user message, made at the moment `ms` with this nonce: it refers to the message and holds
 -- a copy of its header
@@ -22,3 +22,10 @@ pub record IsErrorSignalOf (code : ℕ) (about : Option (List ℕ)) (ms nonce : 
   pub named : signal.id ≡ signal_id nonce
   pub refers : signal.ref_to ≡ about
   pub tells : option_map (λ row. body.Errors (error_item row about ∷ [])) (error_row code) ≡ Some signal.body
+
+-- the pull request for a channel, made at the moment `ms` with this nonce (ebMS 3.0 Core, section 5.2.3.1)
+pub record IsPullOf (mpc : List ℕ) (ms nonce : ℕ) (signal : Signal) : Type 0 where
+  pub stamped : IsStampOf ms signal.stamp
+  pub named : signal.id ≡ signal_id nonce
+  pub refers : signal.ref_to ≡ None
+  pub asks : signal.body ≡ body.Pull mpc

@@ -1,2 +1,18 @@
-//! What message handlers say to each other: definitions that the handler's functions cite, and laws over them.
+//! An exchange of messages between two ends: the events that an end meets, its replies, and the definitions and laws
+//! that the handler's functions cite.
 #![tactic(auto)]
+
+mod event;
+mod inbox_entry;
+mod outcome;
+mod reply;
+mod sent;
+mod what;
+
+pub use as4_effects::Queue;
+pub use event::Event;
+pub use inbox_entry::InboxEntry;
+pub use outcome::Outcome;
+pub use reply::Reply;
+pub use sent::{Mark, Sent, Standing};
+pub use what::What;

@@ -1,0 +1,85 @@
+-- What effects change at an end, and which effects fit there.
+use Rattle.std.specs.Prelude.{ℕ, suc, ◌+◌, List, [], ◌∷◌, ◌++◌, Bool, true, false, not, ◌&&◌, ◌==◌, nat_lt, nat_le, if◌then◌else◌, Option, Some, None, option_map, length, map, take, drop}
+use Rattle.as4_effects.specs.Effects.{effects_body}
+use Rattle.as4_effects.specs.declared.effect.Effect.{Effect}
+use Rattle.as4_effects.specs.declared.effect.Effect.TheVariants as effect
+use Rattle.as4_effects.specs.declared.submission.Submission.{Submission}
+use Rattle.exchange_model.specs.End.{End}
+use Rattle.exchange_model.specs.Questions.{is_pending, is_waiting, is_spent, is_known, sent_at, sent_of}
+use Rattle.exchange_model.specs.declared.inbox_entry.InboxEntry.{InboxEntry}
+use Rattle.exchange_model.specs.declared.sent.Mark.{Mark}
+use Rattle.exchange_model.specs.declared.sent.Mark.TheVariants as mark
+use Rattle.exchange_model.specs.declared.sent.Sent.{Sent}
+
+-- a submission that wasn't sent yet
+abbrev pub unsent : Submission → Sent
+unsent submission = record { submission = submission; tries = 0; last = 0; mark = mark.Pending }
+
+-- sent once more, at this moment
+abbrev pub tried : ℕ → Sent → Sent
+tried moment s = record s { tries = s.tries + 1; last = moment }
+
+abbrev pub marked : Mark → Sent → Sent
+marked m s = record s { mark = m }
+
+-- given up, where it is spent at this moment
+abbrev pub failed_if_spent : ℕ → Sent → Sent
+failed_if_spent moment s = if is_spent moment s then marked mark.Failed s else s
+
+-- the submission of this number changed, and no other
+unfoldable pub changed : ℕ → (Sent → Sent) → List Sent → List Sent
+changed number change sent = map (λ s. if s.submission.number == number then change s else s) sent
+
+-- the first so many entries without their payloads
+unfoldable pub emptied : ℕ → List InboxEntry → List InboxEntry
+emptied count inbox =
+    map (λ (entry : InboxEntry). record entry { payloads = [] }) (take count inbox) ++ drop count inbox
+
+-- the end after one effect
+unfoldable pub after : Effect → End → End
+after (effect.Submitted submission) end = record end { sent = end.sent ++ unsent submission ∷ [] }
+after (effect.Ticked tick) end =
+    record end { sent = map (failed_if_spent tick.moment) end.sent; moment = tick.moment }
+after (effect.Tried number) end = record end { sent = changed number (tried end.moment) end.sent }
+after (effect.Delivered delivery) end =
+    record end { inbox = end.inbox ++ record { header = delivery.header; payloads = delivery.payloads } ∷ [] }
+after (effect.Receipted number) end = record end { sent = changed number (marked mark.Receipted) end.sent }
+after (effect.Refused number code) end = record end { sent = changed number (marked (mark.Refused code)) end.sent }
+after (effect.Confirmed upto) end =
+    record end { inbox = emptied (upto + 1) end.inbox; confirmed = upto + 1 }
+
+abbrev pub after_all : List Effect → End → End
+after_all [] end = end
+after_all (e ∷ effects) end = after_all effects (after e end)
+
+-- how many bytes the record of these effects takes
+unfoldable pub record_len : List Effect → ℕ
+record_len effects = length (effects_body effects) + 5
+
+-- the end after the record of these effects; where there are none there is no record
+unfoldable pub applied : List Effect → End → End
+applied [] end = end
+applied (e ∷ effects) end =
+    let new = after_all (e ∷ effects) end in record new { size = new.size + record_len (e ∷ effects) }
+
+-- the submission of this number is there, and is such a one
+abbrev pub is_one : (Sent → Bool) → Option Sent → Bool
+is_one test None = false
+is_one test (Some s) = test s
+
+-- an effect that can stand at an end
+unfoldable pub is_fit : Effect → End → Bool
+is_fit (effect.Submitted submission) end =
+    (submission.number == length end.sent) && not (is_one (λ s. true) (sent_of submission.header.id end.sent))
+is_fit (effect.Ticked tick) end = nat_lt end.moment tick.moment
+is_fit (effect.Tried number) end = is_one is_waiting (sent_at number end.sent)
+is_fit (effect.Delivered delivery) end = not (is_known delivery.header.id end.inbox)
+is_fit (effect.Receipted number) end = is_one is_pending (sent_at number end.sent)
+is_fit (effect.Refused number code) end = is_one is_pending (sent_at number end.sent)
+is_fit (effect.Confirmed upto) end = nat_le end.confirmed upto && nat_lt upto (length end.inbox)
+
+-- the place of the first that doesn't fit where those before it have made their changes
+abbrev pub first_unfit : List Effect → End → Option ℕ
+first_unfit [] end = None
+first_unfit (e ∷ effects) end =
+    if is_fit e end then option_map suc (first_unfit effects (after e end)) else Some 0

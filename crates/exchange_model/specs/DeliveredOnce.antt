@@ -1,0 +1,35 @@
+-- What the exchange promises to two businesses (AS4 Profile, section 3.2, reception awareness): each message is
+-- delivered once.
+use Rattle.std.specs.Prelude.{◌≡◌, ◌≢◌, ℕ, ◌+◌, ◌≤◌, Some, map, slice_get}
+use Rattle.std.specs.List.{AllPairs, Contains, count_by}
+use Rattle.std.specs.Str.{bytes_eq}
+use Rattle.exchange_model.specs.End.{End}
+use Rattle.exchange_model.specs.Questions.{sent_of}
+use Rattle.exchange_model.specs.World.{World}
+use Rattle.exchange_model.specs.declared.inbox_entry.InboxEntry.{InboxEntry}
+use Rattle.exchange_model.specs.declared.sent.Mark.TheVariants.{Receipted, Failed}
+use Rattle.exchange_model.specs.declared.sent.Sent.{Sent}
+
+-- an entry of the receiver's inbox, and the submission that it came from: its payloads are the submitted ones until
+-- the entry is confirmed
+pub record CameFrom (s : Sent) (entry : InboxEntry) (is_kept : Type 0) : Type 0 where
+  pub header : entry.header ≡ s.submission.header
+  pub payloads : is_kept → entry.payloads ≡ s.submission.payloads
+
+-- from one end to the other
+pub record DeliversOnce (sender receiver : End) : Type 0 where
+  -- the inbox has each identifier at most once
+  pub at_most_once : AllPairs (λ a b. a ≢ b) (map (λ (entry : InboxEntry). entry.header.id) receiver.inbox)
+  -- each entry is the submission of its identifier, with its payloads until it is confirmed
+  pub submitted : (n : ℕ) (entry : InboxEntry) → slice_get receiver.inbox n ≡ Some entry
+      → (s : Sent) × (sent_of entry.header.id sender.sent ≡ Some s) × CameFrom s entry (receiver.confirmed ≤ n)
+  -- what the sender holds a receipt for stands in the inbox, exactly once
+  pub exactly_once : (s : Sent) → Contains sender.sent s → s.mark ≡ Receipted
+      → count_by (λ (entry : InboxEntry). bytes_eq entry.header.id s.submission.header.id) receiver.inbox ≡ 1
+  -- what is given up was sent as often as its mode says
+  pub tried_enough : (s : Sent) → Contains sender.sent s → s.mark ≡ Failed → s.tries ≡ s.submission.retries + 1
+
+-- both ways
+pub record BothDeliverOnce (world : World) : Type 0 where
+  pub to_right : DeliversOnce world.left.end world.right.end
+  pub to_left : DeliversOnce world.right.end world.left.end

@@ -1,0 +1,77 @@
+-- What can be asked of an end (AS4 Profile, sections 3.2 and 3.4, on retries and duplicates; ebMS 3.0 Core,
+-- section 3.4, on channels).
+use Rattle.std.specs.Prelude.{ℕ, ◌+◌, List, Bool, true, false, ◌&&◌, ◌==◌, nat_le, if◌then◌else◌, Option}
+use Rattle.std.specs.List.{filter, find, list_any}
+use Rattle.std.specs.Str.{bytes_eq}
+use Rattle.as4_effects.specs.declared.queue.Queue.{Queue}
+use Rattle.as4_effects.specs.declared.queue.Queue.TheVariants as queue
+use Rattle.as4_values.specs.declared.route.Route.{Route}
+use Rattle.as4_values.specs.declared.route.Route.TheVariants as route
+use Rattle.exchange_model.specs.End.{End}
+use Rattle.exchange_model.specs.Least.{first_least}
+use Rattle.exchange_model.specs.declared.inbox_entry.InboxEntry.{InboxEntry}
+use Rattle.exchange_model.specs.declared.sent.Mark.{Mark}
+use Rattle.exchange_model.specs.declared.sent.Mark.TheVariants as mark
+use Rattle.exchange_model.specs.declared.sent.Sent.{Sent}
+use Rattle.exchange_model.specs.declared.sent.Standing.{Standing}
+use Rattle.exchange_model.specs.declared.sent.Standing.TheVariants as standing
+
+abbrev pub is_pending_mark : Mark → Bool
+is_pending_mark mark.Pending = true
+is_pending_mark other = false
+
+-- neither receipted nor given up
+abbrev pub is_pending : Sent → Bool
+is_pending s = is_pending_mark s.mark
+
+-- when it is to be sent, or given up: at once, or a period after it was sent last
+abbrev pub due : Sent → ℕ
+due s = if s.tries == 0 then s.submission.moment else s.last + s.submission.period
+
+-- it is sent again, sooner or later: it was sent at most as often as its mode says it is sent again
+abbrev pub is_waiting : Sent → Bool
+is_waiting s = is_pending s && nat_le s.tries s.submission.retries
+
+-- it may be sent now
+abbrev pub is_ready : ℕ → Sent → Bool
+is_ready moment s = is_waiting s && nat_le (due s) moment
+
+-- it was sent for the last time, and its receipt is overdue
+abbrev pub is_spent : ℕ → Sent → Bool
+is_spent moment s = is_pending s && ((s.tries == s.submission.retries + 1) && nat_le (due s) moment)
+
+-- where it waits
+abbrev pub queue_of : Route → Queue
+queue_of (route.Push address) = queue.Push
+queue_of (route.Pull mpc address) = queue.Channel mpc
+
+unfoldable pub is_same_queue : Queue → Queue → Bool
+is_same_queue queue.Push queue.Push = true
+is_same_queue (queue.Channel a) (queue.Channel b) = bytes_eq a b
+is_same_queue a b = false
+
+abbrev pub is_in : Queue → Sent → Bool
+is_in q s = is_same_queue (queue_of s.submission.route) q
+
+-- the head of a queue: of those that may be sent now, the first that is due; of several due at once the one of
+-- the least number
+unfoldable pub head_of : Queue → End → Option Sent
+head_of q end = first_least due (filter (λ s. is_ready end.moment s && is_in q s) end.sent)
+
+-- the submission of this number, of this identifier
+abbrev pub sent_at : ℕ → List Sent → Option Sent
+sent_at number sent = find (λ s. s.submission.number == number) sent
+
+abbrev pub sent_of : List ℕ → List Sent → Option Sent
+sent_of id sent = find (λ s. bytes_eq s.submission.header.id id) sent
+
+-- a message of this identifier came
+unfoldable pub is_known : List ℕ → List InboxEntry → Bool
+is_known id inbox = list_any (λ entry. bytes_eq entry.header.id id) inbox
+
+-- how a submission stands
+unfoldable pub standing_of : ℕ → Mark → Standing
+standing_of tries mark.Pending = standing.Pending tries
+standing_of tries mark.Receipted = standing.Receipted
+standing_of tries mark.Failed = standing.Failed
+standing_of tries (mark.Refused code) = standing.Refused

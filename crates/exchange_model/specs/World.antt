@@ -1,0 +1,82 @@
+-- Two ends and a network that may lose, repeat and reorder what they send: each message that an end ever sent may
+-- arrive at the other end never, once or often, at any time. A crash is a step whose reply is lost, or no step.
+use Rattle.std.specs.Prelude.{List, [], ◌∷◌, ◌++◌, Bool, if◌then◌else◌}
+use Rattle.std.specs.List.{Contains}
+use Rattle.as4_values.specs.declared.message.Message.{Message}
+use Rattle.as4_values.specs.declared.mode.Mode.{Mode}
+use Rattle.exchange_model.specs.Apply.{applied}
+use Rattle.exchange_model.specs.End.{End, empty_end}
+use Rattle.exchange_model.specs.Table.{Step}
+use Rattle.exchange_model.specs.declared.event.Event.{Event}
+use Rattle.exchange_model.specs.declared.outcome.Outcome.{Outcome}
+use Rattle.exchange_model.specs.declared.reply.Reply.{Reply}
+use Rattle.exchange_model.specs.declared.reply.Reply.TheVariants as reply
+use Rattle.exchange_model.specs.declared.what.What.{What}
+use Rattle.exchange_model.specs.declared.what.What.TheVariants as what
+
+-- an end, and each message that it ever sent
+pub record Party : Type 0 where
+  pub end : End
+  pub said : List Message
+
+pub record World : Type 0 where
+  pub left : Party
+  pub right : Party
+
+abbrev pub new_party : Party
+new_party = record { end = empty_end; said = [] }
+
+abbrev pub new_world : World
+new_world = record { left = new_party; right = new_party }
+
+pub data Side : Type 0 where
+  Left : Side
+  Right : Side
+
+-- what happens at one end: an event under some modes, its outcome, and whether the reply is lost
+pub record Act : Type 0 where
+  pub side : Side
+  pub modes : List Mode
+  pub event : Event
+  pub outcome : Outcome
+  pub lost : Bool
+
+-- the message that a reply sends to the other end
+abbrev pub sends : Reply → List Message
+sends (reply.Push address message) = message ∷ []
+sends (reply.Request address message) = message ∷ []
+sends (reply.Answer message) = message ∷ []
+sends other = []
+
+-- a message that comes is one that the other end sent
+abbrev pub IsHeard : List Message → What → Type 0
+IsHeard said (what.Came message) = Contains said message
+IsHeard said other = Unit {0}
+
+-- an end that hears the other
+pub record MayAct (act : Act) (party other : Party) : Type 0 where
+  pub heard : IsHeard other.said act.event.what
+  pub step : Step act.modes party.end act.event act.outcome
+
+abbrev pub acted : Act → Party → Party
+acted act party = record {
+  end = applied act.outcome.effects party.end;
+  said = if act.lost then party.said else party.said ++ sends act.outcome.reply;
+}
+
+abbrev pub MayHappenAt : Side → Act → World → Type 0
+MayHappenAt Left act world = MayAct act world.left world.right
+MayHappenAt Right act world = MayAct act world.right world.left
+
+abbrev pub world_at : Side → Act → World → World
+world_at Left act world = record world { left = acted act world.left }
+world_at Right act world = record world { right = acted act world.right }
+
+-- one after another, each act may happen where those before it have led
+abbrev pub MayHappen : List Act → World → Type 0
+MayHappen [] world = Unit {0}
+MayHappen (act ∷ acts) world = MayHappenAt act.side act world × MayHappen acts (world_at act.side act world)
+
+abbrev pub world_after : List Act → World → World
+world_after [] world = world
+world_after (act ∷ acts) world = world_after acts (world_at act.side act world)
