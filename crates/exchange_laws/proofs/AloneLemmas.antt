@@ -1,0 +1,43 @@
+-- What holds at one end, whatever has come to it.
+use Rattle.std.proofs.Common.{◌≡◌, inl, inr, List, [], ◌∷◌, refl, subst}
+use Rattle.as4_effects.specs.declared.submission.Submission.{Submission}
+use Rattle.exchange_model.specs.Alone.{MayHappenTo, end_after}
+use Rattle.exchange_model.specs.Apply.{applied}
+use Rattle.exchange_model.specs.End.{End}
+use Rattle.exchange_model.specs.Table.{Step}
+use Rattle.exchange_model.specs.World.{Act}
+use Rattle.exchange_model.specs.declared.sent.Mark.TheVariants as mark
+use Rattle.exchange_model.specs.declared.sent.Sent.{Sent}
+use Rattle.exchange_laws.proofs.ListLemmas.{Has}
+use Rattle.exchange_laws.proofs.SentLemmas.{Numbered}
+use Rattle.exchange_laws.proofs.SentSteps.{Receipts}
+use Rattle.exchange_laws.proofs.InboxLemmas.{ids, Apart}
+use Rattle.exchange_laws.proofs.EndSteps.{EndGoes}
+use Rattle.exchange_laws.proofs.StepLemmas.{step_goes}
+
+-- the submissions are numbered, the inbox has no identifier twice, and each receipted submission is one for which P holds
+pub record EndHolds (P : Submission → Type 0) (end : End) : Type 0 where
+  pub numbered : Numbered 0 end.sent
+  pub apart : Apart (ids end.inbox)
+  pub receipted : (s : Sent) → Has end.sent s → s.mark ≡ mark.Receipted → P s.submission
+
+-- one act
+end_acts : (P : Submission → Type 0) (act : Act) (end : End) → EndHolds P end → Step act.modes end act.event act.outcome
+    → ((u : Submission) → Receipts act.event.what u → P u) → EndHolds P (applied act.outcome.effects end)
+end_acts P act end holds step brings = record {
+  numbered = goes.sent.numbered;
+  apart = goes.inbox.apart holds.apart;
+  receipted = λ t there m. elim (goes.sent.receipted t there m)
+      [ inl s ↦ subst P s.3 (holds.receipted s.0 s.1 s.2) | inr r ↦ brings t.submission r ];
+}
+  where
+    goes : EndGoes act.event.what act.outcome.reply end (applied act.outcome.effects end)
+    goes = step_goes act.modes end act.event act.outcome holds.numbered step
+
+-- whatever happens
+pub end_holds : (P : Submission → Type 0) (acts : List Act) (end : End) → EndHolds P end → MayHappenTo acts end
+    → ((act : Act) → Has acts act → (u : Submission) → Receipts act.event.what u → P u) → EndHolds P (end_after acts end)
+end_holds P [] end holds may brings = holds
+end_holds P (act ∷ acts) end holds may brings =
+    end_holds P acts (applied act.outcome.effects end) (end_acts P act end holds may.0 (brings act (inl refl))) may.1
+    (λ later h. brings later (inr h))

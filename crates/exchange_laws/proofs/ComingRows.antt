@@ -1,0 +1,178 @@
+-- What an end does with the messages of the other end.
+use Rattle.std.proofs.Common.{◌≡◌, ℕ, ◌⊎◌, List, [], ◌∷◌, ◌++◌, true, false, Option, Some, None, map, inl, inr, refl, sym, ap, ◌∙◌, subst}
+use Rattle.std.specs.List.{filter_map}
+use Rattle.std.specs.Option.{option_map, option_and_then}
+use Rattle.as4_effects.specs.declared.effect.Effect.TheVariants as effect
+use Rattle.as4_effects.specs.declared.queue.Queue.TheVariants as queue
+use Rattle.as4_values.specs.ModeMatch.{mode_of, channel_mode}
+use Rattle.as4_values.specs.declared.header.UserHeader.{UserHeader}
+use Rattle.as4_values.specs.declared.message.Message.{Message}
+use Rattle.as4_values.specs.declared.message.Message.TheVariants as message
+use Rattle.as4_values.specs.declared.mode.Mode.{Mode}
+use Rattle.as4_values.specs.declared.payload.Payload.{Payload}
+use Rattle.as4_values.specs.declared.signal.Signal.{Signal}
+use Rattle.as4_values.specs.declared.signal_body.ErrorItem.{ErrorItem}
+use Rattle.as4_values.specs.declared.signal_body.SignalBody.{SignalBody}
+use Rattle.as4_values.specs.declared.signal_body.SignalBody.TheVariants as body
+use Rattle.exchange_model.specs.Apply.{after, after_all}
+use Rattle.exchange_model.specs.End.{End}
+use Rattle.exchange_model.specs.ErrorCodes.{ErrorRow, error_row, error_item}
+use Rattle.exchange_model.specs.Questions.{head_of, is_known, is_pending, sent_of}
+use Rattle.exchange_model.specs.Refusing.{Refusal, refusal_of, refusals_of, once}
+use Rattle.exchange_model.specs.Table.{Errs, Receipts as Answers, Delivers, UserComes, PullComes, Settles, IsOther, ReceiptComes, SignalComes, Comes}
+use Rattle.exchange_model.specs.declared.event.Event.{Event}
+use Rattle.exchange_model.specs.declared.inbox_entry.InboxEntry.{InboxEntry}
+use Rattle.exchange_model.specs.declared.outcome.Outcome.{Outcome}
+use Rattle.exchange_model.specs.declared.reply.Reply.TheVariants as reply
+use Rattle.exchange_model.specs.declared.sent.Sent.{Sent}
+use Rattle.exchange_model.specs.declared.what.What.{What}
+use Rattle.exchange_model.specs.declared.what.What.TheVariants.{Came}
+use Rattle.exchange_laws.proofs.ListLemmas.{Has, had_mapped, had_right}
+use Rattle.exchange_laws.proofs.SentLemmas.{Numbered, sent_of_has}
+use Rattle.exchange_laws.proofs.SentSteps.{Receipts, sent_stays, sent_then}
+use Rattle.exchange_laws.proofs.SentChanges.{sent_receipted, sent_refused}
+use Rattle.exchange_laws.proofs.InboxLemmas.{ids, id_of, known_has}
+use Rattle.exchange_laws.proofs.InboxSteps.{inbox_stays, inbox_push}
+use Rattle.exchange_laws.proofs.EndSteps.{BacksSignal, EndGoes, goes_by, rests, rests_silent, by_option, by_bool}
+use Rattle.exchange_laws.proofs.OwnRows.{Goes, says_one, hands_out}
+
+-- an error signal is no receipt
+errors_back : (inbox : List InboxEntry) (ref_to about : Option (List ℕ)) (b : SignalBody) (o : Option ErrorRow)
+    → option_map (λ row. body.Errors (error_item row about ∷ [])) o ≡ Some b → BacksSignal inbox ref_to b
+errors_back inbox ref_to about b None e = absurd cc
+errors_back inbox ref_to about b (Some row) e =
+    let same : body.Errors (error_item row about ∷ []) ≡ b = cc in subst (BacksSignal inbox ref_to) same tt
+
+-- an error is told
+errs : (what : What) (code : ℕ) (about : List ℕ) (end : End) (event : Event) (outcome : Outcome) → Numbered 0 end.sent
+    → Errs code about event outcome
+    → Goes what end outcome
+errs what code about end event outcome numbered h =
+    rests what _ end outcome numbered h.2
+    (says_one end.sent end.inbox (message.Signal h.0) (errors_back end.inbox h.0.ref_to (Some about) h.0.body (error_row code) h.1.tells))
+
+-- a receipt stands by the message that came
+receipt_backs : (inbox : List InboxEntry) (header : UserHeader) (signal : Signal) → signal.ref_to ≡ Some header.id
+    → signal.body ≡ body.Receipt (Some header)
+    → Has (ids inbox) header.id → BacksSignal inbox signal.ref_to signal.body
+receipt_backs inbox header signal refers copies h =
+    subst (BacksSignal inbox signal.ref_to) (sym copies) (λ id e. let same : header.id ≡ id = cc in subst (Has (ids inbox)) same h)
+
+-- a user message
+user_comes : (modes : List Mode) (end : End) (event : Event) (header : UserHeader) (payloads : List Payload) (outcome : Outcome)
+    → Numbered 0 end.sent
+    → UserComes modes end event header payloads outcome → Goes (Came (message.User header payloads)) end outcome
+unfolding UserComes after
+user_comes modes end event header payloads outcome numbered h =
+    by_option _ _ _ (mode_of modes header) h (errs what 10 header.id end event outcome numbered) (λ mode _ k.
+    by_bool _ _ _ (is_known header.id end.inbox) k known delivered)
+  where
+    what : What
+    what = Came (message.User header payloads)
+
+    known : is_known header.id end.inbox ≡ true → Answers header [] event outcome → Goes what end outcome
+    known there a =
+        rests what _ end outcome numbered a.2
+        (says_one end.sent end.inbox (message.Signal a.0)
+        (receipt_backs end.inbox header a.0 a.1.refers a.1.copies (known_has header.id end.inbox there)))
+
+    delivered : is_known header.id end.inbox ≡ false → Delivers event header payloads outcome → Goes what end outcome
+    delivered unknown d =
+        let entry : InboxEntry = record { header = d.0.header; payloads = d.0.payloads } in
+        let came : what ≡ Came (message.User d.0.header d.0.payloads) = cc in
+        let new : is_known d.0.header.id end.inbox ≡ false = ap (λ (h : UserHeader). is_known h.id end.inbox) d.1 ∙ unknown in
+        let there : Has (ids (end.inbox ++ entry ∷ [])) header.id =
+        subst (λ (h : UserHeader). Has (ids (end.inbox ++ entry ∷ [])) h.id) d.1
+        (had_mapped id_of (end.inbox ++ entry ∷ []) entry (had_right end.inbox (entry ∷ []) entry (inl refl))) in
+        goes_by what _ (effect.Delivered d.0 ∷ []) end outcome d.3.2
+        (record {
+          sent = sent_stays what end.sent numbered;
+          inbox = inbox_push what end.inbox end.confirmed entry new came;
+          says = says_one end.sent (end.inbox ++ entry ∷ []) (message.Signal d.3.0)
+              (receipt_backs (end.inbox ++ entry ∷ []) header d.3.0 d.3.1.refers d.3.1.copies there);
+        })
+
+-- a pull request
+pull_comes : (what : What) (modes : List Mode) (end : End) (event : Event) (id mpc : List ℕ) (outcome : Outcome)
+    → Numbered 0 end.sent
+    → PullComes modes end event id mpc outcome → Goes what end outcome
+unfolding PullComes
+pull_comes what modes end event id mpc outcome numbered h =
+    by_option _ _ _ (channel_mode modes mpc) h (errs what 1 id end event outcome numbered) (λ mode _ k.
+    by_option _ _ _ (head_of (queue.Channel mpc) end) k (errs what 6 id end event outcome numbered) (λ s head g.
+    hands_out what (queue.Channel mpc) end s _ outcome numbered head refl g))
+
+-- the reference that finds a submission
+reference : (sent : List Sent) (ref_to : Option (List ℕ)) (s : Sent) → option_and_then (λ ref. sent_of ref sent) ref_to ≡ Some s
+    → (id : List ℕ) × (ref_to ≡ Some id) × (sent_of id sent ≡ Some s)
+reference sent None s e = absurd cc
+reference sent (Some id) s e = (id, refl, e)
+
+-- a receipt
+receipt_comes : (signal : Signal) (copy : Option UserHeader) (end : End) (event : Event) (outcome : Outcome)
+    → signal.body ≡ body.Receipt copy
+    → Numbered 0 end.sent → ReceiptComes end event signal.id signal.ref_to copy outcome
+    → Goes (Came (message.Signal signal)) end outcome
+unfolding ReceiptComes after
+receipt_comes signal copy end event outcome receipt numbered h =
+    by_option _ _ _ (option_and_then (λ ref. sent_of ref end.sent) signal.ref_to) h (errs what 3 signal.id end event outcome numbered) named
+  where
+    what : What
+    what = Came (message.Signal signal)
+
+    settles : (s : Sent) → Has end.sent s → Receipts what s.submission → Settles s outcome → Goes what end outcome
+    settles s there r k =
+        by_bool _ _ _ (is_pending s) k
+        (λ _ g. goes_by what reply.Quiet (effect.Receipted s.submission.number ∷ []) end outcome g
+        (record {
+          sent = sent_receipted what end.sent s numbered there r;
+          inbox = inbox_stays what end.inbox end.confirmed;
+          says = λ m none. absurd none;
+        }))
+        (λ _. rests_silent what reply.Quiet end outcome refl numbered)
+
+    named : (s : Sent) → option_and_then (λ ref. sent_of ref end.sent) signal.ref_to ≡ Some s
+        → (IsOther copy s.submission.header × Errs 302 signal.id event outcome) ⊎ ((IsOther copy s.submission.header → ⊥) × Settles s outcome)
+        → Goes what end outcome
+    named s e (inl other) = errs what 302 signal.id end event outcome numbered other.1
+    named s e (inr own) =
+        let r = reference end.sent signal.ref_to s e in
+        let there = sent_of_has r.0 end.sent s r.2 in
+        let brought : Receipts what s.submission =
+        record { signal = signal; copy = copy; came = refl; receipt = receipt; names = r.1 ∙ ap Some (sym there.1); same = own.0 } in
+        settles s there.0 brought own.1
+
+-- the refusals, one after another
+refuses : (what : What) (refusals : List Refusal) (end : End) → Numbered 0 end.sent
+    → EndGoes what reply.Quiet end (after_all (map (λ (refusal : Refusal). effect.Refused refusal.number refusal.code) refusals) end)
+unfolding after
+refuses what [] end numbered =
+    record { sent = sent_stays what end.sent numbered; inbox = inbox_stays what end.inbox end.confirmed; says = λ m none. absurd none }
+refuses what (refusal ∷ refusals) end numbered =
+    let first = sent_refused what end.sent refusal.number refusal.code numbered in
+    let rest = refuses what refusals (after (effect.Refused refusal.number refusal.code) end) first.numbered in
+    record { sent = sent_then what _ _ _ first rest.sent; inbox = rest.inbox; says = λ m none. absurd none }
+
+-- errors
+errors_come : (what : What) (items : List ErrorItem) (ref_to : Option (List ℕ)) (end : End) (outcome : Outcome)
+    → Numbered 0 end.sent
+    → outcome ≡ record { effects = refusals_of ref_to end.sent items; reply = reply.Quiet } → Goes what end outcome
+unfolding refusals_of
+errors_come what items ref_to end outcome numbered h = goes_by what reply.Quiet _ end outcome h
+    (refuses what (once (filter_map (refusal_of ref_to end.sent) items)) end numbered)
+
+-- a signal, by what it holds
+signal_comes : (modes : List Mode) (end : End) (event : Event) (signal : Signal) (b : SignalBody) (outcome : Outcome)
+    → signal.body ≡ b → Numbered 0 end.sent
+    → SignalComes modes end event signal.id signal.ref_to b outcome → Goes (Came (message.Signal signal)) end outcome
+signal_comes modes end event signal (body.Pull mpc) outcome e numbered h =
+    pull_comes (Came (message.Signal signal)) modes end event signal.id mpc outcome numbered h
+signal_comes modes end event signal (body.Receipt copy) outcome e numbered h = receipt_comes signal copy end event outcome e numbered h
+signal_comes modes end event signal (body.Errors items) outcome e numbered h =
+    errors_come (Came (message.Signal signal)) items signal.ref_to end outcome numbered h
+
+-- what comes
+pub comes : (modes : List Mode) (end : End) (event : Event) (m : Message) (outcome : Outcome) → Numbered 0 end.sent
+    → Comes modes end event m outcome → Goes (Came m) end outcome
+comes modes end event (message.User header payloads) outcome numbered h = user_comes modes end event header payloads outcome numbered h
+comes modes end event (message.Signal signal) outcome numbered h = signal_comes modes end event signal signal.body outcome refl numbered h

@@ -1,0 +1,14 @@
+pub mod AloneLemmas
+pub mod ComingRows
+pub mod EndSteps
+pub mod InboxLemmas
+pub mod InboxSteps
+pub mod ListLemmas
+pub mod OwnRows
+pub mod RoundLemmas
+pub mod Rounds
+pub mod SentChanges
+pub mod SentLemmas
+pub mod SentSteps
+pub mod StepLemmas
+pub mod WorldLemmas

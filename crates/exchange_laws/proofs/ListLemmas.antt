@@ -1,0 +1,93 @@
+-- Which items a list has, by recursion on the list.
+use Rattle.std.proofs.Common.{◌≡◌, ℕ, zero, suc, ◌<◌, ◌⊎◌, inl, inr, List, [], ◌∷◌, ◌++◌, Bool, true, false, cond, Some, length, get_or, map, refl, sym, ap, ◌∙◌, arith}
+use Rattle.std.specs.Prelude.{slice_get}
+use Rattle.std.specs.List.{Contains, find, filter}
+
+abbrev pub Has : {X : Type 0} → List X → X → Type 0
+Has [] x = ⊥
+Has (y ∷ ys) x = (y ≡ x) ⊎ Has ys x
+
+-- by its place
+has_at : {X : Type 0} (xs : List X) (k : ℕ) (x : X) → k < length xs → get_or xs k x ≡ x → Has xs x
+has_at [] k x l e = absurd (omega arith)
+has_at (y ∷ ys) zero x l e = inl e
+has_at (y ∷ ys) (suc k) x l e = inr (has_at ys k x (omega arith) e)
+
+-- the same as `Contains`
+pub has_contained : {X : Type 0} (xs : List X) (x : X) → Contains xs x → Has xs x
+has_contained xs x c = has_at xs c.0 x c.1 c.2
+
+pub contains_had : {X : Type 0} (xs : List X) (x : X) → Has xs x → Contains xs x
+contains_had [] x h = absurd h
+contains_had (y ∷ ys) x (inl e) = (0, omega arith, e)
+contains_had (y ∷ ys) x (inr h) =
+    let c : Contains ys x = contains_had ys x h in (suc c.0, omega (arith, c.1), c.2)
+
+-- the item at a place is one
+pub has_got : {X : Type 0} (xs : List X) (n : ℕ) (x : X) → slice_get xs n ≡ Some x → Has xs x
+has_got [] n x e = absurd cc
+has_got (y ∷ ys) zero x e = inl cc
+has_got (y ∷ ys) (suc n) x e = inr (has_got ys n x e)
+
+-- in lists that are joined
+pub had_left : {X : Type 0} (xs ys : List X) (x : X) → Has xs x → Has (xs ++ ys) x
+had_left [] ys x h = absurd h
+had_left (y ∷ xs) ys x (inl e) = inl e
+had_left (y ∷ xs) ys x (inr h) = inr (had_left xs ys x h)
+
+pub had_right : {X : Type 0} (xs ys : List X) (x : X) → Has ys x → Has (xs ++ ys) x
+had_right [] ys x h = h
+had_right (y ∷ xs) ys x h = inr (had_right xs ys x h)
+
+pub has_either : {X : Type 0} (xs ys : List X) (x : X) → Has (xs ++ ys) x → Has xs x ⊎ Has ys x
+has_either [] ys x h = inr h
+has_either (y ∷ xs) ys x (inl e) = inl (inl e)
+has_either (y ∷ xs) ys x (inr h) = elim (has_either xs ys x h) [ inl a ↦ inl (inr a) | inr b ↦ inr b ]
+
+-- what stands in a mapped list comes from an item
+pub has_mapped : {X Y : Type 0} (f : X → Y) (xs : List X) (y : Y) → Has (map f xs) y → (x : X) × Has xs x × (f x ≡ y)
+has_mapped f [] y h = absurd h
+has_mapped f (x ∷ xs) y (inl e) = (x, inl refl, e)
+has_mapped f (x ∷ xs) y (inr h) = let m = has_mapped f xs y h in (m.0, inr m.1, m.2)
+
+-- an item stands mapped in the mapped list
+pub had_mapped : {X Y : Type 0} (f : X → Y) (xs : List X) (x : X) → Has xs x → Has (map f xs) (f x)
+had_mapped f [] x h = absurd h
+had_mapped f (y ∷ xs) x (inl e) = inl (ap f e)
+had_mapped f (y ∷ xs) x (inr h) = inr (had_mapped f xs x h)
+
+-- by the first test's answer
+filtered_by : {X : Type 0} (p : X → Bool) (y x : X) (ys : List X) (b : Bool) → p y ≡ b
+    → (Has (filter p ys) x → Has ys x × (p x ≡ true)) → Has (cond b (y ∷ filter p ys) (filter p ys)) x
+    → Has (y ∷ ys) x × (p x ≡ true)
+filtered_by p y x ys true e rest (inl same) = (inl same, sym (ap p same) ∙ e)
+filtered_by p y x ys true e rest (inr h) = (inr (rest h).0, (rest h).1)
+filtered_by p y x ys false e rest h = (inr (rest h).0, (rest h).1)
+
+-- what a filter keeps passes
+pub has_filtered : {X : Type 0} (p : X → Bool) (xs : List X) (x : X) → Has (filter p xs) x → Has xs x × (p x ≡ true)
+has_filtered p [] x h = absurd h
+has_filtered p (y ∷ ys) x h = filtered_by p y x ys (p y) refl (has_filtered p ys x) h
+
+-- by the first test's answer
+found_by : {X : Type 0} (p : X → Bool) (y x : X) (ys : List X) (b : Bool) → p y ≡ b
+    → (find p ys ≡ Some x → Has ys x × (p x ≡ true)) → cond b (Some y) (find p ys) ≡ Some x → Has (y ∷ ys) x × (p x ≡ true)
+found_by p y x ys true e rest h = let same : y ≡ x = cc in (inl same, sym (ap p same) ∙ e)
+found_by p y x ys false e rest h = (inr (rest h).0, (rest h).1)
+
+-- what is found is there, and passes
+pub has_found : {X : Type 0} (p : X → Bool) (xs : List X) (x : X) → find p xs ≡ Some x → Has xs x × (p x ≡ true)
+has_found p [] x h = absurd cc
+has_found p (y ∷ ys) x h = found_by p y x ys (p y) refl (has_found p ys x) h
+
+-- by the first test's answer
+finds_by : {X : Type 0} (p : X → Bool) (y x : X) (ys : List X) (b : Bool) → p y ≡ b → p x ≡ true
+    → (Has ys x → (z : X) × (find p ys ≡ Some z)) → Has (y ∷ ys) x → (z : X) × (cond b (Some y) (find p ys) ≡ Some z)
+finds_by p y x ys true e passes rest h = (y, refl)
+finds_by p y x ys false e passes rest (inl same) = absurd (let no : false ≡ true = sym e ∙ ap p same ∙ passes in cc)
+finds_by p y x ys false e passes rest (inr h) = rest h
+
+-- where an item passes, one is found
+pub finds : {X : Type 0} (p : X → Bool) (xs : List X) (x : X) → Has xs x → p x ≡ true → (z : X) × (find p xs ≡ Some z)
+finds p [] x h passes = absurd h
+finds p (y ∷ ys) x h passes = finds_by p y x ys (p y) refl passes (λ k. finds p ys x k passes) h

@@ -1,0 +1,178 @@
+-- What holds of two ends and a network, whatever has happened.
+use Rattle.std.proofs.Common.{◌≡◌, ℕ, ◌≤◌, ◌⊎◌, inl, inr, List, [], ◌∷◌, ◌++◌, Bool, true, false, Option, Some, sym, ap, ◌∙◌, subst}
+use Rattle.std.specs.Prelude.{slice_get, if◌then◌else◌}
+use Rattle.as4_values.specs.declared.message.Message.{Message}
+use Rattle.as4_values.specs.declared.message.Message.TheVariants as message
+use Rattle.as4_values.specs.declared.signal_body.SignalBody.{SignalBody}
+use Rattle.as4_values.specs.declared.signal_body.SignalBody.TheVariants as body
+use Rattle.exchange_model.specs.DeliveredOnce.{CameFrom}
+use Rattle.exchange_model.specs.End.{End}
+use Rattle.exchange_model.specs.World.{Act, Party, World, Side, Left, Right, new_world, sends, IsHeard, MayAct, acted, MayHappenAt, world_at, MayHappen, world_after}
+use Rattle.exchange_model.specs.declared.inbox_entry.InboxEntry.{InboxEntry}
+use Rattle.exchange_model.specs.declared.reply.Reply.{Reply}
+use Rattle.exchange_model.specs.declared.sent.Mark.TheVariants as mark
+use Rattle.exchange_model.specs.declared.sent.Sent.{Sent}
+use Rattle.exchange_model.specs.declared.what.What.{What}
+use Rattle.exchange_model.specs.declared.what.What.TheVariants as what
+use Rattle.exchange_laws.proofs.ListLemmas.{Has, has_contained, has_either}
+use Rattle.exchange_laws.proofs.SentLemmas.{Numbered}
+use Rattle.exchange_laws.proofs.SentSteps.{Receipts, AllSpent}
+use Rattle.exchange_laws.proofs.InboxLemmas.{ids, Apart}
+use Rattle.exchange_laws.proofs.InboxSteps.{Stood}
+use Rattle.exchange_laws.proofs.EndSteps.{Backs, BacksSignal, EndGoes}
+use Rattle.exchange_laws.proofs.StepLemmas.{step_goes}
+
+-- of a party: its submissions are numbered, its inbox has no identifier twice, and it stands by what it said
+pub record PartyHolds (party : Party) : Type 0 where
+  pub numbered : Numbered 0 party.end.sent
+  pub spent : AllSpent party.end.sent
+  pub apart : Apart (ids party.end.inbox)
+  pub said : (m : Message) → Has party.said m → Backs party.end.sent party.end.inbox m
+
+-- from one end to the other: each entry was submitted, and what is receipted came
+pub record Holds (sender receiver : End) : Type 0 where
+  pub submitted : (n : ℕ) (entry : InboxEntry) → slice_get receiver.inbox n ≡ Some entry
+      → (s : Sent) × Has sender.sent s × CameFrom s entry (receiver.confirmed ≤ n)
+  pub receipted : (s : Sent) → Has sender.sent s → s.mark ≡ mark.Receipted → Has (ids receiver.inbox) s.submission.header.id
+
+-- of both parties, and both ways
+pub record WorldHolds (world : World) : Type 0 where
+  pub left : PartyHolds world.left
+  pub right : PartyHolds world.right
+  pub to_right : Holds world.left.end world.right.end
+  pub to_left : Holds world.right.end world.left.end
+
+-- what was said is stood by later
+backs_signal_later : (old new : List InboxEntry) (ref_to : Option (List ℕ)) (b : SignalBody)
+    → ((id : List ℕ) → Has (ids old) id → Has (ids new) id)
+    → BacksSignal old ref_to b → BacksSignal new ref_to b
+backs_signal_later old new ref_to (body.Receipt copy) known backs = λ id e. known id (backs id e)
+backs_signal_later old new ref_to (body.Pull mpc) known backs = tt
+backs_signal_later old new ref_to (body.Errors items) known backs = tt
+
+-- what was said is stood by later
+backs_later : (w : What) (r : Reply) (old new : End) (m : Message) → EndGoes w r old new → Backs old.sent old.inbox m
+    → Backs new.sent new.inbox m
+backs_later w r old new (message.User header payloads) goes backs =
+    let t = goes.sent.kept backs.0 backs.1 in (t.0, t.1, ap (λ s. s.header) t.2 ∙ backs.2, ap (λ s. s.payloads) t.2 ∙ backs.3)
+backs_later w r old new (message.Signal signal) goes backs =
+    backs_signal_later old.inbox new.inbox signal.ref_to signal.body goes.inbox.known backs
+
+-- what was said is old, or said in this act
+said_either : (lost : Bool) (said new : List Message) (m : Message) → Has (if lost then said else said ++ new) m
+    → Has said m ⊎ Has new m
+said_either true said new m h = inl h
+said_either false said new m h = has_either said new m h
+
+-- what an act leaves
+act_goes : (act : Act) (party other : Party) → PartyHolds party → MayAct act party other
+    → EndGoes act.event.what act.outcome.reply party.end (acted act party).end
+act_goes act party other holds may = step_goes act.modes party.end act.event act.outcome holds.numbered may.step
+
+-- after an act at the party
+pub party_acts : (act : Act) (party other : Party) → PartyHolds party → MayAct act party other → PartyHolds (acted act party)
+party_acts act party other holds may = record {
+  numbered = goes.sent.numbered;
+  spent = goes.sent.spent holds.spent;
+  apart = goes.inbox.apart holds.apart;
+  said = λ m h. elim (said_either act.lost party.said (sends act.outcome.reply) m h) [
+    | inl old ↦ backs_later act.event.what act.outcome.reply party.end (acted act party).end m goes (holds.said m old)
+    | inr new ↦ goes.says m new
+  ];
+}
+  where
+    goes : EndGoes act.event.what act.outcome.reply party.end (acted act party).end
+    goes = act_goes act party other holds may
+
+-- the other end stands by what comes
+heard : (w : What) (m : Message) (other : Party) → PartyHolds other → IsHeard other.said w → w ≡ what.Came m
+    → Backs other.end.sent other.end.inbox m
+heard w m other holds h e = holds.said m (has_contained other.said m (subst (IsHeard other.said) e h))
+
+-- a receipt that comes is of a message that the other end knows
+receipt_heard : (w : What) (s : Sent) (other : Party) → PartyHolds other → IsHeard other.said w → Receipts w s.submission
+    → Has (ids other.end.inbox) s.submission.header.id
+receipt_heard w s other holds h r =
+    let backs : BacksSignal other.end.inbox r.signal.ref_to r.signal.body = heard w (message.Signal r.signal) other holds h r.came in
+    let of_receipt : BacksSignal other.end.inbox r.signal.ref_to (body.Receipt r.copy) =
+    subst (BacksSignal other.end.inbox r.signal.ref_to) r.receipt backs in
+    of_receipt s.submission.header.id r.names
+
+-- the sender acts
+sender_acts : (act : Act) (party other : Party) → PartyHolds party → PartyHolds other → MayAct act party other
+    → Holds party.end other.end
+    → Holds (acted act party).end other.end
+sender_acts act party other holds other_holds may h = record {
+  submitted = λ n entry at. later entry (other.end.confirmed ≤ n) (h.submitted n entry at);
+  receipted = λ t there m. receipted_by t (goes.sent.receipted t there m);
+}
+  where
+    goes : EndGoes act.event.what act.outcome.reply party.end (acted act party).end
+    goes = act_goes act party other holds may
+
+    later : (entry : InboxEntry) (kept : Type 0) → (s : Sent) × Has party.end.sent s × CameFrom s entry kept
+        → (s : Sent) × Has (acted act party).end.sent s × CameFrom s entry kept
+    later entry kept s =
+        let t = goes.sent.kept s.0 s.1 in
+        (t.0, t.1, record { header = s.2.header ∙ ap (λ u. u.header) (sym t.2); payloads = λ k. s.2.payloads k ∙ ap (λ u. u.payloads) (sym t.2) })
+
+    receipted_by : (t : Sent)
+        → ((s : Sent) × Has party.end.sent s × (s.mark ≡ mark.Receipted) × (s.submission ≡ t.submission)) ⊎ Receipts act.event.what t.submission
+        → Has (ids other.end.inbox) t.submission.header.id
+    receipted_by t (inl s) = subst (Has (ids other.end.inbox)) (ap (λ u. u.header.id) s.3) (h.receipted s.0 s.1 s.2)
+    receipted_by t (inr r) = receipt_heard act.event.what t other other_holds may.heard r
+
+-- the receiver acts
+receiver_acts : (act : Act) (party other : Party) → PartyHolds party → PartyHolds other → MayAct act party other
+    → Holds other.end party.end
+    → Holds other.end (acted act party).end
+receiver_acts act party other holds other_holds may h = record {
+  submitted = λ n entry at. came n entry (goes.inbox.entries n entry at);
+  receipted = λ s there m. goes.inbox.known s.submission.header.id (h.receipted s there m);
+}
+  where
+    goes : EndGoes act.event.what act.outcome.reply party.end (acted act party).end
+    goes = act_goes act party other holds may
+
+    came : (n : ℕ) (entry : InboxEntry)
+        → Stood party.end.inbox party.end.confirmed n entry ((acted act party).end.confirmed ≤ n)
+        ⊎ (act.event.what ≡ what.Came (message.User entry.header entry.payloads))
+        → (s : Sent) × Has other.end.sent s × CameFrom s entry ((acted act party).end.confirmed ≤ n)
+    came n entry (inl old) =
+        let s = h.submitted n old.before old.there in
+        (s.0, s.1, record { header = old.header ∙ s.2.header; payloads = λ k. old.payloads k ∙ s.2.payloads (old.unconfirmed k) })
+    came n entry (inr new) =
+        let s = heard act.event.what (message.User entry.header entry.payloads) other other_holds may.heard new in
+        (s.0, s.1, record { header = sym s.2; payloads = λ k. sym s.3 })
+
+-- after an act at either side
+world_acts : (side : Side) (act : Act) (world : World) → WorldHolds world → MayHappenAt side act world
+    → WorldHolds (world_at side act world)
+world_acts Left act world holds may = record {
+  left = party_acts act world.left world.right holds.left may;
+  right = holds.right;
+  to_right = sender_acts act world.left world.right holds.left holds.right may holds.to_right;
+  to_left = receiver_acts act world.left world.right holds.left holds.right may holds.to_left;
+}
+world_acts Right act world holds may = record {
+  left = holds.left;
+  right = party_acts act world.right world.left holds.right may;
+  to_right = receiver_acts act world.right world.left holds.right holds.left may holds.to_right;
+  to_left = sender_acts act world.right world.left holds.right holds.left may holds.to_left;
+}
+
+-- whatever happens
+pub world_holds : (acts : List Act) (world : World) → WorldHolds world → MayHappen acts world
+    → WorldHolds (world_after acts world)
+world_holds [] world holds may = holds
+world_holds (act ∷ acts) world holds may =
+    world_holds acts (world_at act.side act world) (world_acts act.side act world holds may.0) may.1
+
+-- at the start
+pub new_world_holds : WorldHolds new_world
+new_world_holds = record {
+  left = record { numbered = tt; spent = λ s h. absurd h; apart = tt; said = λ m h. absurd h };
+  right = record { numbered = tt; spent = λ s h. absurd h; apart = tt; said = λ m h. absurd h };
+  to_right = record { submitted = λ n entry at. absurd cc; receipted = λ s h. absurd h };
+  to_left = record { submitted = λ n entry at. absurd cc; receipted = λ s h. absurd h };
+}

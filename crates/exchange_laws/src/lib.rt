@@ -1,0 +1,6 @@
+//! What is promised of an exchange between two ends, whatever is lost, repeated or reordered.
+#![tactic(auto)]
+
+mod laws;
+
+pub use laws::{a_round_settles, an_end_is_safe, messages_are_delivered_once};
