@@ -1,0 +1,11 @@
+//! Which submissions wait to be sent, in which queue, and when they are due.
+#![tactic(auto)]
+
+mod channels;
+mod waiting;
+
+pub use channels::Channels;
+pub use waiting::{Place, Waiting};
+
+#[cfg(test)]
+mod tests;

@@ -1,0 +1,18 @@
+use as4_effects::Queue;
+
+/// A submission that waits to be sent.
+#[derive(Drop)]
+pub struct Waiting {
+    pub queue: Queue,
+    /// When it may be sent, in milliseconds since 1970-01-01T00:00:00Z.
+    pub due: u64,
+    /// The submission's.
+    pub number: u64,
+}
+
+/// Where a submission may come to wait.
+#[derive(Drop)]
+pub struct Place {
+    pub queue: Queue,
+    pub number: u64,
+}

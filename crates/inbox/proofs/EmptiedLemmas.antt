@@ -1,0 +1,47 @@
+-- Which entries have lost their payloads.
+use Rattle.std.proofs.Common.{◌≡◌, ℕ, zero, suc, ◌+◌, ◌<◌, ◌≤◌, List, [], ◌∷◌, ◌++◌, length, get_or, refl, ap, arith, add-one}
+use Rattle.std.proofs.Math.ListN.{set}
+use Rattle.as4_values.specs.declared.payload.Payload.{Payload}
+use Rattle.exchange_model.specs.Apply.{emptied}
+use Rattle.exchange_model.specs.declared.inbox_entry.InboxEntry.{InboxEntry}
+
+-- one that comes stays as it is
+pub emptied_push : (n : ℕ) (xs : List InboxEntry) (x : InboxEntry) → n ≤ length xs
+    → emptied n (xs ++ x ∷ []) ≡ emptied n xs ++ x ∷ []
+unfolding emptied
+emptied_push zero xs x h = refl
+emptied_push (suc n) [] x h = absurd (omega arith)
+emptied_push (suc n) (y ∷ xs) x h =
+    ap (λ ys. record y { payloads = [] } ∷ ys) (emptied_push n xs x (omega arith))
+
+-- those that are empty stay so
+pub kept_push : (n : ℕ) (xs : List InboxEntry) (x : InboxEntry) → n ≤ length xs → emptied n xs ≡ xs
+    → emptied n (xs ++ x ∷ []) ≡ xs ++ x ∷ []
+kept_push n xs x h e = rw (emptied_push n xs x h) (ap (λ ys. ys ++ x ∷ []) e)
+
+-- where the one behind them is emptied too, it is one more
+emptied_suc : (at : ℕ) (xs : List InboxEntry) (x : InboxEntry) → at < length xs
+    → x ≡ get_or (emptied at xs) at x
+    → set (emptied at xs) at (record x { payloads = [] }) ≡ emptied (suc at) xs
+unfolding emptied
+emptied_suc at [] x h e = absurd (omega arith)
+emptied_suc zero (y ∷ xs) x h e = ap (λ (z : InboxEntry). record z { payloads = [] } ∷ xs) e
+emptied_suc (suc at) (y ∷ xs) x h e =
+    ap (λ ys. record y { payloads = [] } ∷ ys) (emptied_suc at xs x (omega arith) e)
+
+pub emptied_next : (at : ℕ) (xs ys : List InboxEntry) (x : InboxEntry) (payloads : List Payload) → at < length xs
+    → ys ≡ emptied at xs → x ≡ get_or ys at x → payloads ≡ []
+    → set ys at (record x { payloads = payloads }) ≡ emptied (at + 1) xs
+emptied_next at xs ys x payloads h are e none =
+    let same : x ≡ get_or (emptied at xs) at x = rw are at e in
+    rw (are, none, add-one) (emptied_suc at xs x h same)
+
+-- once is enough
+emptied_twice : (n : ℕ) (xs : List InboxEntry) → emptied n (emptied n xs) ≡ emptied n xs
+unfolding emptied
+emptied_twice zero xs = refl
+emptied_twice (suc n) [] = refl
+emptied_twice (suc n) (y ∷ xs) = ap (λ ys. record y { payloads = [] } ∷ ys) (emptied_twice n xs)
+
+pub kept_emptied : (n : ℕ) (xs ys : List InboxEntry) → ys ≡ emptied n xs → emptied n ys ≡ ys
+kept_emptied n xs ys e = rw e (emptied_twice n xs)

@@ -1,0 +1,137 @@
+//! The entries of an inbox, by number, in the order in which they came:
+//!
+//!     0 .. confirmed    taken over: the header stays, so that the identifier is held for good
+//!     confirmed .. len  header and payloads
+
+ghost use Rattle.std.specs.Prelude.{◌≡◌, ◌+◌, ◌<◌, ◌≤◌, ◌++◌, ◌∷◌, [], List, false, length, OnOk, IsSome, vec_len};
+ghost use Rattle.std.specs.Vec.{vec_capacity};
+ghost use Rattle.exchange_model.specs.Apply.{emptied};
+ghost use Rattle.exchange_model.specs.Questions.{is_known};
+ghost use Rattle.inbox.specs.Deliveries.{Deliveries};
+ghost use Rattle.inbox.specs.Reading.{IsHeld};
+
+use crate::held::Held;
+use as4_values::{MessageId, NoMemory, Payload, PlainData, Seq, UserHeader};
+use exchange_model::InboxEntry;
+use std::alloc::Global;
+use std::marker::Model;
+
+/// The messages that came.
+#[derive(Drop)]
+pub struct Inbox {
+    alloc: Global,
+    entries: Vec<InboxEntry>,
+    /// How many entries were taken over.
+    confirmed: usize,
+    /// For which identifier there is room for one more entry.
+    room: Option<MessageId>,
+}
+
+impl Model for Inbox {
+    ghost Value = { Deliveries };
+
+    ghost view = { λ i. record { entries = i.entries.items; confirmed = i.confirmed; room = i.room } };
+
+    ghost invariant = { λ i. (i.confirmed ≤ vec_len i.entries)
+        × (emptied i.confirmed i.entries.items ≡ i.entries.items)
+        × (IsSome i.room → vec_len i.entries < vec_capacity i.entries) };
+}
+
+impl Inbox {
+    #[tactic(auto, unfolding(exchange_model::specs::Apply::emptied))]
+    pub fn new(alloc: Global) -> Inbox
+        ensures { result ≡ record { entries = []; confirmed = 0; room = None } }
+    {
+        Inbox {
+            alloc,
+            entries: Vec::new(alloc),
+            confirmed: 0,
+            room: None,
+        }
+    }
+
+    /// Makes room for one entry of this identifier. Room for another identifier ends.
+    pub fn reserve(&mut self, id: &MessageId) -> Result<(), NoMemory>
+        ensures ok { OnOk result (self.new.room ≡ Some id.now) }
+        ensures entries { self.new.entries ≡ self.old.entries }
+        ensures confirmed { self.new.confirmed ≡ self.old.confirmed }
+    {
+        let id = id.try_clone(self.alloc)?;
+        self.entries.reserve(1)?;
+        self.room = Some(id);
+        Ok(())
+    }
+
+    /// Adds a message; takes no memory.
+    #[tactic(auto, using(crate::proofs::EmptiedLemmas::kept_push))]
+    pub fn commit(&mut self, header: UserHeader, payloads: Seq<Payload>)
+        requires room { self.old.room ≡ Some header.id }
+        requires new { is_known header.id self.old.entries ≡ false }
+        ensures entries { self.new.entries ≡ self.old.entries ++ record { header = header; payloads = payloads } ∷ [] }
+        ensures confirmed { self.new.confirmed ≡ self.old.confirmed }
+    {
+        self.room = None;
+        match self.entries.push(InboxEntry { header, payloads }) {
+            Ok(()) => {}
+            Err(_) => unreachable!(),
+        }
+    }
+
+    /// Whether a message of this identifier came, taken over or not.
+    #[tactic(auto, unfolding(exchange_model::specs::Questions::is_known))]
+    pub fn holds(&self, id: &MessageId) -> bool
+        ensures { result ≡ is_known id.now self.now.entries }
+    {
+        let wanted = id.bytes();
+        self.entries
+            .iter()
+            .any(|entry| entry.header.id.bytes() == wanted)
+    }
+
+    /// How many messages came.
+    pub fn len(&self) -> u64
+        ensures { result ≡ length self.now.entries }
+    {
+        self.entries.len() as u64
+    }
+
+    /// How many of them were taken over: these are the first.
+    pub fn confirmed(&self) -> u64
+        ensures value { result ≡ self.now.confirmed }
+        ensures within { self.now.confirmed ≤ length self.now.entries }
+    {
+        self.confirmed as u64
+    }
+
+    /// The message of this number, from 0.
+    pub fn read(&self, n: u64) -> Held<'_>
+        ensures { IsHeld self.now n result }
+    {
+        if n < self.confirmed() {
+            return Held::Gone;
+        }
+        match self.entries.get(n as usize) {
+            Some(entry) => Held::Entry {
+                header: &entry.header,
+                payloads: &entry.payloads,
+            },
+            None => Held::NoEntry,
+        }
+    }
+
+    /// The messages up to this one were taken over: their payloads go. Takes no memory.
+    pub fn confirm(&mut self, upto: u64)
+        requires open { self.old.confirmed ≤ upto }
+        requires there { upto < length self.old.entries }
+        ensures entries { self.new.entries ≡ emptied (upto + 1) self.old.entries }
+        ensures confirmed { self.new.confirmed ≡ upto + 1 }
+        ensures room { self.new.room ≡ self.old.room }
+    {
+        let first = self.confirmed;
+        let end = upto as usize + 1;
+        for at in first..end {
+            self.entries[at].payloads = Seq::of(Vec::new(self.alloc));
+        }
+        self.confirmed = end;
+    }
+}

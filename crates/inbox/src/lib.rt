@@ -1,0 +1,10 @@
+//! The messages that came, each identifier once and for good.
+#![tactic(auto)]
+
+mod held;
+mod inbox;
+#[cfg(test)]
+mod tests;
+
+pub use held::Held;
+pub use inbox::Inbox;

@@ -1,0 +1,179 @@
+//! The outbox: the submission of each number stands at that place.
+
+ghost use Rattle.std.specs.Prelude.{◌≡◌, ℕ, ◌≤◌, [], ◌∷◌, ◌++◌, IsTrue, length, map, slice_get, count_by, option_map, option_copied, IfSome, OnOk};
+ghost use Rattle.std.specs.Option.{option_and_then};
+ghost use Rattle.exchange_model.specs.Questions.{due, is_pending, is_waiting, is_spent, sent_at, sent_of, standing_of};
+ghost use Rattle.exchange_model.specs.Apply.{unsent, tried, marked, changed, failed_if_spent, is_one};
+ghost use Rattle.exchange_model.specs.declared.sent.Sent.{Sent};
+ghost use Rattle.outbox.specs.Submissions.{StandFrom, code_of};
+
+use crate::marking;
+use as4_effects::Submission;
+use as4_values::{Code, MAX_MOMENT, MessageId, NoMemory, PlainData};
+use exchange_model::{Mark, Sent, Standing};
+use std::alloc::Global;
+use std::marker::Model;
+
+/// The submissions of one end, in order of number, and room for one more. Contracts see a `Submissions`.
+#[derive(Drop)]
+pub struct Outbox {
+    alloc: Global,
+    sent: Vec<Sent>,
+    room: Option<MessageId>,
+}
+
+impl Model for Outbox {
+    ghost use Rattle.std.specs.Prelude.{◌<◌, IsSome};
+    ghost use Rattle.std.specs.Vec.{vec_len, vec_capacity};
+    ghost use Rattle.outbox.specs.Submissions.{Submissions, StandFrom};
+
+    ghost Value = { Submissions };
+
+    ghost view = { λ o. record { sent = o.sent.items; room = o.room } };
+
+    ghost invariant = { λ o. StandFrom 0 o.sent.items × (IsSome o.room → vec_len o.sent < vec_capacity o.sent) };
+}
+
+impl Outbox {
+    #[tactic(auto, unfolding(crate::specs::Submissions::StandFrom))]
+    pub fn new(alloc: Global) -> Outbox
+        ensures { result ≡ record { sent = []; room = None } }
+    {
+        Outbox {
+            alloc,
+            sent: Vec::new(alloc),
+            room: None,
+        }
+    }
+
+    /// Makes room for one submission of this identifier. Room for another identifier ends.
+    pub fn reserve(&mut self, id: &MessageId) -> Result<(), NoMemory>
+        ensures ok { OnOk result (self.new.room ≡ Some id.now) }
+        ensures sent { self.new.sent ≡ self.old.sent }
+    {
+        self.sent.reserve(1)?;
+        self.room = Some(id.try_clone(self.alloc)?);
+        Ok(())
+    }
+
+    #[tactic(auto, using(crate::proofs::StandLemmas::numbered_at))]
+    pub fn len(&self) -> u64
+        ensures value { result ≡ length self.now.sent }
+        ensures numbered { (k : ℕ) (s : Sent) → slice_get self.now.sent k ≡ Some s → s.submission.number ≡ k }
+    {
+        self.sent.len() as u64
+    }
+
+    /// The submission of this number.
+    pub fn get(&self, number: u64) -> Option<&Submission>
+        ensures { option_copied result ≡ option_map (λ s. s.submission) (sent_at number self.now.sent) }
+    {
+        let sent = self.at(number)?;
+        Some(&sent.submission)
+    }
+
+    /// The number of the submission of this identifier.
+    pub fn number_of(&self, id: &MessageId) -> Option<u64>
+        ensures { result ≡ option_map (λ s. s.submission.number) (sent_of id.now self.now.sent) }
+    {
+        let sent = self
+            .sent
+            .iter()
+            .find(|sent| sent.submission.header.id.same(id))?;
+        Some(sent.submission.number)
+    }
+
+    /// When the submission is to be sent or given up, in milliseconds since 1970-01-01T00:00:00Z.
+    pub fn due(&self, number: u64) -> Option<u64>
+        ensures { result ≡ option_map due (sent_at number self.now.sent) }
+    {
+        let sent = self.at(number)?;
+        Some(marking::due_of(sent))
+    }
+
+    /// The code of the error with which the other end refused the submission.
+    pub fn refused_code(&self, number: u64) -> Option<&Code>
+        ensures { option_copied result ≡ option_and_then (λ s. code_of s.mark) (sent_at number self.now.sent) }
+    {
+        let sent = self.at(number)?;
+        match &sent.mark {
+            Mark::Refused { code } => Some(code),
+            _ => None,
+        }
+    }
+
+    #[tactic(auto, unfolding(exchange_model::specs::Questions::standing_of))]
+    pub fn status(&self, number: u64) -> Option<Standing>
+        ensures { result ≡ option_map (λ s. standing_of s.tries s.mark) (sent_at number self.now.sent) }
+    {
+        let sent = self.at(number)?;
+        Some(match sent.mark {
+            Mark::Pending => Standing::Pending { tries: sent.tries },
+            Mark::Receipted => Standing::Receipted,
+            Mark::Failed => Standing::Failed,
+            Mark::Refused { .. } => Standing::Refused,
+        })
+    }
+
+    /// Adds a submission; takes no memory.
+    #[tactic(auto, using(crate::proofs::StandLemmas::push_stands))]
+    pub fn commit_submit(&mut self, submission: Submission)
+        requires room { self.old.room ≡ Some submission.header.id }
+        requires next { submission.number ≡ length self.old.sent }
+        requires new { sent_of submission.header.id self.old.sent ≡ None }
+        ensures { self.new.sent ≡ self.old.sent ++ unsent submission ∷ [] }
+    {
+        self.sent.push_reserved(Sent {
+            submission,
+            tries: 0,
+            last: 0,
+            mark: Mark::Pending,
+        });
+        self.room = None;
+    }
+
+    /// The submission is sent once more, at this moment.
+    pub fn mark_tried(&mut self, number: u64, moment: u64)
+        requires waiting { IsTrue (is_one is_waiting (sent_at number self.old.sent)) }
+        requires dated { moment ≤ MAX_MOMENT }
+        ensures sent { self.new.sent ≡ changed number (tried moment) self.old.sent }
+        ensures room { self.new.room ≡ self.old.room }
+    {
+        marking::mark_tried(self.sent.as_mut_slice(), number, moment);
+    }
+
+    /// The receipt of the submission came.
+    pub fn mark_receipted(&mut self, number: u64)
+        requires pending { IsTrue (is_one is_pending (sent_at number self.old.sent)) }
+        ensures sent { self.new.sent ≡ changed number (marked Mark.Receipted) self.old.sent }
+        ensures room { self.new.room ≡ self.old.room }
+    {
+        marking::settle(self.sent.as_mut_slice(), number, Mark::Receipted);
+    }
+
+    /// The other end refused the submission with this error.
+    pub fn mark_ended(&mut self, number: u64, code: Code)
+        requires pending { IsTrue (is_one is_pending (sent_at number self.old.sent)) }
+        ensures sent { self.new.sent ≡ changed number (marked (Mark.Refused code)) self.old.sent }
+        ensures room { self.new.room ≡ self.old.room }
+    {
+        marking::settle(self.sent.as_mut_slice(), number, Mark::Refused { code });
+    }
+
+    /// Gives up each submission that is spent at this moment, and says how many these are.
+    pub fn fail_spent(&mut self, moment: u64) -> u64
+        ensures count { result ≡ count_by (is_spent moment) self.old.sent }
+        ensures sent { self.new.sent ≡ map (failed_if_spent moment) self.old.sent }
+        ensures room { self.new.room ≡ self.old.room }
+    {
+        marking::fail_spent(self.sent.as_mut_slice(), moment)
+    }
+
+    /// What was handed in at this number, and what became of it.
+    fn at(&self, number: u64) -> Option<&Sent>
+        ensures value { option_copied result ≡ sent_at number self.now.sent }
+        ensures dated { IfSome result (λ sent. sent.now.last ≤ MAX_MOMENT) }
+    {
+        self.sent.get(number as usize)
+    }
+}
