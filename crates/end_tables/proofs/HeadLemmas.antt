@@ -1,0 +1,66 @@
+-- The head of a queue is the head among what waits.
+use Rattle.std.proofs.Common.{◌≡◌, ℕ, List, [], ◌∷◌, Bool, true, false, cond, ◌&&◌, nat_le, nat_lt, Option, Some, None, option_map, map, refl, ap, sym, ◌∙◌}
+use Rattle.std.specs.List.{filter}
+use Rattle.std.proofs.lemmas.List.Elements.{filter_agree}
+use Rattle.as4_effects.specs.declared.queue.Queue.{Queue}
+use Rattle.channels.specs.Queues.{head_in}
+use Rattle.channels.specs.declared.waiting.Waiting.{Waiting}
+use Rattle.exchange_model.specs.End.{End}
+use Rattle.exchange_model.specs.Least.{first_least, lesser}
+use Rattle.exchange_model.specs.Questions.{due, head_of, is_in, is_ready, is_same_queue, is_waiting, queue_of}
+use Rattle.exchange_model.specs.declared.sent.Sent.{Sent}
+use Rattle.end_tables.specs.Waiting.{waiting_in, waiting_of}
+
+filter-map : {X Y : Type 0} (p : Y → Bool) (f : X → Y) (xs : List X) → filter p (map f xs) ≡ map f (filter (λ x. p (f x)) xs)
+filter-map p f [] = refl
+filter-map p f (x ∷ xs) =
+    elim (p (f x)) as (λ b. cond b (f x ∷ filter p (map f xs)) (filter p (map f xs)) ≡ map f (cond b (x ∷ filter (λ x. p (f x)) xs) (filter (λ x. p (f x)) xs)))
+    [ true ↦ ap (λ ys. f x ∷ ys) (filter-map p f xs) | false ↦ filter-map p f xs ]
+
+filter-filter : {X : Type 0} (p q : X → Bool) (xs : List X) → filter p (filter q xs) ≡ filter (λ x. q x && p x) xs
+filter-filter p q [] = refl
+filter-filter p q (x ∷ xs) =
+    elim (q x) as (λ b. filter p (cond b (x ∷ filter q xs) (filter q xs)) ≡ cond (b && p x) (x ∷ filter (λ x. q x && p x) xs) (filter (λ x. q x && p x) xs)) [
+      | true ↦
+          elim (p x) as (λ b. cond b (x ∷ filter p (filter q xs)) (filter p (filter q xs)) ≡ cond b (x ∷ filter (λ x. q x && p x) xs) (filter (λ x. q x && p x) xs))
+          [ true ↦ ap (λ ys. x ∷ ys) (filter-filter p q xs) | false ↦ filter-filter p q xs ]
+      | false ↦ filter-filter p q xs
+    ]
+
+lesser-map : {X Y : Type 0} (key : Y → ℕ) (f : X → Y) (x : X) (o : Option X) → lesser key (f x) (option_map f o) ≡ f (lesser (λ x. key (f x)) x o)
+lesser-map key f x None = refl
+lesser-map key f x (Some y) =
+    elim (nat_lt (key (f y)) (key (f x))) as (λ b. cond b (f y) (f x) ≡ f (cond b y x)) [ true ↦ refl | false ↦ refl ]
+
+first_least-map : {X Y : Type 0} (key : Y → ℕ) (f : X → Y) (xs : List X) → first_least key (map f xs) ≡ option_map f (first_least (λ x. key (f x)) xs)
+unfolding first_least
+first_least-map key f [] = refl
+first_least-map key f (x ∷ xs) =
+    ap (λ o. Some (lesser key (f x) o)) (first_least-map key f xs) ∙ ap Some (lesser-map key f x (first_least (λ x. key (f x)) xs))
+
+option_map-option_map : {X Y Z : Type 0} (g : Y → Z) (f : X → Y) (o : Option X) → option_map g (option_map f o) ≡ option_map (λ x. g (f x)) o
+option_map-option_map g f None = refl
+option_map-option_map g f (Some x) = refl
+
+tests_swap : (a b c : Bool) → (a && (b && c)) ≡ ((a && c) && b)
+tests_swap true true true = refl
+tests_swap true true false = refl
+tests_swap true false true = refl
+tests_swap true false false = refl
+tests_swap false b c = refl
+
+head_is : (q : Queue) (end : End) → head_in q end.moment (waiting_in end.sent) ≡ option_map (λ (s : Sent). s.submission.number) (head_of q end)
+unfolding head_in head_of waiting_in
+head_is q end =
+    let here : Waiting → Bool = λ w. is_same_queue w.queue q && nat_le w.due end.moment in
+    let one = filter-map here waiting_of (filter is_waiting end.sent) in
+    let two = filter-filter (λ s. here (waiting_of s)) is_waiting end.sent in
+    let three = filter_agree (λ s. is_waiting s && here (waiting_of s)) (λ s. is_ready end.moment s && is_in q s) (λ s. tests_swap (is_waiting s) (is_in q s) (nat_le (due s) end.moment)) end.sent in
+    ap (λ ws. option_map (λ (w : Waiting). w.number) (first_least (λ (w : Waiting). w.due) ws)) (one ∙ ap (map waiting_of) (two ∙ three))
+    ∙ ap (option_map (λ (w : Waiting). w.number)) (first_least-map (λ (w : Waiting). w.due) waiting_of (filter (λ s. is_ready end.moment s && is_in q s) end.sent))
+    ∙ option_map-option_map (λ (w : Waiting). w.number) waiting_of (first_least due (filter (λ s. is_ready end.moment s && is_in q s) end.sent))
+
+-- what the queues say of what waits is the number of the head
+pub head_shown : (q : Queue) (end : End) (waiting : List Waiting) (r : Option ℕ) → r ≡ head_in q end.moment waiting → waiting ≡ waiting_in end.sent
+    → r ≡ option_map (λ (s : Sent). s.submission.number) (head_of q end)
+head_shown q end waiting r e step = e ∙ ap (head_in q end.moment) step ∙ head_is q end

@@ -1,0 +1,7 @@
+pub mod CountLemmas
+pub mod HeadLemmas
+pub mod KeptLemmas
+pub mod NumberLemmas
+pub mod QueueLemmas
+pub mod StepLemmas
+pub mod WaitingLemmas

@@ -1,0 +1,6 @@
+pub mod Again
+pub mod Numbered
+pub mod Reading
+pub mod Rooms
+pub mod Totals
+pub mod Waiting

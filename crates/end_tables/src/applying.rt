@@ -1,0 +1,151 @@
+//! Effects change the tables. What they need was reserved: nothing here takes memory, and nothing can fail.
+//!
+//!     Submitted  the outbox has one more, which waits in its queue
+//!     Tried      it waits anew with a later due moment, as long as it is to be sent again
+//!     Receipted  it is settled, and waits no more
+//!     Refused    the same
+//!     Ticked     those that are spent are given up: none of these waits
+//!     Delivered  the inbox has one more
+//!     Confirmed  those up to a number lose their payloads
+//!
+//! `Outbox::len` is called where a proof needs what it says besides: that each submission stands at its number.
+
+ghost use Rattle.std.specs.Prelude.{◌≡◌, None, Some, IsTrue};
+ghost use Rattle.channels.specs.Queues.{waiting_at, without};
+ghost use Rattle.end_tables.specs.Again.{with_again};
+ghost use Rattle.end_tables.specs.Rooms.{HasRoom, queue_at, queue_for};
+ghost use Rattle.end_tables.specs.Waiting.{waiting_in};
+ghost use Rattle.exchange_model.specs.Apply.{after, is_fit};
+ghost use Rattle.exchange_model.specs.Questions.{sent_at};
+
+use crate::standing;
+use crate::tables::EndTables;
+use as4_effects::{Delivery, Effect, Queue, Submission, Tick};
+use as4_values::Code;
+use channels::Channels;
+use outbox::Outbox;
+
+impl EndTables {
+    /// Makes the change of an effect. Takes no memory.
+    pub fn apply(&mut self, effect: Effect, queue: &Queue)
+        requires fit { IsTrue (is_fit effect self.old.end) }
+        requires room { HasRoom self.old.rooms self.old.end.sent effect }
+        requires queue { queue.now ≡ queue_for self.old.end.sent effect }
+        ensures { self.new.end ≡ after effect self.old.end }
+    {
+        match effect {
+            Effect::Submitted(submission) => self.submit(submission, queue),
+            Effect::Ticked(tick) => self.tick(tick),
+            Effect::Tried { number } => self.send_again(number, queue),
+            Effect::Delivered(delivery) => self.deliver(delivery),
+            Effect::Receipted { number } => self.receipt(number, queue),
+            Effect::Refused { number, code } => self.refuse(number, code, queue),
+            Effect::Confirmed { upto } => self.confirm(upto),
+        }
+    }
+
+    #[tactic(auto, unfolding(exchange_model::specs::Apply::after, exchange_model::specs::Apply::is_fit, crate::specs::Rooms::HasRoom, crate::specs::Rooms::queue_for))]
+    fn submit(&mut self, submission: Submission, queue: &Queue)
+        requires fit { IsTrue (is_fit (Effect.Submitted submission) self.old.end) }
+        requires room { HasRoom self.old.rooms self.old.end.sent (Effect.Submitted submission) }
+        requires queue { queue.now ≡ queue_for self.old.end.sent (Effect.Submitted submission) }
+        ensures { self.new.end ≡ after (Effect.Submitted submission) self.old.end }
+    {
+        let (number, due) = (submission.number, submission.moment);
+        let _numbered = self.outbox.len();
+        self.outbox.commit_submit(submission);
+        self.channels.insert(queue, due, number);
+    }
+
+    #[tactic(auto, unfolding(exchange_model::specs::Apply::after, exchange_model::specs::Apply::is_fit))]
+    fn tick(&mut self, tick: Tick)
+        requires { IsTrue (is_fit (Effect.Ticked tick) self.old.end) }
+        ensures { self.new.end ≡ after (Effect.Ticked tick) self.old.end }
+    {
+        let _failed = self.outbox.fail_spent(tick.moment);
+        self.moment = tick.moment;
+    }
+
+    #[tactic(auto, unfolding(exchange_model::specs::Apply::after, exchange_model::specs::Apply::is_fit, crate::specs::Rooms::HasRoom, crate::specs::Rooms::queue_for))]
+    fn send_again(&mut self, number: u64, queue: &Queue)
+        requires fit { IsTrue (is_fit (Effect.Tried number) self.old.end) }
+        requires room { HasRoom self.old.rooms self.old.end.sent (Effect.Tried number) }
+        requires queue { queue.now ≡ queue_for self.old.end.sent (Effect.Tried number) }
+        ensures { self.new.end ≡ after (Effect.Tried number) self.old.end }
+    {
+        let _numbered = self.outbox.len();
+        take_out(&self.outbox, &mut self.channels, queue, number);
+        self.outbox.mark_tried(number, self.moment);
+        put_back(&self.outbox, &mut self.channels, queue, number);
+    }
+
+    #[tactic(auto, unfolding(exchange_model::specs::Apply::after, exchange_model::specs::Apply::is_fit, crate::specs::Rooms::HasRoom))]
+    fn deliver(&mut self, delivery: Delivery)
+        requires fit { IsTrue (is_fit (Effect.Delivered delivery) self.old.end) }
+        requires room { HasRoom self.old.rooms self.old.end.sent (Effect.Delivered delivery) }
+        ensures { self.new.end ≡ after (Effect.Delivered delivery) self.old.end }
+    {
+        let Delivery { header, payloads } = delivery;
+        self.inbox.commit(header, payloads);
+    }
+
+    #[tactic(auto, unfolding(exchange_model::specs::Apply::after, exchange_model::specs::Apply::is_fit, crate::specs::Rooms::queue_for))]
+    fn receipt(&mut self, number: u64, queue: &Queue)
+        requires fit { IsTrue (is_fit (Effect.Receipted number) self.old.end) }
+        requires queue { queue.now ≡ queue_for self.old.end.sent (Effect.Receipted number) }
+        ensures { self.new.end ≡ after (Effect.Receipted number) self.old.end }
+    {
+        let _numbered = self.outbox.len();
+        take_out(&self.outbox, &mut self.channels, queue, number);
+        self.outbox.mark_receipted(number);
+    }
+
+    #[tactic(auto, unfolding(exchange_model::specs::Apply::after, exchange_model::specs::Apply::is_fit, crate::specs::Rooms::queue_for))]
+    fn refuse(&mut self, number: u64, code: Code, queue: &Queue)
+        requires fit { IsTrue (is_fit (Effect.Refused number code) self.old.end) }
+        requires queue { queue.now ≡ queue_for self.old.end.sent (Effect.Refused number code) }
+        ensures { self.new.end ≡ after (Effect.Refused number code) self.old.end }
+    {
+        let _numbered = self.outbox.len();
+        take_out(&self.outbox, &mut self.channels, queue, number);
+        self.outbox.mark_ended(number, code);
+    }
+
+    #[tactic(auto, unfolding(exchange_model::specs::Apply::after, exchange_model::specs::Apply::is_fit))]
+    fn confirm(&mut self, upto: u64)
+        requires { IsTrue (is_fit (Effect.Confirmed upto) self.old.end) }
+        ensures { self.new.end ≡ after (Effect.Confirmed upto) self.old.end }
+    {
+        self.inbox.confirm(upto);
+    }
+}
+
+/// Takes a submission out of its queue, where it waits there.
+fn take_out(outbox: &Outbox, channels: &mut Channels, queue: &Queue, number: u64)
+    requires step { channels.old.waiting ≡ waiting_in outbox.now.sent }
+    requires queue { queue.now ≡ queue_at number outbox.now.sent }
+    ensures waiting { channels.new.waiting ≡ without number channels.old.waiting }
+    ensures room { channels.new.room ≡ channels.old.room }
+{
+    let _numbered = outbox.len();
+    if standing::waits(outbox, number) {
+        if let Some(due) = outbox.due(number) {
+            channels.remove(queue, due, number);
+        }
+    }
+}
+
+/// Puts a submission back into its queue, where it still waits.
+fn put_back(outbox: &Outbox, channels: &mut Channels, queue: &Queue, number: u64)
+    requires gone { waiting_at number channels.old.waiting ≡ None }
+    requires queue { queue.now ≡ queue_at number outbox.now.sent }
+    requires room { channels.old.room ≡ Some (record { queue = queue.now; number = number }) }
+    ensures { channels.new.waiting ≡ with_again (sent_at number outbox.now.sent) channels.old.waiting }
+{
+    let _numbered = outbox.len();
+    if standing::waits(outbox, number) {
+        if let Some(due) = outbox.due(number) {
+            channels.insert(queue, due, number);
+        }
+    }
+}

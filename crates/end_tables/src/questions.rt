@@ -1,0 +1,101 @@
+//! What can be asked of the tables. No answer takes memory.
+//!
+//! `Outbox::len` is called where a proof needs what it says besides: that each submission stands at its number.
+
+ghost use Rattle.std.specs.Prelude.{◌≡◌, option_map, option_copied, IfSome};
+ghost use Rattle.std.specs.Option.{option_and_then};
+ghost use Rattle.end_tables.specs.Reading.{IsRead};
+ghost use Rattle.exchange_model.specs.Apply.{is_fit, is_one};
+ghost use Rattle.exchange_model.specs.Questions.{head_of, is_known, is_pending, sent_at, sent_of, standing_of};
+ghost use Rattle.outbox.specs.Submissions.{code_of};
+
+use crate::standing;
+use crate::tables::EndTables;
+use as4_effects::{Effect, Queue, Submission};
+use as4_values::{Code, MessageId};
+use exchange_model::Standing;
+use inbox::Held;
+
+impl EndTables {
+    /// The submission of this number.
+    pub fn get(&self, number: u64) -> Option<&Submission>
+        ensures { option_copied result ≡ option_map (λ s. s.submission) (sent_at number self.now.end.sent) }
+    {
+        self.outbox.get(number)
+    }
+
+    /// The number of the submission of this identifier.
+    pub fn number_of(&self, id: &MessageId) -> Option<u64>
+        ensures value { result ≡ option_map (λ s. s.submission.number) (sent_of id.now self.now.end.sent) }
+        ensures found { IfSome result (λ number. sent_at number self.now.end.sent ≡ sent_of id.now self.now.end.sent) }
+    {
+        let _numbered = self.outbox.len();
+        self.outbox.number_of(id)
+    }
+
+    /// How the submission of this number stands.
+    pub fn status(&self, number: u64) -> Option<Standing>
+        ensures { result ≡ option_map (λ s. standing_of s.tries s.mark) (sent_at number self.now.end.sent) }
+    {
+        self.outbox.status(number)
+    }
+
+    /// The code of the error with which the other end refused the submission.
+    pub fn refused_code(&self, number: u64) -> Option<&Code>
+        ensures { option_copied result ≡ option_and_then (λ s. code_of s.mark) (sent_at number self.now.end.sent) }
+    {
+        self.outbox.refused_code(number)
+    }
+
+    /// Whether the submission is neither receipted nor given up.
+    pub fn is_pending(&self, number: u64) -> bool
+        ensures { result ≡ is_one is_pending (sent_at number self.now.end.sent) }
+    {
+        standing::is_pending(&self.outbox, number)
+    }
+
+    /// The number of the queue's head: of those that may be sent now, the first that is due.
+    pub fn head(&self, queue: &Queue) -> Option<u64>
+        ensures value { result ≡ option_map (λ s. s.submission.number) (head_of queue.now self.now.end) }
+        ensures found { IfSome result (λ number. sent_at number self.now.end.sent ≡ head_of queue.now self.now.end) }
+    {
+        let _numbered = self.outbox.len();
+        self.channels.head(queue, self.moment)
+    }
+
+    /// Whether a message of this identifier came.
+    pub fn holds(&self, id: &MessageId) -> bool
+        ensures { result ≡ is_known id.now self.now.end.inbox }
+    {
+        self.inbox.holds(id)
+    }
+
+    /// The message that came under this number, from 0.
+    pub fn read(&self, n: u64) -> Held<'_>
+        ensures { IsRead self.now.end n result }
+    {
+        let _within = self.inbox.confirmed();
+        self.inbox.read(n)
+    }
+
+    /// Whether the effect can stand here.
+    #[tactic(auto, unfolding(exchange_model::specs::Apply::is_fit))]
+    pub fn fits(&self, effect: &Effect) -> bool
+        ensures { result ≡ is_fit effect.now self.now.end }
+    {
+        match effect {
+            Effect::Submitted(submission) => {
+                submission.number == self.outbox.len()
+                    && self.outbox.number_of(&submission.header.id).is_none()
+            }
+            Effect::Ticked(tick) => self.moment < tick.moment,
+            Effect::Tried { number } => standing::waits(&self.outbox, *number),
+            Effect::Delivered(delivery) => !self.inbox.holds(&delivery.header.id),
+            Effect::Receipted { number } => standing::is_pending(&self.outbox, *number),
+            Effect::Refused { number, .. } => standing::is_pending(&self.outbox, *number),
+            Effect::Confirmed { upto } => {
+                self.inbox.confirmed() <= *upto && *upto < self.inbox.len()
+            }
+        }
+    }
+}

@@ -1,0 +1,56 @@
+//! Room for effects: what takes memory is done before a change, and may fail.
+
+ghost use Rattle.std.specs.Prelude.{◌≡◌, Some, IsTrue, OnOk};
+ghost use Rattle.end_tables.specs.Rooms.{HasRoom, queue_at};
+ghost use Rattle.exchange_model.specs.Apply.{is_fit, is_one};
+ghost use Rattle.exchange_model.specs.Questions.{is_waiting, queue_of, sent_at};
+
+use crate::queues::queue_of;
+use crate::tables::EndTables;
+use as4_effects::{Effect, Submission};
+use as4_values::NoMemory;
+
+impl EndTables {
+    /// Makes room for the effect, and changes nothing else.
+    #[tactic(auto, unfolding(crate::specs::Rooms::HasRoom, exchange_model::specs::Apply::is_fit))]
+    pub fn reserve(&mut self, effect: &Effect) -> Result<(), NoMemory>
+        requires fit { IsTrue (is_fit effect.now self.old.end) }
+        ensures ok { OnOk result (HasRoom self.new.rooms self.new.end.sent effect.now) }
+        ensures end { self.new.end ≡ self.old.end }
+    {
+        match effect {
+            Effect::Submitted(submission) => self.reserve_submission(submission),
+            Effect::Tried { number } => self.reserve_again(*number),
+            Effect::Delivered(delivery) => {
+                self.inbox.reserve(&delivery.header.id)?;
+                Ok(())
+            }
+            _ => Ok(()),
+        }
+    }
+
+    /// Makes room for a submission, in the outbox and in its queue.
+    fn reserve_submission(&mut self, submission: &Submission) -> Result<(), NoMemory>
+        ensures outbox { OnOk result (self.new.rooms.outbox ≡ Some submission.now.header.id) }
+        ensures channels { OnOk result (self.new.rooms.channels
+            ≡ Some (record { queue = queue_of submission.now.route; number = submission.now.number })) }
+        ensures end { self.new.end ≡ self.old.end }
+    {
+        let queue = queue_of(self.alloc, &submission.route)?;
+        self.outbox.reserve(&submission.header.id)?;
+        self.channels.reserve(&queue, submission.number)?;
+        Ok(())
+    }
+
+    /// Makes room for a submission in its queue.
+    fn reserve_again(&mut self, number: u64) -> Result<(), NoMemory>
+        requires { IsTrue (is_one is_waiting (sent_at number self.old.end.sent)) }
+        ensures ok { OnOk result (self.new.rooms.channels
+            ≡ Some (record { queue = queue_at number self.old.end.sent; number = number })) }
+        ensures end { self.new.end ≡ self.old.end }
+    {
+        let queue = self.queue_at(number)?;
+        self.channels.reserve(&queue, number)?;
+        Ok(())
+    }
+}

@@ -1,0 +1,114 @@
+//! The tables of one end, and what holds between them:
+//!
+//!     outbox    each submission at its number, and what became of it
+//!     channels  of these the ones that wait, with their queue and their due moment
+//!     inbox     each message that came, by number
+
+ghost use Rattle.std.specs.Prelude.{◌≡◌, ◌+◌, ◌≤◌, length};
+ghost use Rattle.end_tables.specs.Rooms.{new_tables};
+
+use as4_values::MAX_MOMENT;
+use channels::Channels;
+use inbox::Inbox;
+use outbox::Outbox;
+use std::alloc::Global;
+use std::marker::Model;
+
+/// The most bytes that a journal has.
+pub const MAX_SIZE: u64 = 1 << 30;
+
+/// The tables of one end. Contracts see a `Kept`: the end, and what the tables have room for.
+#[derive(Drop)]
+pub struct EndTables {
+    pub(crate) alloc: Global,
+    pub(crate) outbox: Outbox,
+    /// Where the submissions of the outbox that wait do so.
+    pub(crate) channels: Channels,
+    pub(crate) inbox: Inbox,
+    /// The clock, in milliseconds since 1970-01-01T00:00:00Z.
+    pub(crate) moment: u64,
+    /// How many bytes the journal has.
+    pub(crate) size: u64,
+}
+
+impl Model for EndTables {
+    ghost use Rattle.std.specs.Prelude.{◌≡◌, ◌≤◌};
+    ghost use Rattle.end_tables.specs.Rooms.{Kept};
+    ghost use Rattle.end_tables.specs.Waiting.{waiting_in};
+
+    ghost Value = { Kept };
+
+    ghost view = { λ t. record {
+      end = record { sent = t.outbox.sent; inbox = t.inbox.entries; confirmed = t.inbox.confirmed; moment = t.moment; size = t.size };
+      rooms = record { outbox = t.outbox.room; channels = t.channels.room; inbox = t.inbox.room };
+    } };
+
+    ghost invariant = { λ t. (t.channels.waiting ≡ waiting_in t.outbox.sent) × (t.moment ≤ 253402300799999)
+        × (t.size ≤ 1073741824) × (9 ≤ t.size) };
+}
+
+impl EndTables {
+    /// The tables of an end to which nothing has happened.
+    #[tactic(auto, using(crate::proofs::WaitingLemmas::none_waits))]
+    pub fn new(alloc: Global) -> EndTables
+        ensures { result ≡ new_tables }
+    {
+        EndTables {
+            alloc,
+            outbox: Outbox::new(alloc),
+            channels: Channels::new(alloc),
+            inbox: Inbox::new(alloc),
+            moment: 0,
+            size: 9,
+        }
+    }
+
+    /// The clock, in milliseconds since 1970-01-01T00:00:00Z.
+    pub fn moment(&self) -> u64
+        ensures value { result ≡ self.now.end.moment }
+        ensures dated { result ≤ MAX_MOMENT }
+    {
+        self.moment
+    }
+
+    /// How many bytes the journal has.
+    pub fn size(&self) -> u64
+        ensures value { result ≡ self.now.end.size }
+        ensures limited { result ≤ MAX_SIZE }
+        ensures begun { 9 ≤ result }
+    {
+        self.size
+    }
+
+    /// How many messages were handed in to be sent.
+    pub fn submitted(&self) -> u64
+        ensures value { result ≡ length self.now.end.sent }
+        ensures limited { result ≤ 1048576 }
+    {
+        self.outbox.len()
+    }
+
+    /// How many messages came.
+    pub fn received(&self) -> u64
+        ensures { result ≡ length self.now.end.inbox }
+    {
+        self.inbox.len()
+    }
+
+    /// How many of the messages that came were taken over.
+    pub fn confirmed(&self) -> u64
+        ensures value { result ≡ self.now.end.confirmed }
+        ensures within { result ≤ length self.now.end.inbox }
+    {
+        self.inbox.confirmed()
+    }
+
+    /// The journal has grown by so many bytes.
+    pub fn grow(&mut self, by: u64)
+        requires { self.old.end.size + by ≤ MAX_SIZE }
+        ensures end { self.new.end ≡ record self.old.end { size = self.old.end.size + by } }
+        ensures rooms { self.new.rooms ≡ self.old.rooms }
+    {
+        self.size += by;
+    }
+}

@@ -1,0 +1,111 @@
+//! Effects made by hand.
+
+ghost use Rattle.std.specs.Prelude.{ℕ, IsTrue, IfSome};
+ghost use Rattle.as4_effects.specs.Pairing.{pair};
+ghost use Rattle.as4_effects.specs.Sound.{is_id_of, is_route, delivered_body, fits_an_effect, submitted_body};
+
+use as4_effects::{
+    Delivery, Effect, Submission, delivery_fits, is_id_of, is_route, pairs, submission_fits,
+};
+use as4_values::{
+    MessageId, Party, Payload, Route, Seq, Service, Side, Text, UserHeader, read_stamp,
+};
+use std::alloc::Global;
+
+fn text(alloc: Global, word: &[u8]) -> Option<Text> {
+    Text::read(alloc, word).ok()
+}
+
+fn side(alloc: Global, id: &[u8]) -> Option<Side> {
+    let party = Party {
+        id: text(alloc, id)?,
+        kind: None,
+    };
+    Some(Side {
+        parties: Seq::of(vec![in alloc; party].ok()?),
+        role: text(alloc, b"r")?,
+    })
+}
+
+fn header(alloc: Global, number: u64) -> Option<UserHeader> {
+    let stamp = read_stamp(alloc, b"2025-01-02T03:04:05Z").ok()?;
+    let id = MessageId::of_submission(alloc, number, 1).ok()?;
+    let from = side(alloc, b"a")?;
+    let to = side(alloc, b"b")?;
+    let value = text(alloc, b"s")?;
+    let action = text(alloc, b"act")?;
+    Some(UserHeader {
+        mpc: None,
+        stamp,
+        id,
+        ref_to: None,
+        from,
+        to,
+        agreement: None,
+        service: Service { value, kind: None },
+        action,
+        conversation: None,
+        properties: Seq::of(Vec::new(alloc)),
+        parts: Seq::of(Vec::new(alloc)),
+    })
+}
+
+/// Whether a submission of these is a submission.
+fn is_submission(
+    alloc: Global,
+    number: u64,
+    header: &UserHeader,
+    payloads: &Seq<Payload>,
+    route: &Route,
+) -> Option<bool>
+    ensures { IfSome result (λ whole. IsTrue whole
+        → IsTrue (is_id_of number header.now.id) × IsTrue (pair header.now.parts payloads.now) × IsTrue (is_route route.now)
+        × ((retries : ℕ) → IsTrue (fits_an_effect (submitted_body number header.now payloads.now route.now retries 60000 1000)))) }
+{
+    let paired = pairs(alloc, header.parts.items(), payloads.items()).ok()?;
+    let named = is_id_of(alloc, number, &header.id).ok()?;
+    Some(paired && named && is_route(route) && submission_fits(header, payloads, route))
+}
+
+/// A submission that is sent again so often, each minute, handed in at 1,000 ms.
+pub fn submitted(alloc: Global, number: u64, retries: u32) -> Option<Effect> {
+    let header = header(alloc, number)?;
+    let payloads = Seq::of(Vec::new(alloc));
+    let route = Route::Push {
+        address: text(alloc, b"http://h/")?,
+    };
+    if number >= 1_048_576 || retries > 1000 {
+        return None;
+    }
+    if !is_submission(alloc, number, &header, &payloads, &route)? {
+        return None;
+    }
+    Some(Effect::Submitted(Submission {
+        number,
+        header,
+        payloads,
+        route,
+        retries,
+        period: 60_000,
+        moment: 1000,
+    }))
+}
+
+/// Whether a delivery of these is a delivery.
+fn is_delivery(alloc: Global, header: &UserHeader, payloads: &Seq<Payload>) -> Option<bool>
+    ensures { IfSome result (λ whole. IsTrue whole
+        → IsTrue (pair header.now.parts payloads.now) × IsTrue (fits_an_effect (delivered_body header.now payloads.now))) }
+{
+    let paired = pairs(alloc, header.parts.items(), payloads.items()).ok()?;
+    Some(paired && delivery_fits(header, payloads))
+}
+
+/// The message of the identifier that the first submission of the other end has, without payloads.
+pub fn delivered(alloc: Global) -> Option<Effect> {
+    let header = header(alloc, 0)?;
+    let payloads = Seq::of(Vec::new(alloc));
+    if !is_delivery(alloc, &header, &payloads)? {
+        return None;
+    }
+    Some(Effect::Delivered(Delivery { header, payloads }))
+}
