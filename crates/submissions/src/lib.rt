@@ -1,0 +1,14 @@
+//! What is handed in to be sent becomes a submission.
+#![tactic(auto)]
+
+mod header;
+mod intake;
+mod limits;
+mod naming;
+mod parts;
+mod payloads;
+#[cfg(test)]
+mod tests;
+
+pub use intake::{Intake, submission};
+pub use limits::{are_too_large, is_media_text};
