@@ -1,0 +1,8 @@
+pub mod FrontLemmas
+pub mod HexLemmas
+pub mod LackingLemmas
+pub mod LineLemmas
+pub mod LoadLemmas
+pub mod OneLineLemmas
+pub mod SpellLemmas
+pub mod WordLemmas

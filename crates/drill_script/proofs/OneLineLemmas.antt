@@ -1,0 +1,106 @@
+-- No text is that of two lines.
+use Rattle.std.proofs.Common.{◌≡◌, ℕ, ◌≤◌, List, [], get_or, IsTrue, codes, refl, sym, ◌∙◌, ap, arith}
+use Rattle.std.specs.Fmt.{decimal}
+use Rattle.std.proofs.lemmas.Bool.{leb-true}
+use Rattle.std.proofs.lemmas.Fmt.{decimal_injective}
+use Rattle.std.proofs.lemmas.List.{append-nil, append_cancel_left}
+use Rattle.drill_script.specs.Lacking.{spaced}
+use Rattle.drill_script.specs.LineText.{line_text, is_line, is_load, end_text, way_text, load_text, hex_text}
+use Rattle.drill_script.specs.LineParts.{Spells, verb_of, verb_text, tail_text, settings_text}
+use Rattle.drill_script.specs.declared.line.EndName.{EndName}
+use Rattle.drill_script.specs.declared.line.EndName.TheVariants.{A, B}
+use Rattle.drill_script.specs.declared.line.Line.{Line}
+use Rattle.drill_script.specs.declared.line.ScriptLoad.{ScriptLoad}
+use Rattle.drill_script.specs.declared.line.ScriptLoad.TheVariants.{Nothing, Hex, Size}
+use Rattle.drill_script.specs.declared.line.Way.{Way}
+use Rattle.drill_script.specs.declared.line.Way.TheVariants.{Push, Pull}
+use Rattle.drill_script.specs.declared.verb.Verb.{Verb}
+use Rattle.drill_script.specs.declared.verb.Verb.TheVariants.{Mode, Submit, Take, Ask, Count}
+use Rattle.drill_script.proofs.HexLemmas.{hex_done}
+use Rattle.drill_script.proofs.LackingLemmas.{one_cut}
+use Rattle.drill_script.proofs.LineLemmas.{line_parts, verb_unspaced, one_verb}
+use Rattle.drill_script.proofs.LoadLemmas.{none_only, none_text, hex_load_text, size_load_text, hex_in_range}
+use Rattle.drill_script.proofs.SpellLemmas.{take_spelled, ask_spelled, submit_spelled, mode_spelled, counted_spelled}
+use Rattle.drill_script.proofs.WordLemmas.{end_unspaced, way_unspaced, decimal_unspaced, name_unspaced}
+
+one_end : (end other : EndName) → end_text end ≡ end_text other → end ≡ other
+one_end A A same = refl
+one_end A B same = absurd (omega (arith, ap (λ (l : List ℕ). get_or l 0 0) same))
+one_end B A same = absurd (omega (arith, ap (λ (l : List ℕ). get_or l 0 0) same))
+one_end B B same = refl
+
+one_way : (way other : Way) → way_text way ≡ way_text other → way ≡ other
+one_way Push Push same = refl
+one_way Push Pull same = absurd (omega (arith, ap (λ (l : List ℕ). get_or l 2 0) same))
+one_way Pull Push same = absurd (omega (arith, ap (λ (l : List ℕ). get_or l 2 0) same))
+one_way Pull Pull same = refl
+
+hex_is_not_size : (bytes : List ℕ) (size : ℕ) → load_text (Hex bytes) ≡ load_text (Size size) → ⊥
+hex_is_not_size bytes size same = omega (arith, ap (λ (l : List ℕ). get_or l 0 0) (sym (hex_load_text bytes) ∙ same ∙ size_load_text size))
+
+one_load : (load other : ScriptLoad) → IsTrue (is_load load) → IsTrue (is_load other) → load_text load ≡ load_text other → load ≡ other
+one_load Nothing other first second same = none_only (load_text Nothing) other none_text same
+one_load load Nothing first second same = sym (none_only (load_text Nothing) load none_text (sym same))
+one_load (Hex bytes) (Hex others) first second same =
+    let text : hex_text bytes ≡ hex_text others = append_cancel_left (codes "hex=") (hex_text bytes) (hex_text others) (sym (hex_load_text bytes) ∙ same ∙ hex_load_text others) in
+    ap Hex (hex_done (hex_text bytes) bytes others [] (sym (append-nil (hex_text bytes))) text (hex_in_range bytes first) (hex_in_range others second) refl)
+one_load (Hex bytes) (Size size) first second same = absurd (hex_is_not_size bytes size same)
+one_load (Size size) (Hex bytes) first second same = absurd (hex_is_not_size bytes size (sym same))
+one_load (Size size) (Size other) first second same =
+    let text : decimal size ≡ decimal other = append_cancel_left (codes "size=") (decimal size) (decimal other) (sym (size_load_text size) ∙ same ∙ size_load_text other) in
+    let low : size ≤ 16777216 = leb-true size 16777216 first in
+    let other_low : other ≤ 16777216 = leb-true other 16777216 second in
+    ap Size (decimal_injective size other (omega arith) (omega arith) text)
+
+one_spaced_end : (end other : EndName) (rest behind : List ℕ) → spaced (end_text end) rest ≡ spaced (end_text other) behind → (end ≡ other) × (rest ≡ behind)
+one_spaced_end end other rest behind same =
+    let parts = one_cut 32 (end_text end) rest (end_text other) behind same (end_unspaced end) (end_unspaced other) in
+    (one_end end other parts.0, parts.1)
+
+one_settings : (way other_way : Way) (retries other_retries period other_period : ℕ) → retries ≤ 1000 → other_retries ≤ 1000 → period ≤ 1000000000 → other_period ≤ 1000000000 → settings_text way retries period ≡ settings_text other_way other_retries other_period → (way ≡ other_way) × (retries ≡ other_retries) × (period ≡ other_period)
+one_settings way other_way retries other_retries period other_period few other_few short other_short same =
+    let ways = one_cut 32 (way_text way) (spaced (decimal retries) (decimal period)) (way_text other_way) (spaced (decimal other_retries) (decimal other_period)) same (way_unspaced way) (way_unspaced other_way) in
+    let numbers = one_cut 32 (decimal retries) (decimal period) (decimal other_retries) (decimal other_period) ways.1 (decimal_unspaced retries (omega arith)) (decimal_unspaced other_retries (omega arith)) in (
+      one_way way other_way ways.0,
+      decimal_injective retries other_retries (omega arith) (omega arith) numbers.0,
+      decimal_injective period other_period (omega arith) (omega arith) numbers.1,
+    )
+
+one_spelled : (verb : Verb) (tail : List ℕ) (one other : Line) → Spells verb tail one → Spells verb tail other → one ≡ other
+one_spelled Take tail one other first second =
+    let a = take_spelled tail one first in
+    let b = take_spelled tail other second in
+    let ends : a.0 ≡ b.0 = one_end a.0 b.0 (sym a.2 ∙ b.2) in
+    cc (a.1, b.1, ends)
+one_spelled Ask tail one other first second =
+    let a = ask_spelled tail one first in
+    let b = ask_spelled tail other second in
+    let parts = one_spaced_end a.0 b.0 a.1 b.1 (sym a.2.tail_is ∙ b.2.tail_is) in
+    cc (a.2.line_is, b.2.line_is, parts.0, parts.1)
+one_spelled Submit tail one other first second =
+    let a = submit_spelled tail one first in
+    let b = submit_spelled tail other second in
+    let parts = one_spaced_end a.0 b.0 (spaced a.1 (load_text a.2)) (spaced b.1 (load_text b.2)) (sym a.3.tail_is ∙ b.3.tail_is) in
+    let modes = one_cut 32 a.1 (load_text a.2) b.1 (load_text b.2) parts.1 (name_unspaced a.1 a.3.named) (name_unspaced b.1 b.3.named) in
+    let loads : a.2 ≡ b.2 = one_load a.2 b.2 a.3.loaded b.3.loaded modes.1 in
+    cc (a.3.line_is, b.3.line_is, parts.0, modes.0, loads)
+one_spelled Mode tail one other first second =
+    let a = mode_spelled tail one first in
+    let b = mode_spelled tail other second in
+    let names = one_cut 32 a.0 (settings_text a.1 a.2 a.3) b.0 (settings_text b.1 b.2 b.3) (sym a.4.tail_is ∙ b.4.tail_is) (name_unspaced a.0 a.4.named) (name_unspaced b.0 b.4.named) in
+    let settings = one_settings a.1 b.1 a.2 b.2 a.3 b.3 a.4.few b.4.few a.4.short b.4.short names.1 in
+    cc (a.4.line_is, b.4.line_is, names.0, settings.0, settings.1, settings.2)
+one_spelled (Count counted) tail one other first second =
+    let a = counted_spelled counted tail one first in
+    let b = counted_spelled counted tail other second in
+    let parts = one_spaced_end a.0 b.0 (decimal a.1) (decimal b.1) (sym a.2.tail_is ∙ b.2.tail_is) in
+    let numbers : a.1 ≡ b.1 = decimal_injective a.1 b.1 a.2.small b.2.small parts.1 in
+    cc (a.2.line_is, b.2.line_is, parts.0, numbers)
+
+pub one_line : (one other : Line) → IsTrue (is_line one) → IsTrue (is_line other) → line_text one ≡ line_text other → one ≡ other
+one_line one other first second same =
+    let cut = one_cut 32 (verb_text (verb_of one)) (tail_text one) (verb_text (verb_of other)) (tail_text other) (sym (line_parts one) ∙ same ∙ line_parts other) (verb_unspaced (verb_of one)) (verb_unspaced (verb_of other)) in
+    let verbs : verb_of other ≡ verb_of one = sym (one_verb (verb_of one) (verb_of other) cut.0) in
+    one_spelled (verb_of one) (tail_text one) one other
+    (record { verb_is = refl; tail_is = refl; in_range = first })
+    (record { verb_is = verbs; tail_is = cut.1; in_range = second })

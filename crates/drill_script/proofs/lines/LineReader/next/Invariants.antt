@@ -1,0 +1,17 @@
+use Rattle.std.proofs.Common.{◌≡◌, ◌+◌, ◌-◌, ◌≤◌, length, take}
+use Rattle.as4_flow.specs.Told.{before}
+use Rattle.drill_script.specs.Lacking.{Lacks}
+use Rattle.drill_script.specs.LineText.{line_limit}
+use Rattle.drill_script.proofs.lines.LineReader.next.Given as goal
+
+abbrev pub invariant-pieces : goal.invariant-pieces
+invariant-pieces g l = record {
+  within : l.scanned ≤ length l.self;
+  lacks : Lacks 10 (take l.scanned l.self);
+  whole : before l.fn.self (g.S.Source.left l.fn.source) ≡ before l.self (g.S.Source.left l.source);
+  grew : length l.fn.self ≤ length l.self;
+  counted : g.S.Source.faults l.fn.source ≤ g.S.Source.faults l.source;
+}
+
+abbrev pub decreases-pieces : goal.decreases-pieces
+decreases-pieces g l = line_limit + 1 - length l.self

@@ -1,0 +1,93 @@
+-- The lines of a drill script: words parted by one space.
+--
+--     mode NAME WAY RETRIES PERIOD      WAY is push or pull
+--     submit END MODE LOAD              END is a or b; LOAD is none, hex=DIGITS or size=S
+--     tick END MOMENT
+--     take END
+--     ask END MODE
+--     came END PACKAGE
+--     lost END PACKAGE
+--     read END NUMBER
+--     confirm END NUMBER
+--     status END NUMBER
+--
+-- A line is the text of what it says, so it is spelled in one way only. Numbers are decimal, without a sign and without
+-- leading zeros.
+use Rattle.std.specs.Prelude.{ℕ, ◌+◌, ◌/◌, ◌%◌, ◌^◌, List, [], ◌∷◌, ◌++◌, Bool, true, ◌&&◌, ◌||◌, nat_le, nat_lt, if◌then◌else◌, length, codes}
+use Rattle.std.specs.Fmt.{decimal}
+use Rattle.std.specs.List.{flat_map, list_all}
+use Rattle.drill_script.specs.declared.line.EndName.{EndName}
+use Rattle.drill_script.specs.declared.line.EndName.TheVariants.{A, B}
+use Rattle.drill_script.specs.declared.line.Line.{Line}
+use Rattle.drill_script.specs.declared.line.Line.TheVariants as line
+use Rattle.drill_script.specs.declared.line.ScriptLoad.{ScriptLoad}
+use Rattle.drill_script.specs.declared.line.ScriptLoad.TheVariants.{Nothing, Hex, Size}
+use Rattle.drill_script.specs.declared.line.Way.{Way}
+use Rattle.drill_script.specs.declared.line.Way.TheVariants.{Push, Pull}
+
+abbrev pub end_text : EndName → List ℕ
+end_text A = codes "a"
+end_text B = codes "b"
+
+abbrev pub way_text : Way → List ℕ
+way_text Push = codes "push"
+way_text Pull = codes "pull"
+
+-- 0 to 9, a to f
+abbrev pub hex_digit : ℕ → ℕ
+hex_digit n = if nat_lt n 10 then 48 + n else 87 + n
+
+-- two digits for each byte
+unfoldable pub hex_text : List ℕ → List ℕ
+hex_text bytes = flat_map (λ b. hex_digit (b / 16) ∷ hex_digit (b % 16) ∷ []) bytes
+
+unfoldable pub load_text : ScriptLoad → List ℕ
+load_text Nothing = codes "none"
+load_text (Hex bytes) = codes "hex=" ++ hex_text bytes
+load_text (Size size) = codes "size=" ++ decimal size
+
+-- a word, an end and a word
+abbrev pub end_line : List ℕ → EndName → List ℕ → List ℕ
+end_line word end rest = word ++ codes " " ++ end_text end ++ codes " " ++ rest
+
+unfoldable pub line_text : Line → List ℕ
+line_text (line.Mode name way retries period) =
+    codes "mode " ++ name ++ codes " " ++ way_text way ++ codes " " ++ decimal retries ++ codes " " ++ decimal period
+line_text (line.Submit end mode load) = end_line (codes "submit") end (mode ++ codes " " ++ load_text load)
+line_text (line.Tick end moment) = end_line (codes "tick") end (decimal moment)
+line_text (line.Take end) = codes "take " ++ end_text end
+line_text (line.Ask end mode) = end_line (codes "ask") end mode
+line_text (line.Came end number) = end_line (codes "came") end (decimal number)
+line_text (line.Lost end number) = end_line (codes "lost") end (decimal number)
+line_text (line.Read end number) = end_line (codes "read") end (decimal number)
+line_text (line.Confirm end number) = end_line (codes "confirm") end (decimal number)
+line_text (line.Status end number) = end_line (codes "status") end (decimal number)
+
+-- 1 to 32 of a to z and 0 to 9
+unfoldable pub is_name : List ℕ → Bool
+is_name name =
+    nat_le 1 (length name) && (nat_le (length name) 32
+    && list_all (λ b. (nat_le 97 b && nat_le b 122) || (nat_le 48 b && nat_le b 57)) name)
+
+abbrev pub is_load : ScriptLoad → Bool
+is_load Nothing = true
+is_load (Hex bytes) = list_all (λ b. nat_lt b 256) bytes
+is_load (Size size) = nat_le size 16777216
+
+-- what it says is in range
+unfoldable pub is_line : Line → Bool
+is_line (line.Mode name way retries period) =
+    is_name name && (nat_le retries 1000 && (nat_le 1 period && nat_le period 1000000000))
+is_line (line.Submit end mode load) = is_name mode && is_load load
+is_line (line.Tick end moment) = nat_le moment 253402300799999
+is_line (line.Take end) = true
+is_line (line.Ask end mode) = is_name mode
+is_line (line.Came end number) = nat_lt number (2 ^ 64)
+is_line (line.Lost end number) = nat_lt number (2 ^ 64)
+is_line (line.Read end number) = nat_lt number (2 ^ 64)
+is_line (line.Confirm end number) = nat_lt number (2 ^ 64)
+is_line (line.Status end number) = nat_lt number (2 ^ 64)
+
+-- how many bytes a line has at most
+abbrev pub line_limit : ℕ
+line_limit = 1048576

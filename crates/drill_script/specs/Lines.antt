@@ -1,0 +1,28 @@
+-- What a reader of lines answers.
+use Rattle.std.specs.Prelude.{ℕ, ◌+◌, ◌<◌, List, length, take}
+use Rattle.drill_script.specs.Lacking.{Lacks}
+use Rattle.drill_script.specs.LineText.{line_limit}
+use Rattle.drill_script.specs.declared.lines.LineGot.{LineGot}
+use Rattle.drill_script.specs.declared.lines.LineGot.TheVariants.{Line, End, Unended, TooLong, Failed, NoMemory}
+
+-- P holds of the line, if one came
+abbrev pub IfLine : LineGot → (List ℕ → Type 0) → Type 0
+IfLine (Line line) P = P line
+IfLine End P = Unit {0}
+IfLine Unended P = Unit {0}
+IfLine TooLong P = Unit {0}
+IfLine Failed P = Unit {0}
+IfLine NoMemory P = Unit {0}
+
+-- P holds if no line came
+abbrev pub OnNoLine : LineGot → Type 0 → Type 0
+OnNoLine (Line line) P = Unit {0}
+OnNoLine End P = P
+OnNoLine Unended P = P
+OnNoLine TooLong P = P
+OnNoLine Failed P = P
+OnNoLine NoMemory P = P
+
+-- more bytes than a line may have stand before the first LF
+unfoldable pub BeginsLong : List ℕ → Type 0
+BeginsLong bytes = (line_limit < length bytes) × Lacks 10 (take (line_limit + 1) bytes)

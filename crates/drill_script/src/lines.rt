@@ -1,0 +1,177 @@
+//! A source, line by line.
+//!
+//!     bytes  LF  bytes  LF  ..      each line ends in an LF, which is no part of it
+//!
+//! The buffer has the lines that were given out, and then what the reader holds. Before a read what it
+//! holds moves to the front, so that each byte is moved once and searched for an LF once.
+ghost use Rattle.std.specs.Prelude.{◌≡◌, ℕ, [], ◌+◌, ◌++◌, ◌<◌, ◌≤◌, length, take, drop, IfOk, OnOk};
+ghost use Rattle.std.specs.Result.{OnErr};
+ghost use Rattle.as4_flow.specs.Faults.{Rose};
+ghost use Rattle.as4_flow.specs.Told.{Told, before};
+ghost use Rattle.drill_script.specs.Lacking.{Lacks, parted};
+
+use crate::pieces::{drop_front, front_of, read_piece};
+use as4_flow::Source;
+use as4_values::Octets;
+use std::alloc::Global;
+use std::marker::Model;
+
+/// The most bytes that a line has, without its LF.
+pub const LINE_LIMIT: usize = 1 << 20;
+
+/// What a reader of lines answers.
+#[derive(Drop)]
+pub enum LineGot {
+    /// The next line, without its LF.
+    Line(Octets),
+    /// Nothing is left.
+    End,
+    /// The source has ended, and the bytes behind the last LF are held.
+    Unended,
+    /// More bytes than the limit stand before the next LF. Each later call says the same.
+    TooLong,
+    /// The source failed. The next call goes on where this one would have.
+    Failed,
+    /// There was no memory. The next call goes on where this one would have.
+    NoMemory,
+}
+
+/// What stands at the front of some bytes.
+#[derive(Clone, Copy, Debug, PartialEq, Eq)]
+pub(crate) enum Front {
+    /// A line of this many bytes, and its LF.
+    Line(usize),
+    /// A part of a line, within the limit.
+    Unfinished,
+    /// More bytes than the limit, without an LF.
+    TooLong,
+}
+
+/// What became of a read.
+#[derive(Clone, Copy, Debug, PartialEq, Eq)]
+pub(crate) enum Filled {
+    Gave,
+    End,
+    Failed,
+    NoMemory,
+}
+
+/// Gives the lines of a source. Contracts see it as the bytes that it holds.
+#[derive(Drop)]
+pub struct LineReader {
+    alloc: Global,
+    buffer: Vec<u8>,
+    // How many of the bytes were given out.
+    start: usize,
+}
+
+impl Model for LineReader {
+    ghost use Rattle.std.specs.Prelude.{ℕ, List, ◌≤◌, drop, length};
+
+    ghost Value = { List ℕ };
+
+    ghost view = { λ reader. drop reader.start reader.buffer.items };
+
+    ghost invariant = { λ reader. reader.start ≤ length reader.buffer.items };
+}
+
+impl LineReader {
+    ghost use Rattle.drill_script.specs.LineText.{line_limit};
+    ghost use Rattle.drill_script.specs.Lines.{IfLine, OnNoLine, BeginsLong};
+    ghost use Rattle.drill_script.specs.Fronts.{Has, MatchFilled};
+
+    /// A reader that holds nothing. It takes no memory.
+    pub fn new(alloc: Global) -> LineReader
+        ensures { result ≡ [] }
+    {
+        LineReader {
+            alloc,
+            buffer: Vec::new(alloc),
+            start: 0,
+        }
+    }
+
+    /// The next line of the source. What comes behind the line is held for the next call.
+    pub fn next<S: Source>(&mut self, source: &mut S) -> LineGot
+        ensures line { IfLine result
+            (λ line. before self.old (S.left source.old) ≡ before (parted 10 line self.new) (S.left source.new)) }
+        ensures lf { IfLine result (Lacks 10) }
+        ensures within { IfLine result (λ line. length line ≤ line_limit) }
+
+        ensures end { result ≡ LineGot.End → (self.old ≡ []) × Told (S.left source.old) (λ bytes. bytes ≡ []) }
+        ensures unended { result ≡ LineGot.Unended
+            → Told (before self.old (S.left source.old)) (λ bytes. (0 < length bytes) × Lacks 10 bytes) }
+        ensures too_long { result ≡ LineGot.TooLong → Told (before self.old (S.left source.old)) BeginsLong }
+        ensures failed { result ≡ LineGot.Failed → Rose (S.faults source.old) (S.faults source.new) }
+
+        // Where no line came, nothing is lost.
+        ensures kept { OnNoLine result (before self.new (S.left source.new) ≡ before self.old (S.left source.old)) }
+        ensures counted { S.faults source.old ≤ S.faults source.new }
+    {
+        let mut scanned = 0;
+        'pieces: loop {
+            match self.front(scanned) {
+                Front::Line(at) => return self.line(at),
+                Front::TooLong => return LineGot::TooLong,
+                Front::Unfinished => {}
+            }
+            scanned = self.len();
+            match self.fill(source) {
+                Filled::Gave => {}
+                Filled::End if scanned == 0 => return LineGot::End,
+                Filled::End => return LineGot::Unended,
+                Filled::Failed => return LineGot::Failed,
+                Filled::NoMemory => return LineGot::NoMemory,
+            }
+        }
+    }
+
+    // How many bytes it holds.
+    fn len(&self) -> usize
+        ensures { result ≡ length self.now }
+    {
+        self.buffer.len() - self.start
+    }
+
+    // What stands at the front of what it holds, of which this many bytes were searched.
+    fn front(&self, scanned: usize) -> Front
+        requires within { scanned ≤ length self.now }
+        requires lacks { Lacks 10 (take scanned self.now) }
+        ensures { Has self.now result }
+    {
+        front_of(&self.buffer[self.start..], scanned)
+    }
+
+    // Gives out the line of this many bytes.
+    fn line(&mut self, at: usize) -> LineGot
+        requires { at < length self.old }
+        ensures line { IfLine result (λ line. line ≡ take at self.old) }
+        ensures rest { IfLine result (λ _. self.new ≡ drop (at + 1) self.old) }
+        ensures none { OnNoLine result ((result ≡ LineGot.NoMemory) × (self.new ≡ self.old)) }
+    {
+        let end = self.start + at;
+        match Vec::from_slice(self.alloc, &self.buffer[self.start..end]) {
+            Ok(line) => {
+                self.start = end + 1;
+                LineGot::Line(Octets::of(line))
+            }
+            Err(_) => LineGot::NoMemory,
+        }
+    }
+
+    // Reads a piece of the source, behind what it holds.
+    fn fill<S: Source>(&mut self, source: &mut S) -> Filled
+        requires { length self.old ≤ line_limit }
+        ensures whole { before self.old (S.left source.old) ≡ before self.new (S.left source.new) }
+        ensures front { take (length self.old) self.new ≡ self.old }
+        ensures more { MatchFilled result (length self.old < length self.new) (self.new ≡ self.old) }
+        ensures left { MatchFilled result (Unit {0}) (S.left source.new ≡ S.left source.old) }
+        ensures end { result ≡ Filled.End → Told (S.left source.old) (λ bytes. bytes ≡ []) }
+        ensures failed { result ≡ Filled.Failed → Rose (S.faults source.old) (S.faults source.new) }
+        ensures counted { S.faults source.old ≤ S.faults source.new }
+    {
+        drop_front(&mut self.buffer, self.start);
+        self.start = 0;
+        read_piece(&mut self.buffer, source)
+    }
+}

@@ -1,0 +1,188 @@
+//! A line, read from its bytes.
+//!
+//!     a word, a space, and the rest: the word tells the kind of line, and the kind how the rest is read
+ghost use Rattle.std.specs.Prelude.{◌≡◌, ℕ, ◌≤◌, List, Some, IfOk, IfSome, IsTrue};
+ghost use Rattle.drill_script.specs.LineText.{line_text, is_line, end_text};
+ghost use Rattle.drill_script.specs.LineParts.{Spells, settings_text, counted_line, is_counted};
+ghost use Rattle.drill_script.specs.declared.line.EndName.{EndName};
+ghost use Rattle.drill_script.specs.declared.line.Line.{Line};
+ghost use Rattle.drill_script.specs.declared.line.Way.{Way};
+ghost use Rattle.drill_script.specs.declared.verb.Verb.TheVariants as verb;
+
+use crate::line::{EndName, Line, Way};
+use crate::load::load_of;
+use crate::verb::{Counted, Verb, read_verb};
+use crate::words::{cut, end_and, end_of, may_name, name_and, number_and, number_of, way_and};
+use as4_values::{MAX_MOMENT, NoMemory, Octets};
+use std::alloc::Global;
+
+/// How often a message is sent again at most.
+const MAX_RETRIES: u64 = 1_000;
+
+/// The longest period between two sendings, in milliseconds.
+const MAX_PERIOD: u64 = 1_000_000_000;
+
+/// Reads a line, which is given without the LF at its end.
+pub fn line_of(alloc: Global, bytes: &[u8]) -> Result<Option<Line>, NoMemory>
+    ensures found { IfOk result (λ read. IfSome read (λ line. (bytes.now ≡ line_text line) × IsTrue (is_line line))) }
+    ensures only { (line : Line) → bytes.now ≡ line_text line → IsTrue (is_line line)
+        → IfOk result (λ read. read ≡ Some line) }
+{
+    let Some((word, tail)) = cut(b' ', bytes) else {
+        return Ok(None);
+    };
+    let Some(verb) = read_verb(word) else {
+        return Ok(None);
+    };
+    tail_of(alloc, verb, tail)
+}
+
+/// No text is that of two lines.
+pub fn one_line()
+    ensures { (one other : Line) → IsTrue (is_line one) → IsTrue (is_line other) → line_text one ≡ line_text other → one ≡ other }
+{}
+
+// Reads what stands behind the first word.
+fn tail_of(alloc: Global, verb: Verb, tail: &[u8]) -> Result<Option<Line>, NoMemory>
+    ensures found { IfOk result (λ read. IfSome read (Spells verb tail.now)) }
+    ensures only { (line : Line) → Spells verb tail.now line → IfOk result (λ read. read ≡ Some line) }
+{
+    match verb {
+        Verb::Mode => mode_of(alloc, tail),
+        Verb::Submit => submit_of(alloc, tail),
+        Verb::Take => Ok(take_of(tail)),
+        Verb::Ask => ask_of(alloc, tail),
+        Verb::Count(counted) => Ok(counted_of(counted, tail)),
+    }
+}
+
+// Reads a mode: its name, way, retries and period.
+fn mode_of(alloc: Global, tail: &[u8]) -> Result<Option<Line>, NoMemory>
+    ensures found { IfOk result (λ read. IfSome read (Spells verb.Mode tail.now)) }
+    ensures only { (line : Line) → Spells verb.Mode tail.now line → IfOk result (λ read. read ≡ Some line) }
+{
+    let Some((name, words)) = name_and(tail) else {
+        return Ok(None);
+    };
+    let Some((way, retries, period)) = settings_of(words) else {
+        return Ok(None);
+    };
+    let name = octets_of(alloc, name)?;
+    Ok(Some(Line::Mode {
+        name,
+        way,
+        retries,
+        period,
+    }))
+}
+
+// Reads a way, a number of retries and a period.
+fn settings_of(words: &[u8]) -> Option<(Way, u32, u64)>
+    ensures found { IfSome result (λ settings. words.now ≡ settings_text settings.0 settings.1 settings.2) }
+    ensures range { IfSome result (λ settings. (settings.1 ≤ 1000) × (1 ≤ settings.2) × (settings.2 ≤ 1000000000)) }
+    ensures only { (way : Way) (retries period : ℕ) → retries ≤ 1000 → 1 ≤ period → period ≤ 1000000000
+        → words.now ≡ settings_text way retries period → result ≡ Some (way, retries, period) }
+{
+    let (way, words) = way_and(words)?;
+    let (retries, word) = number_and(words)?;
+    let period = number_of(word)?;
+    if retries > MAX_RETRIES || period < 1 || period > MAX_PERIOD {
+        return None;
+    }
+    Some((way, retries as u32, period))
+}
+
+// Reads a submission: its end, its mode and what it carries.
+fn submit_of(alloc: Global, tail: &[u8]) -> Result<Option<Line>, NoMemory>
+    ensures found { IfOk result (λ read. IfSome read (Spells verb.Submit tail.now)) }
+    ensures only { (line : Line) → Spells verb.Submit tail.now line → IfOk result (λ read. read ≡ Some line) }
+{
+    let Some((end, words)) = end_and(tail) else {
+        return Ok(None);
+    };
+    let Some((mode, word)) = name_and(words) else {
+        return Ok(None);
+    };
+    let Some(load) = load_of(alloc, word)? else {
+        return Ok(None);
+    };
+    let mode = octets_of(alloc, mode)?;
+    Ok(Some(Line::Submit { end, mode, load }))
+}
+
+// Reads the end that takes.
+fn take_of(tail: &[u8]) -> Option<Line>
+    ensures found { IfSome result (Spells verb.Take tail.now) }
+    ensures only { (line : Line) → Spells verb.Take tail.now line → result ≡ Some line }
+{
+    let end = end_of(tail)?;
+    Some(Line::Take { end })
+}
+
+// Reads the end that asks, and its mode.
+fn ask_of(alloc: Global, tail: &[u8]) -> Result<Option<Line>, NoMemory>
+    ensures found { IfOk result (λ read. IfSome read (Spells verb.Ask tail.now)) }
+    ensures only { (line : Line) → Spells verb.Ask tail.now line → IfOk result (λ read. read ≡ Some line) }
+{
+    let Some((end, word)) = end_and(tail) else {
+        return Ok(None);
+    };
+    if !may_name(word) {
+        return Ok(None);
+    }
+    let mode = octets_of(alloc, word)?;
+    Ok(Some(Line::Ask { end, mode }))
+}
+
+// Reads an end and a number.
+fn counted_of(counted: Counted, tail: &[u8]) -> Option<Line>
+    ensures found { IfSome result (Spells (verb.Count counted) tail.now) }
+    ensures only { (line : Line) → Spells (verb.Count counted) tail.now line → result ≡ Some line }
+{
+    let (end, word) = end_and(tail)?;
+    let number = number_of(word)?;
+    if !may_count(counted, number) {
+        return None;
+    }
+    Some(counted_line(counted, end, number))
+}
+
+// A moment has a last value, and the other numbers have not.
+fn may_count(counted: Counted, number: u64) -> bool
+    ensures { result ≡ is_counted counted number }
+{
+    match counted {
+        Counted::Tick => number <= MAX_MOMENT,
+        _ => true,
+    }
+}
+
+// The line of an end and a number.
+fn counted_line(counted: Counted, end: EndName, number: u64) -> Line
+    ensures { result ≡ counted_line counted end number }
+{
+    match counted {
+        Counted::Tick => Line::Tick {
+            end,
+            moment: number,
+        },
+        Counted::Came => Line::Came {
+            end,
+            package: number,
+        },
+        Counted::Lost => Line::Lost {
+            end,
+            package: number,
+        },
+        Counted::Read => Line::Read { end, number },
+        Counted::Confirm => Line::Confirm { end, number },
+        Counted::Status => Line::Status { end, number },
+    }
+}
+
+// A copy of these bytes.
+fn octets_of(alloc: Global, bytes: &[u8]) -> Result<Octets, NoMemory>
+    ensures { IfOk result (λ octets. octets ≡ bytes.now) }
+{
+    Ok(Octets::of(Vec::from_slice(alloc, bytes)?))
+}

@@ -1,0 +1,141 @@
+//! The words of a line, one at a time.
+ghost use Rattle.std.specs.Prelude.{◌≡◌, ℕ, Some, List, ◌∷◌, ◌++◌, ◌<◌, ◌^◌, ◌&&◌, ◌||◌, nat_le, IfSome, IsTrue};
+ghost use Rattle.std.specs.List.{list_all};
+ghost use Rattle.std.specs.Option.{IfNone, IsSomeAnd};
+ghost use Rattle.std.specs.Fmt.{decimal};
+ghost use Rattle.drill_script.specs.Lacking.{Lacks, parted, spaced};
+ghost use Rattle.drill_script.specs.LineText.{end_text, way_text, is_name};
+
+use crate::line::{EndName, Way};
+use itoa::Buffer;
+use memchr::memchr;
+use std::str;
+
+/// Cuts bytes at the first place of a byte.
+pub(crate) fn cut(byte: u8, bytes: &[u8]) -> Option<(&[u8], &[u8])>
+    ensures found { IfSome result (λ parts. bytes.now ≡ parted byte parts.0.now parts.1.now) }
+    ensures first { IfSome result (λ parts. Lacks byte parts.0.now) }
+    ensures none { IfNone result (Lacks byte bytes.now) }
+    ensures only { (front rest : List ℕ) → Lacks byte front → bytes.now ≡ parted byte front rest
+        → IsSomeAnd result (λ parts. (parts.0.now ≡ front) × (parts.1.now ≡ rest)) }
+{
+    let at = memchr(byte, bytes)?;
+    Some((&bytes[..at], &bytes[at + 1..]))
+}
+
+/// Reads a decimal number without sign and without leading zeros: one that is printed as this word.
+pub(crate) fn number_of(word: &[u8]) -> Option<u64>
+    ensures found { IfSome result (λ number. word.now ≡ decimal number) }
+    ensures range { IfSome result (λ number. number < 2 ^ 64) }
+    ensures only { (number : ℕ) → number < 2 ^ 64 → word.now ≡ decimal number → result ≡ Some number }
+{
+    let Ok(text) = str::from_utf8(word) else {
+        return None;
+    };
+    let Ok(number) = text.parse::<u64>() else {
+        return None;
+    };
+    let mut buffer = Buffer::new();
+    if buffer.format(number).as_bytes() != word {
+        return None;
+    }
+    Some(number)
+}
+
+/// Whether these bytes name a mode: 1 to 32 of a to z and 0 to 9.
+#[tactic(auto, unfolding(crate::specs::LineText::is_name))]
+pub(crate) fn may_name(word: &[u8]) -> bool
+    ensures { result ≡ is_name word.now }
+{
+    if word.is_empty() || word.len() > 32 {
+        return false;
+    }
+    has_name_bytes(word)
+}
+
+// Whether each byte is one of a to z or 0 to 9.
+fn has_name_bytes(word: &[u8]) -> bool
+    ensures { result ≡ list_all (λ b. (nat_le 97 b && nat_le b 122) || (nat_le 48 b && nat_le b 57)) word.now }
+{
+    word.iter().all(|byte| (97 <= *byte && *byte <= 122) || (48 <= *byte && *byte <= 57))
+}
+
+/// Reads the name of an end.
+pub(crate) fn end_of(word: &[u8]) -> Option<EndName>
+    ensures found { IfSome result (λ end. word.now ≡ end_text end) }
+    ensures only { (end : EndName) → word.now ≡ end_text end → result ≡ Some end }
+{
+    if word == b"a".as_slice() {
+        return Some(EndName::A);
+    }
+    if word == b"b".as_slice() {
+        return Some(EndName::B);
+    }
+    None
+}
+
+// Reads a way.
+fn way_of(word: &[u8]) -> Option<Way>
+    ensures found { IfSome result (λ way. word.now ≡ way_text way) }
+    ensures only { (way : Way) → word.now ≡ way_text way → result ≡ Some way }
+{
+    if word == b"push".as_slice() {
+        return Some(Way::Push);
+    }
+    if word == b"pull".as_slice() {
+        return Some(Way::Pull);
+    }
+    None
+}
+
+/// Reads an end, and gives what stands behind it.
+#[tactic(auto, using(crate::proofs::WordLemmas::end_unspaced))]
+pub(crate) fn end_and(words: &[u8]) -> Option<(EndName, &[u8])>
+    ensures found { IfSome result (λ parts. words.now ≡ spaced (end_text parts.0) parts.1.now) }
+    ensures only { (end : EndName) (rest : List ℕ) → words.now ≡ spaced (end_text end) rest
+        → IsSomeAnd result (λ parts. (parts.0 ≡ end) × (parts.1.now ≡ rest)) }
+{
+    let (word, rest) = cut(b' ', words)?;
+    let end = end_of(word)?;
+    Some((end, rest))
+}
+
+/// Reads a way, and gives what stands behind it.
+#[tactic(auto, using(crate::proofs::WordLemmas::way_unspaced))]
+pub(crate) fn way_and(words: &[u8]) -> Option<(Way, &[u8])>
+    ensures found { IfSome result (λ parts. words.now ≡ spaced (way_text parts.0) parts.1.now) }
+    ensures only { (way : Way) (rest : List ℕ) → words.now ≡ spaced (way_text way) rest
+        → IsSomeAnd result (λ parts. (parts.0 ≡ way) × (parts.1.now ≡ rest)) }
+{
+    let (word, rest) = cut(b' ', words)?;
+    let way = way_of(word)?;
+    Some((way, rest))
+}
+
+/// Reads a number, and gives what stands behind it.
+#[tactic(auto, using(crate::proofs::WordLemmas::decimal_unspaced))]
+pub(crate) fn number_and(words: &[u8]) -> Option<(u64, &[u8])>
+    ensures found { IfSome result (λ parts. words.now ≡ spaced (decimal parts.0) parts.1.now) }
+    ensures range { IfSome result (λ parts. parts.0 < 2 ^ 64) }
+    ensures only { (number : ℕ) (rest : List ℕ) → number < 2 ^ 64 → words.now ≡ spaced (decimal number) rest
+        → IsSomeAnd result (λ parts. (parts.0 ≡ number) × (parts.1.now ≡ rest)) }
+{
+    let (word, rest) = cut(b' ', words)?;
+    let number = number_of(word)?;
+    Some((number, rest))
+}
+
+/// Reads the name of a mode, and gives what stands behind it.
+#[tactic(auto, using(crate::proofs::WordLemmas::name_unspaced))]
+pub(crate) fn name_and(words: &[u8]) -> Option<(&[u8], &[u8])>
+    ensures found { IfSome result (λ parts. words.now ≡ spaced parts.0.now parts.1.now) }
+    ensures name { IfSome result (λ parts. IsTrue (is_name parts.0.now)) }
+    ensures only { (name rest : List ℕ) → IsTrue (is_name name) → words.now ≡ spaced name rest
+        → IsSomeAnd result (λ parts. (parts.0.now ≡ name) × (parts.1.now ≡ rest)) }
+{
+    let (word, rest) = cut(b' ', words)?;
+    if !may_name(word) {
+        return None;
+    }
+    Some((word, rest))
+}
