@@ -5,8 +5,10 @@ ghost use Rattle.as4_effects.specs.Bodies.{number_body};
 ghost use Rattle.as4_effects.specs.Effects.{effect_body, effects_body, effects_limit};
 ghost use Rattle.as4_effects.specs.Sound.{effect_limit};
 ghost use Rattle.as4_effects.specs.declared.effect.Tick.{Tick};
+ghost use Rattle.event_code.specs.Spelled.{AreSpelled};
 ghost use Rattle.as4_effects.specs.declared.effect.Effect.TheVariants.{Ticked, Confirmed};
 
+use crate::spelled::Spelled;
 use crate::written::{Written, push_all, push_number};
 use as4_effects::{Effect, Measured};
 use as4_values::{NoMemory, Octets, Seq};
@@ -74,8 +76,11 @@ pub fn write_body(alloc: Global, effects: &Seq<Effect>) -> Result<Octets, NoMemo
     requires some { 1 ≤ length effects.now }
     requires counted { length effects.now ≤ effects_limit }
     requires limited { length (effects_body effects.now) ≤ 1073741824 }
-    ensures { IfOk result (λ body. body ≡ effects_body effects.now) }
+    ensures body { IfOk result (λ body. body ≡ effects_body effects.now) }
+    // So these bytes are read as these effects and no others.
+    ensures spelled { AreSpelled effects.now }
 {
+    effects.show();
     let mut out = Vec::with_capacity(alloc, body_len(effects) as usize)?;
     push_number(&mut out, 2, effects.items().len() as u64)?;
     push_all(&mut out, effects.items())?;

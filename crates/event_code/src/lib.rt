@@ -12,6 +12,7 @@ mod reading;
 mod record;
 mod refusal;
 mod rest;
+mod spelled;
 #[cfg(test)]
 mod tests;
 mod whole;
