@@ -2,5 +2,6 @@ pub mod Again
 pub mod Numbered
 pub mod Reading
 pub mod Rooms
+pub mod Standing
 pub mod Totals
 pub mod Waiting

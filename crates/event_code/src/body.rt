@@ -1,6 +1,6 @@
 //! The body of a record: the count of its effects and then each of them.
 
-ghost use Rattle.std.specs.Prelude.{◌≡◌, ◌≤◌, [], ◌∷◌, length, IfOk};
+ghost use Rattle.std.specs.Prelude.{◌≡◌, ◌≤◌, ◌+◌, ◌*◌, [], ◌∷◌, length, IfOk};
 ghost use Rattle.as4_effects.specs.Bodies.{number_body};
 ghost use Rattle.as4_effects.specs.Effects.{effect_body, effects_body, effects_limit};
 ghost use Rattle.as4_effects.specs.Sound.{effect_limit};
@@ -35,7 +35,8 @@ fn effect_len(effect: &Effect) -> u64
 #[tactic(auto, using(crate::proofs::BodyLemmas::more_length, crate::proofs::BodyLemmas::body_length))]
 pub fn body_len(effects: &Seq<Effect>) -> u64
     requires { length effects.now ≤ effects_limit }
-    ensures { result ≡ length (effects_body effects.now) }
+    ensures exact { result ≡ length (effects_body effects.now) }
+    ensures limited { result ≤ 2 + effect_limit * length effects.now }
 {
     let mut len = 2;
     for effect in effects.items() {

@@ -1,5 +1,5 @@
 -- What holds at one end, whatever has come to it.
-use Rattle.std.proofs.Common.{◌≡◌, inl, inr, List, [], ◌∷◌, refl, subst}
+use Rattle.std.proofs.Common.{◌≡◌, inl, inr, List, [], ◌∷◌, ◌++◌, refl, subst}
 use Rattle.as4_effects.specs.declared.submission.Submission.{Submission}
 use Rattle.exchange_model.specs.Alone.{MayHappenTo, end_after}
 use Rattle.exchange_model.specs.Apply.{applied}
@@ -41,3 +41,30 @@ end_holds P [] end holds may brings = holds
 end_holds P (act ∷ acts) end holds may brings =
     end_holds P acts (applied act.outcome.effects end) (end_acts P act end holds may.0 (brings act (inl refl))) may.1
     (λ later h. brings later (inr h))
+
+-- whatever happens, the submissions stay numbered
+pub stays_numbered : (acts : List Act) (end : End) → Numbered 0 end.sent → MayHappenTo acts end
+    → Numbered 0 (end_after acts end).sent
+stays_numbered [] end numbered may = numbered
+stays_numbered (act ∷ acts) end numbered may =
+    let goes = step_goes act.modes end act.event act.outcome numbered may.0 in
+    stays_numbered acts (applied act.outcome.effects end) goes.sent.numbered may.1
+
+-- and what is receipted stays as it is
+pub stays_receipted : (acts : List Act) (end : End) (s : Sent) → Numbered 0 end.sent → MayHappenTo acts end → Has end.sent s
+    → s.mark ≡ mark.Receipted → Has (end_after acts end).sent s
+stays_receipted [] end s numbered may h m = h
+stays_receipted (act ∷ acts) end s numbered may h m =
+    let goes = step_goes act.modes end act.event act.outcome numbered may.0 in
+    stays_receipted acts (applied act.outcome.effects end) s goes.sent.numbered may.1 (goes.sent.settled s h m) m
+
+-- of acts in two parts the first may happen, and the second where the first has led
+pub may_split : (acts more : List Act) (end : End) → MayHappenTo (acts ++ more) end
+    → MayHappenTo acts end × MayHappenTo more (end_after acts end)
+may_split [] more end may = (tt, may)
+may_split (act ∷ acts) more end may =
+    let rest = may_split acts more (applied act.outcome.effects end) may.1 in ((may.0, rest.0), rest.1)
+
+pub after_both : (acts more : List Act) (end : End) → end_after (acts ++ more) end ≡ end_after more (end_after acts end)
+after_both [] more end = refl
+after_both (act ∷ acts) more end = after_both acts more (applied act.outcome.effects end)

@@ -30,7 +30,8 @@ use Rattle.exchange_model.specs.declared.what.What.TheVariants.{Came}
 use Rattle.exchange_laws.proofs.ListLemmas.{Has, had_mapped, had_right}
 use Rattle.exchange_laws.proofs.SentLemmas.{Numbered, sent_of_has}
 use Rattle.exchange_laws.proofs.SentSteps.{Receipts, sent_stays, sent_then}
-use Rattle.exchange_laws.proofs.SentChanges.{sent_receipted, sent_refused}
+use Rattle.exchange_laws.proofs.SentChanges.{NoneReceipted, none_by_refusal, sent_receipted, sent_refused}
+use Rattle.exchange_laws.proofs.RefusalLemmas.{refusals_spare}
 use Rattle.exchange_laws.proofs.InboxLemmas.{ids, id_of, known_has}
 use Rattle.exchange_laws.proofs.InboxSteps.{inbox_stays, inbox_push}
 use Rattle.exchange_laws.proofs.EndSteps.{BacksSignal, EndGoes, goes_by, rests, rests_silent, by_option, by_bool}
@@ -142,15 +143,17 @@ receipt_comes signal copy end event outcome receipt numbered h =
         record { signal = signal; copy = copy; came = refl; receipt = receipt; names = r.1 ∙ ap Some (sym there.1); same = own.0 } in
         settles s there.0 brought own.1
 
--- the refusals, one after another
+-- the refusals, one after another, where none names a receipted submission
 refuses : (what : What) (refusals : List Refusal) (end : End) → Numbered 0 end.sent
+    → ((refusal : Refusal) → Has refusals refusal → NoneReceipted refusal.number end.sent)
     → EndGoes what reply.Quiet end (after_all (map (λ (refusal : Refusal). effect.Refused refusal.number refusal.code) refusals) end)
 unfolding after
-refuses what [] end numbered =
+refuses what [] end numbered spare =
     record { sent = sent_stays what end.sent numbered; inbox = inbox_stays what end.inbox end.confirmed; says = λ m none. absurd none }
-refuses what (refusal ∷ refusals) end numbered =
-    let first = sent_refused what end.sent refusal.number refusal.code numbered in
-    let rest = refuses what refusals (after (effect.Refused refusal.number refusal.code) end) first.numbered in
+refuses what (refusal ∷ refusals) end numbered spare =
+    let first = sent_refused what end.sent refusal.number refusal.code numbered (spare refusal (inl refl)) in
+    let rest = refuses what refusals (after (effect.Refused refusal.number refusal.code) end) first.numbered
+    (λ later h. none_by_refusal end.sent later.number refusal.number refusal.code (spare later (inr h))) in
     record { sent = sent_then what _ _ _ first rest.sent; inbox = rest.inbox; says = λ m none. absurd none }
 
 -- errors
@@ -159,7 +162,8 @@ errors_come : (what : What) (items : List ErrorItem) (ref_to : Option (List ℕ)
     → outcome ≡ record { effects = refusals_of ref_to end.sent items; reply = reply.Quiet } → Goes what end outcome
 unfolding refusals_of
 errors_come what items ref_to end outcome numbered h = goes_by what reply.Quiet _ end outcome h
-    (refuses what (once (filter_map (refusal_of ref_to end.sent) items)) end numbered)
+    (refuses what (once (filter_map (refusal_of ref_to end.sent) items)) end numbered
+    (refusals_spare end.sent ref_to items numbered))
 
 -- a signal, by what it holds
 signal_comes : (modes : List Mode) (end : End) (event : Event) (signal : Signal) (b : SignalBody) (outcome : Outcome)

@@ -5,8 +5,10 @@ pub mod InboxLemmas
 pub mod InboxSteps
 pub mod ListLemmas
 pub mod OwnRows
+pub mod RefusalLemmas
 pub mod RoundLemmas
 pub mod Rounds
+pub mod SendsLemmas
 pub mod SentChanges
 pub mod SentLemmas
 pub mod SentSteps

@@ -1,7 +1,7 @@
 -- Which items a list has, by recursion on the list.
-use Rattle.std.proofs.Common.{◌≡◌, ℕ, zero, suc, ◌<◌, ◌⊎◌, inl, inr, List, [], ◌∷◌, ◌++◌, Bool, true, false, cond, Some, length, get_or, map, refl, sym, ap, ◌∙◌, arith}
+use Rattle.std.proofs.Common.{◌≡◌, ℕ, zero, suc, ◌<◌, ◌⊎◌, inl, inr, List, [], ◌∷◌, ◌++◌, Bool, true, false, cond, Option, Some, None, length, get_or, map, refl, sym, ap, ◌∙◌, arith}
 use Rattle.std.specs.Prelude.{slice_get}
-use Rattle.std.specs.List.{Contains, find, filter}
+use Rattle.std.specs.List.{Contains, find, filter, filter_map, cons_option}
 
 abbrev pub Has : {X : Type 0} → List X → X → Type 0
 Has [] x = ⊥
@@ -91,3 +91,16 @@ finds_by p y x ys false e passes rest (inr h) = rest h
 pub finds : {X : Type 0} (p : X → Bool) (xs : List X) (x : X) → Has xs x → p x ≡ true → (z : X) × (find p xs ≡ Some z)
 finds p [] x h passes = absurd h
 finds p (y ∷ ys) x h passes = finds_by p y x ys (p y) refl passes (λ k. finds p ys x k passes) h
+
+-- by what the first item gives
+filter_mapped_by : {X Y : Type 0} (f : X → Option Y) (x : X) (y : Y) (ys : List Y) (o : Option Y) → f x ≡ o
+    → (Has ys y → (z : X) × (f z ≡ Some y)) → Has (cons_option o ys) y → (z : X) × (f z ≡ Some y)
+filter_mapped_by f x y ys None e rest h = rest h
+filter_mapped_by f x y ys (Some z) e rest (inl same) = (x, e ∙ ap Some same)
+filter_mapped_by f x y ys (Some z) e rest (inr h) = rest h
+
+-- what some items give is given by one
+pub has_filter_mapped : {X Y : Type 0} (f : X → Option Y) (xs : List X) (y : Y) → Has (filter_map f xs) y
+    → (x : X) × (f x ≡ Some y)
+has_filter_mapped f [] y h = absurd h
+has_filter_mapped f (x ∷ xs) y h = filter_mapped_by f x y (filter_map f xs) (f x) refl (has_filter_mapped f xs y) h

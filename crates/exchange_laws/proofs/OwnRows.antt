@@ -113,11 +113,10 @@ asks what modes end event name outcome numbered h =
         rests what (reply.Request address (message.Signal k.0)) end outcome numbered k.2
         (says_one end.sent end.inbox (message.Signal k.0) (subst (BacksSignal end.inbox k.0.ref_to) (sym k.1.asks) tt))
 
--- Read
-pub reads : (what : What) (end : End) (n : ℕ) (outcome : Outcome) → Numbered 0 end.sent → Rests (read_reply end n) outcome
-    → Goes what end outcome
+-- the answer to a question about an entry sends nothing
+pub read_silent : (end : End) (n : ℕ) → sends (read_reply end n) ≡ []
 unfolding read_reply
-reads what end n outcome numbered h = rests_silent what (read_reply end n) end outcome silent numbered h
+read_silent end n = silent_by (nat_lt n end.confirmed)
   where
     silent_entry : (o : Option InboxEntry) → sends (entry_reply o) ≡ []
     silent_entry None = refl
@@ -127,8 +126,10 @@ reads what end n outcome numbered h = rests_silent what (read_reply end n) end o
     silent_by true = refl
     silent_by false = silent_entry (slice_get end.inbox n)
 
-    silent : sends (read_reply end n) ≡ []
-    silent = silent_by (nat_lt n end.confirmed)
+-- Read
+pub reads : (what : What) (end : End) (n : ℕ) (outcome : Outcome) → Numbered 0 end.sent → Rests (read_reply end n) outcome
+    → Goes what end outcome
+reads what end n outcome numbered h = rests_silent what (read_reply end n) end outcome (read_silent end n) numbered h
 
 at_least : (upto confirmed : ℕ) → nat_lt upto confirmed ≡ false → confirmed ≤ upto + 1
 at_least upto confirmed h = grind (arith, nat_tests)
@@ -147,10 +148,10 @@ confirms what end upto outcome numbered h =
       says = λ m none. absurd none;
     })))
 
--- Status
-pub tells_status : (what : What) (end : End) (o : Option Sent) (outcome : Outcome) → Numbered 0 end.sent
-    → Rests (standing_reply o) outcome → Goes what end outcome
-tells_status what end o outcome numbered h = rests_silent what (standing_reply o) end outcome (silent o) numbered h
+-- the answer to a question about a submission sends nothing
+pub standing_silent : (o : Option Sent) → sends (standing_reply o) ≡ []
+standing_silent None = refl
+standing_silent (Some s) = silent_mark s.tries s.mark
   where
     silent_mark : (tries : ℕ) (m : Mark) → sends (mark_reply tries m) ≡ []
     silent_mark tries mark.Pending = refl
@@ -158,6 +159,7 @@ tells_status what end o outcome numbered h = rests_silent what (standing_reply o
     silent_mark tries mark.Failed = refl
     silent_mark tries (mark.Refused code) = refl
 
-    silent : (o : Option Sent) → sends (standing_reply o) ≡ []
-    silent None = refl
-    silent (Some s) = silent_mark s.tries s.mark
+-- Status
+pub tells_status : (what : What) (end : End) (o : Option Sent) (outcome : Outcome) → Numbered 0 end.sent
+    → Rests (standing_reply o) outcome → Goes what end outcome
+tells_status what end o outcome numbered h = rests_silent what (standing_reply o) end outcome (standing_silent o) numbered h

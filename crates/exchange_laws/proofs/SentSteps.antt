@@ -37,6 +37,8 @@ pub record SentGoes (what : What) (old new : List Sent) : Type 0 where
   pub receipted : (t : Sent) → Has new t → t.mark ≡ mark.Receipted
       → ((s : Sent) × Has old s × (s.mark ≡ mark.Receipted) × (s.submission ≡ t.submission)) ⊎ Receipts what t.submission
   pub spent : AllSpent old → AllSpent new
+  -- what is receipted changes no more
+  pub settled : (s : Sent) → Has old s → s.mark ≡ mark.Receipted → Has new s
 
 -- nothing changes
 pub sent_stays : (what : What) (sent : List Sent) → Numbered 0 sent → SentGoes what sent sent
@@ -45,6 +47,7 @@ sent_stays what sent numbered = record {
   kept = λ s h. (s, h, refl);
   receipted = λ t h e. inl (t, h, e, refl);
   spent = λ spent. spent;
+  settled = λ s h m. h;
 }
 
 pending_new : (s : Submission) (t : Sent) → Has (unsent s ∷ []) t → mark.Pending ≡ t.mark
@@ -61,6 +64,7 @@ sent_push what sent s numbered e = record {
       [ inl old ↦ inl (t, old, m, refl) | inr new ↦ absurd (no_receipted t new m) ];
   spent = λ spent t h m. elim (has_either sent (unsent s ∷ []) t h)
       [ inl old ↦ spent t old m | inr new ↦ absurd (no_failed t new m) ];
+  settled = λ t h m. had_left sent (unsent s ∷ []) t h;
 }
   where
     no_receipted : (t : Sent) → Has (unsent s ∷ []) t → t.mark ≡ mark.Receipted → ⊥
@@ -74,6 +78,7 @@ pub record IsChange (what : What) (sent : List Sent) (f : Sent → Sent) : Type 
   pub same : (s : Sent) → (f s).submission ≡ s.submission
   pub receipted : (s : Sent) → Has sent s → (f s).mark ≡ mark.Receipted → (s.mark ≡ mark.Receipted) ⊎ Receipts what s.submission
   pub spent : (s : Sent) → Has sent s → IsSpent s → IsSpent (f s)
+  pub settled : (s : Sent) → Has sent s → s.mark ≡ mark.Receipted → f s ≡ s
 
 -- each one changed
 pub sent_map : (what : What) (sent : List Sent) (f : Sent → Sent) → Numbered 0 sent → IsChange what sent f
@@ -83,6 +88,7 @@ sent_map what sent f numbered c = record {
   kept = λ s h. (f s, had_mapped f sent s h, c.same s);
   receipted = λ t h m. let o = has_mapped f sent t h in receipted_by t o.0 o.1 o.2 m;
   spent = λ spent t h. let o = has_mapped f sent t h in subst IsSpent o.2 (c.spent o.0 o.1 (spent o.0 o.1));
+  settled = λ s h m. subst (Has (map f sent)) (c.settled s h m) (had_mapped f sent s h);
 }
   where
     receipted_by : (t s : Sent) → Has sent s → f s ≡ t → t.mark ≡ mark.Receipted
@@ -99,6 +105,7 @@ sent_then what a b c f g = record {
   kept = λ s h. let t = f.kept s h in let u = g.kept t.0 t.1 in (u.0, u.1, u.2 ∙ t.2);
   receipted = λ u k m. elim (g.receipted u k m) [ inl t ↦ earlier u t.0 t.1 t.2 t.3 | inr came ↦ inr came ];
   spent = λ spent. g.spent (f.spent spent);
+  settled = λ s h m. g.settled s (f.settled s h m) m;
 }
   where
     earlier : (u t : Sent) → Has b t → t.mark ≡ mark.Receipted → t.submission ≡ u.submission

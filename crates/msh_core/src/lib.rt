@@ -1,6 +1,18 @@
-//! The message service handler's own work: the signals that it makes.
+//! The message service handler's machine: what one end does with each event.
 #![tactic(auto)]
 
-mod receipts;
+mod applying;
+mod machine;
+mod plan;
+mod replaying;
+mod small;
+#[cfg(test)]
+mod tests;
 
-pub use receipts::receipt;
+pub use end_tables::Totals;
+pub use exchange_model::{Event, Outcome, Reply, What};
+pub use machine::{Core, MAX_JOURNAL};
+pub use machine_rows::{pull_request, receipt};
+pub use plan::Plan;
+pub use replaying::ReplayRefusal;
+pub use small::SmallPlan;

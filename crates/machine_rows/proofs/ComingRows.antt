@@ -1,0 +1,96 @@
+-- The rows of a message that comes.
+use Rattle.std.proofs.Common.{◌≡◌, ℕ, List, [], ◌∷◌, true, false, Option, Some, None, option_map, refl, ap, sym, ◌∙◌}
+use Rattle.std.specs.Prelude.{IsSome}
+use Rattle.std.specs.Option.{IfSome}
+use Rattle.as4_effects.specs.declared.delivery.Delivery.{Delivery}
+use Rattle.as4_effects.specs.declared.effect.Effect.TheVariants as effect
+use Rattle.as4_effects.specs.declared.queue.Queue.{Queue}
+use Rattle.as4_values.specs.declared.header.UserHeader.{UserHeader}
+use Rattle.as4_values.specs.declared.message.Message.TheVariants as message
+use Rattle.as4_values.specs.declared.payload.Payload.{Payload}
+use Rattle.as4_values.specs.declared.signal.Signal.{Signal}
+use Rattle.end_tables.proofs.NumberLemmas.{number_at}
+use Rattle.end_tables.specs.Standing.{CanStand}
+use Rattle.exchange_model.specs.Apply.{is_fit, is_one}
+use Rattle.exchange_model.specs.End.{End}
+use Rattle.exchange_model.specs.ErrorCodes.{error_row, error_table}
+use Rattle.exchange_model.specs.Questions.{head_of, is_known, is_pending, sent_at}
+use Rattle.exchange_model.specs.Signals.{IsReceiptOf}
+use Rattle.exchange_model.specs.Table.{Delivers, Gives, Settles, message_of}
+use Rattle.exchange_model.specs.declared.event.Event.{Event}
+use Rattle.exchange_model.specs.declared.outcome.Outcome.{Outcome}
+use Rattle.exchange_model.specs.declared.reply.Reply.TheVariants as reply
+use Rattle.exchange_model.specs.declared.sent.Sent.{Sent}
+use Rattle.machine_rows.proofs.HeadLemmas.{head_fits}
+use Rattle.machine_rows.proofs.StandLemmas.{delivery_fits, gives_stands}
+
+-- the table has the codes
+pub code_1_is_known : IsSome (error_row 1)
+unfolding error_row error_table
+code_1_is_known = refl
+
+pub code_3_is_known : IsSome (error_row 3)
+unfolding error_row error_table
+code_3_is_known = refl
+
+pub code_6_is_known : IsSome (error_row 6)
+unfolding error_row error_table
+code_6_is_known = refl
+
+pub code_10_is_known : IsSome (error_row 10)
+unfolding error_row error_table
+code_10_is_known = refl
+
+pub code_302_is_known : IsSome (error_row 302)
+unfolding error_row error_table
+code_302_is_known = refl
+
+-- a message that came for the first time is delivered
+pub delivers : (event : Event) (header : UserHeader) (payloads : List Payload) (d : Delivery) (signal : Signal) (outcome : Outcome)
+    → Gives (effect.Delivered d) (reply.Answer (message.Signal signal)) outcome
+    → d.header ≡ header → d.payloads ≡ payloads → IsReceiptOf header event.stamp event.nonce signal
+    → Delivers event header payloads outcome
+delivers event header payloads d signal outcome g h p is = (d, h, p, (signal, is, g))
+
+pub delivers_stands : (end : End) (event : Event) (header : UserHeader) (payloads : List Payload) (outcome : Outcome)
+    → is_known header.id end.inbox ≡ false → Delivers event header payloads outcome → CanStand end outcome.effects
+delivers_stands end event header payloads outcome new row =
+    gives_stands (effect.Delivered row.0) (reply.Answer (message.Signal row.3.0)) outcome end row.3.2
+    (delivery_fits row.0 end (ap (λ (h : UserHeader). is_known h.id end.inbox) row.1 ∙ new))
+
+-- the submission of this number is the answer
+abbrev pub Sends : ℕ → Outcome → Option Sent → Type 0
+Sends number outcome found =
+    IfSome found (λ s. Gives (effect.Tried number) (reply.Answer (message_of s.submission)) outcome)
+
+head_is_there : (o found : Option Sent) (number : ℕ) → Some number ≡ option_map (λ (s : Sent). s.submission.number) o → found ≡ o
+    → IsSome found
+head_is_there None found number e f = absurd cc
+head_is_there (Some s) found number e f = rw f refl
+
+sends_stands : (end : End) (number : ℕ) (found : Option Sent) (outcome : Outcome) → IsSome found → Sends number outcome found
+    → is_fit (effect.Tried number) end ≡ true → CanStand end outcome.effects
+sends_stands end number None outcome there sends fit = absurd cc
+sends_stands end number (Some s) outcome there sends fit = gives_stands _ _ outcome end sends fit
+
+pub head_stands : (q : Queue) (end : End) (number : ℕ) (outcome : Outcome)
+    → Some number ≡ option_map (λ (s : Sent). s.submission.number) (head_of q end)
+    → sent_at number end.sent ≡ head_of q end → Sends number outcome (sent_at number end.sent) → CanStand end outcome.effects
+head_stands q end number outcome e f sends =
+    sends_stands end number (sent_at number end.sent) outcome (head_is_there (head_of q end) (sent_at number end.sent) number e f) sends
+    (head_fits q end number e f)
+
+-- the receipt of a pending one came
+pub settles : (number : ℕ) (sent : List Sent) (outcome : Outcome) → is_one is_pending (sent_at number sent) ≡ true
+    → Gives (effect.Receipted number) reply.Quiet outcome → IfSome (sent_at number sent) (λ s. Settles s outcome)
+settles number sent outcome pending g = by (sent_at number sent) refl pending
+  where
+    by : (o : Option Sent) → sent_at number sent ≡ o → is_one is_pending o ≡ true → IfSome o (λ s. Settles s outcome)
+    by None at p = tt
+    by (Some s) at p =
+        rw p (g ∙ ap (λ n. record { effects = effect.Receipted n ∷ []; reply = reply.Quiet }) (sym (number_at number sent s at)))
+
+pub receipt_fits : (number : ℕ) (end : End) → is_one is_pending (sent_at number end.sent) ≡ true
+    → is_fit (effect.Receipted number) end ≡ true
+unfolding is_fit
+receipt_fits number end pending = pending

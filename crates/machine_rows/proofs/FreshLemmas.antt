@@ -1,0 +1,52 @@
+-- A new submission has a number and an identifier that none before it has.
+use Rattle.std.proofs.Common.{◌≡◌, ℕ, suc, ◌+◌, ◌<◌, ◌≤◌, List, [], ◌∷◌, Bool, true, false, not, None, length, refl, ap, sym, ◌∙◌, arith}
+use Rattle.std.specs.Str.{bytes_eq}
+use Rattle.std.proofs.lemmas.Bool.{and_from, and_parts, cond-false, eq-eqb}
+use Rattle.std.proofs.lemmas.Slice.Eq.{bytes_eq-Decides}
+use Rattle.as4_effects.specs.Sound.{is_id_of, nonce_in}
+use Rattle.as4_effects.specs.declared.effect.Effect.TheVariants as effect
+use Rattle.as4_effects.specs.declared.submission.Submission.{Submission}
+use Rattle.as4_values.proofs.IdentifierLemmas.{submission_number}
+use Rattle.as4_values.specs.Identifiers.{submission_id}
+use Rattle.end_tables.proofs.NumberLemmas.{StandAtNumbers, numbered}
+use Rattle.end_tables.specs.Numbered.{AreNumberedFrom}
+use Rattle.exchange_model.specs.Apply.{is_fit, is_one}
+use Rattle.exchange_model.specs.End.{End}
+use Rattle.exchange_model.specs.Questions.{sent_of}
+use Rattle.exchange_model.specs.declared.sent.Sent.{Sent}
+
+-- its identifier is made of its number
+named : (s : Submission) → s.header.id ≡ submission_id s.number (nonce_in s.number s.header.id)
+unfolding is_id_of
+named s = (bytes_eq-Decides s.header.id (submission_id s.number (nonce_in s.number s.header.id))).0 (and_parts _ _ s.identified).1
+
+-- submissions of one identifier have one number
+one_number : (s t : Submission) → s.header.id ≡ t.header.id → s.number ≡ t.number
+one_number s t e =
+    submission_number s.number t.number (nonce_in s.number s.header.id) (nonce_in t.number t.header.id)
+    (omega (arith, s.numbered)) (omega (arith, t.numbered)) (sym (named s) ∙ e ∙ named t)
+
+not_true : (b : Bool) → (b ≡ true → ⊥) → b ≡ false
+not_true true h = absurd (h refl)
+not_true false h = refl
+
+-- one of a smaller number has another identifier
+differs : (s t : Submission) → t.number < s.number → bytes_eq t.header.id s.header.id ≡ false
+differs s t less =
+    not_true (bytes_eq t.header.id s.header.id)
+    (λ e. let same : t.number ≡ s.number = one_number t s ((bytes_eq-Decides t.header.id s.header.id).0 e) in omega arith)
+
+unnamed : (s : Submission) (n : ℕ) (sent : List Sent) → AreNumberedFrom n sent → n + length sent ≤ s.number
+    → sent_of s.header.id sent ≡ None
+unfolding AreNumberedFrom
+unnamed s n [] h l = refl
+unnamed s n (t ∷ sent) h l =
+    cond-false _ _ _ (differs s t.submission (omega (arith, h.0))) ∙ unnamed s (suc n) sent h.1 (omega arith)
+
+-- a submission of the next number fits
+pub new_fits : (s : Submission) (end : End) → StandAtNumbers end.sent → s.number ≡ length end.sent
+    → is_fit (effect.Submitted s) end ≡ true
+unfolding is_fit
+new_fits s end places next =
+    let none : sent_of s.header.id end.sent ≡ None = unnamed s 0 end.sent (numbered end.sent places) (omega arith) in
+    and_from _ _ (eq-eqb s.number (length end.sent) next) (ap (λ o. not (is_one (λ (t : Sent). true) o)) none)

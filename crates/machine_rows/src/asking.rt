@@ -1,0 +1,88 @@
+//! What an end has to send is asked for (One-Way/Push and One-Way/Pull, ebMS 3.0 Core, section 2.2).
+ghost use Rattle.std.specs.Prelude.{◌≡◌, [], IfOk};
+ghost use Rattle.exchange_model.specs.Table.{Takes, Asks, AsksBy, message_of};
+ghost use Rattle.exchange_model.specs.Submitting.{address_of};
+ghost use Rattle.end_tables.specs.Standing.{CanStand};
+
+use crate::rows::{gives, rests, room_for_one};
+use crate::signals::pull_request;
+use as4_effects::{Effect, Queue, Submission};
+use as4_values::{Message, NoMemory, PlainData, Route, Text};
+use end_tables::EndTables;
+use exchange_model::{Event, Outcome, Reply};
+use pmodes::Modes;
+use std::alloc::Global;
+
+/// The row of `Take`.
+#[tactic(auto, unfolding(exchange_model::specs::Table::Takes))]
+pub fn take(alloc: Global, tables: &EndTables) -> Result<Outcome, NoMemory>
+    ensures row { IfOk result (Takes tables.now.end) }
+    ensures stands { IfOk result (λ outcome. CanStand tables.now.end outcome.effects) }
+{
+    let Some(number) = tables.head(&Queue::Push) else {
+        return Ok(rests(alloc, Reply::Nothing));
+    };
+    let Some(submission) = tables.get(number) else {
+        unreachable!()
+    };
+    let room = room_for_one(alloc)?;
+    let address = address_of(&submission.route).try_clone(alloc)?;
+    let message = message_of(alloc, submission)?;
+    Ok(gives(
+        room,
+        Effect::Tried { number },
+        Reply::Push { address, message },
+    ))
+}
+
+/// Where messages of the route are sent to.
+fn address_of(route: &Route) -> &Text
+    ensures { result.now ≡ address_of route.now }
+{
+    match route {
+        Route::Push { address } => address,
+        Route::Pull { address, .. } => address,
+    }
+}
+
+/// The message of a submission.
+pub fn message_of(alloc: Global, submission: &Submission) -> Result<Message, NoMemory>
+    ensures { IfOk result (λ message. message ≡ message_of submission.now) }
+{
+    Ok(Message::User {
+        header: submission.header.try_clone(alloc)?,
+        payloads: submission.payloads.try_clone(alloc)?,
+    })
+}
+
+/// The row of `Ask`.
+#[tactic(auto, unfolding(exchange_model::specs::Table::Asks))]
+pub fn ask(alloc: Global, modes: &Modes, event: &Event, name: &Text) -> Result<Outcome, NoMemory>
+    ensures row { IfOk result (Asks modes.now event.now name.now) }
+    ensures rests { IfOk result (λ outcome. outcome.effects ≡ []) }
+{
+    match modes.named(name) {
+        None => Ok(rests(alloc, Reply::NoMode)),
+        Some(mode) => ask_by(alloc, &mode.route, event),
+    }
+}
+
+fn ask_by(alloc: Global, route: &Route, event: &Event) -> Result<Outcome, NoMemory>
+    ensures row { IfOk result (AsksBy route.now event.now) }
+    ensures rests { IfOk result (λ outcome. outcome.effects ≡ []) }
+{
+    match route {
+        Route::Push { .. } => Ok(rests(alloc, Reply::NoMode)),
+        Route::Pull { mpc, address } => {
+            let address = address.try_clone(alloc)?;
+            let signal = pull_request(alloc, mpc, event.stamp, event.nonce)?;
+            Ok(rests(
+                alloc,
+                Reply::Request {
+                    address,
+                    message: Message::Signal(signal),
+                },
+            ))
+        }
+    }
+}

@@ -1,0 +1,196 @@
+//! A message of the other end comes.
+ghost use Rattle.std.specs.Prelude.{◌≡◌, ◌↔◌, IfOk, IfSome, IsSome, IsTrue, option_map};
+ghost use Rattle.exchange_model.specs.Coming.{is_deliverable};
+ghost use Rattle.exchange_model.specs.Table.{UserComes, Delivers, Gives, PullComes, ReceiptComes, Settles, SignalComes, IsOther, message_of};
+ghost use Rattle.exchange_model.specs.Questions.{head_of, sent_at};
+ghost use Rattle.end_tables.specs.Standing.{CanStand};
+ghost use Rattle.machine_rows.specs.Naming.{referred};
+
+use crate::asking::message_of;
+use crate::receipts::receipt;
+use crate::rows::{errs, gives, receipts, rests, room_for_one};
+use as4_effects::{Delivery, Effect, Queue};
+use as4_values::{
+    Message, MessageId, NoMemory, Payload, PlainData, Seq, Signal, SignalBody, Text, UserHeader,
+};
+use end_tables::EndTables;
+use exchange_model::{Event, Outcome, Reply};
+use pmodes::Modes;
+use refusals::refusals_of;
+use std::alloc::Global;
+
+/// The row of a user message that comes.
+#[tactic(auto, unfolding(exchange_model::specs::Table::UserComes))]
+pub fn user(
+    alloc: Global,
+    modes: &Modes,
+    tables: &EndTables,
+    event: &Event,
+    header: &UserHeader,
+    payloads: &Seq<Payload>,
+) -> Result<Outcome, NoMemory>
+    requires { IsTrue (is_deliverable header.now payloads.now) }
+    ensures row { IfOk result (UserComes modes.now tables.now.end event.now header.now payloads.now) }
+    ensures stands { IfOk result (λ outcome. CanStand tables.now.end outcome.effects) }
+{
+    if modes.of(header).is_none() {
+        return errs(alloc, 10, &header.id, event);
+    }
+    if tables.holds(&header.id) {
+        return receipts(alloc, header, event);
+    }
+    deliver(alloc, event, header, payloads)
+}
+
+/// A message that came for the first time is delivered.
+#[tactic(auto, unfolding(exchange_model::specs::Coming::is_deliverable))]
+fn deliver(
+    alloc: Global,
+    event: &Event,
+    header: &UserHeader,
+    payloads: &Seq<Payload>,
+) -> Result<Outcome, NoMemory>
+    requires { IsTrue (is_deliverable header.now payloads.now) }
+    ensures { IfOk result (Delivers event.now header.now payloads.now) }
+{
+    let room = room_for_one(alloc)?;
+    let signal = receipt(alloc, header, event.stamp, event.nonce)?;
+    let header = header.try_clone(alloc)?;
+    let payloads = payloads.try_clone(alloc)?;
+    Ok(gives(
+        room,
+        Effect::Delivered(Delivery { header, payloads }),
+        Reply::Answer(Message::Signal(signal)),
+    ))
+}
+
+/// The rows of a signal that comes.
+pub fn signal(
+    alloc: Global,
+    modes: &Modes,
+    tables: &EndTables,
+    event: &Event,
+    signal: &Signal,
+) -> Result<Outcome, NoMemory>
+    ensures row { IfOk result (SignalComes modes.now tables.now.end event.now signal.now.id signal.now.ref_to signal.now.body) }
+    ensures stands { IfOk result (λ outcome. CanStand tables.now.end outcome.effects) }
+{
+    match &signal.body {
+        SignalBody::Pull { mpc } => pull(alloc, modes, tables, event, &signal.id, mpc),
+        SignalBody::Receipt { copy } => {
+            receipt_of(alloc, tables, event, &signal.id, &signal.ref_to, copy)
+        }
+        SignalBody::Errors { items } => {
+            let effects = refusals_of(alloc, tables, &signal.ref_to, items.items())?;
+            Ok(Outcome {
+                effects,
+                reply: Reply::Quiet,
+            })
+        }
+    }
+}
+
+/// The row of a pull request that comes.
+#[tactic(auto, unfolding(exchange_model::specs::Table::PullComes))]
+fn pull(
+    alloc: Global,
+    modes: &Modes,
+    tables: &EndTables,
+    event: &Event,
+    id: &MessageId,
+    mpc: &Text,
+) -> Result<Outcome, NoMemory>
+    ensures row { IfOk result (PullComes modes.now tables.now.end event.now id.now mpc.now) }
+    ensures stands { IfOk result (λ outcome. CanStand tables.now.end outcome.effects) }
+{
+    if modes.channel(mpc).is_none() {
+        return errs(alloc, 1, id, event);
+    }
+    match head(alloc, tables, mpc)? {
+        None => errs(alloc, 6, id, event),
+        Some(number) => send(alloc, tables, number),
+    }
+}
+
+/// The number of the first that waits in the channel.
+fn head(alloc: Global, tables: &EndTables, mpc: &Text) -> Result<Option<u64>, NoMemory>
+    ensures value { IfOk result (λ head. head ≡ option_map (λ s. s.submission.number) (head_of (Queue.Channel mpc.now) tables.now.end)) }
+    ensures found { IfOk result (λ head. IfSome head (λ number.
+        sent_at number tables.now.end.sent ≡ head_of (Queue.Channel mpc.now) tables.now.end)) }
+{
+    let queue = Queue::Channel(mpc.try_clone(alloc)?);
+    Ok(tables.head(&queue))
+}
+
+/// The submission of this number is the answer.
+fn send(alloc: Global, tables: &EndTables, number: u64) -> Result<Outcome, NoMemory>
+    requires { IsSome (sent_at number tables.now.end.sent) }
+    ensures { IfOk result (λ outcome. IfSome (sent_at number tables.now.end.sent) (λ s.
+        Gives (Effect.Tried number) (Reply.Answer (message_of s.submission)) outcome)) }
+{
+    let Some(submission) = tables.get(number) else {
+        unreachable!()
+    };
+    let room = room_for_one(alloc)?;
+    let message = message_of(alloc, submission)?;
+    Ok(gives(room, Effect::Tried { number }, Reply::Answer(message)))
+}
+
+/// The row of a receipt that comes.
+#[tactic(auto, unfolding(exchange_model::specs::Table::ReceiptComes))]
+fn receipt_of(
+    alloc: Global,
+    tables: &EndTables,
+    event: &Event,
+    id: &MessageId,
+    ref_to: &Option<MessageId>,
+    copy: &Option<UserHeader>,
+) -> Result<Outcome, NoMemory>
+    ensures row { IfOk result (ReceiptComes tables.now.end event.now id.now ref_to.now copy.now) }
+    ensures stands { IfOk result (λ outcome. CanStand tables.now.end outcome.effects) }
+{
+    let Some(number) = named(tables, ref_to) else {
+        return errs(alloc, 3, id, event);
+    };
+    let Some(submission) = tables.get(number) else {
+        unreachable!()
+    };
+    if is_other(copy, &submission.header) {
+        return errs(alloc, 302, id, event);
+    }
+    settle(alloc, tables, number)
+}
+
+/// The number of the submission that the reference names.
+fn named(tables: &EndTables, ref_to: &Option<MessageId>) -> Option<u64>
+    ensures value { result ≡ option_map (λ s. s.submission.number) (referred ref_to.now tables.now.end.sent) }
+    ensures found { IfSome result (λ number. sent_at number tables.now.end.sent ≡ referred ref_to.now tables.now.end.sent) }
+{
+    match ref_to {
+        None => None,
+        Some(id) => tables.number_of(id),
+    }
+}
+
+/// Whether a copy is there that isn't this header.
+fn is_other(copy: &Option<UserHeader>, header: &UserHeader) -> bool
+    ensures { IsTrue result ↔ IsOther copy.now header.now }
+{
+    match copy {
+        None => false,
+        Some(copy) => !copy.same(header),
+    }
+}
+
+/// The receipt of a submission came.
+fn settle(alloc: Global, tables: &EndTables, number: u64) -> Result<Outcome, NoMemory>
+    requires { IsSome (sent_at number tables.now.end.sent) }
+    ensures row { IfOk result (λ outcome. IfSome (sent_at number tables.now.end.sent) (λ s. Settles s outcome)) }
+    ensures stands { IfOk result (λ outcome. CanStand tables.now.end outcome.effects) }
+{
+    if !tables.is_pending(number) {
+        return Ok(rests(alloc, Reply::Quiet));
+    }
+    let room = room_for_one(alloc)?;
+    Ok(gives(room, Effect::Receipted { number }, Reply::Quiet))
+}

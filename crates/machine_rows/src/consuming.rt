@@ -1,0 +1,89 @@
+//! The consumer and the producer at this end ask.
+ghost use Rattle.std.specs.Prelude.{◌≡◌, [], IfOk, Some, option_map};
+ghost use Rattle.exchange_model.specs.Questions.{sent_at, sent_of, standing_of};
+ghost use Rattle.exchange_model.specs.Table.{Confirms, Rests, read_reply, standing_reply};
+ghost use Rattle.end_tables.specs.Standing.{CanStand};
+
+use crate::rows::{gives, rests, room_for_one};
+use as4_effects::Effect;
+use as4_values::{MessageId, NoMemory, PlainData};
+use end_tables::EndTables;
+use exchange_model::{Outcome, Reply, Standing};
+use inbox::Held;
+use std::alloc::Global;
+
+/// The row of `Read`.
+pub fn read(alloc: Global, tables: &EndTables, n: u64) -> Result<Outcome, NoMemory>
+    ensures row { IfOk result (Rests (read_reply tables.now.end n)) }
+    ensures stands { IfOk result (λ outcome. CanStand tables.now.end outcome.effects) }
+{
+    Ok(rests(alloc, read_reply(alloc, tables, n)?))
+}
+
+/// The reply to `Read`.
+#[tactic(auto, unfolding(exchange_model::specs::Table::read_reply))]
+fn read_reply(alloc: Global, tables: &EndTables, n: u64) -> Result<Reply, NoMemory>
+    ensures { IfOk result (λ reply. reply ≡ read_reply tables.now.end n) }
+{
+    match tables.read(n) {
+        Held::Gone => Ok(Reply::Gone),
+        Held::NoEntry => Ok(Reply::NoEntry),
+        Held::Entry { header, payloads } => Ok(Reply::Entry {
+            header: header.try_clone(alloc)?,
+            payloads: payloads.try_clone(alloc)?,
+        }),
+    }
+}
+
+/// The row of `Confirm`.
+#[tactic(auto, unfolding(exchange_model::specs::Table::Confirms))]
+pub fn confirm(alloc: Global, tables: &EndTables, upto: u64) -> Result<Outcome, NoMemory>
+    ensures row { IfOk result (Confirms tables.now.end upto) }
+    ensures stands { IfOk result (λ outcome. CanStand tables.now.end outcome.effects) }
+{
+    if upto < tables.confirmed() {
+        return Ok(rests(alloc, Reply::Gone));
+    }
+    if upto >= tables.received() {
+        return Ok(rests(alloc, Reply::NoEntry));
+    }
+    let room = room_for_one(alloc)?;
+    Ok(gives(room, Effect::Confirmed { upto }, Reply::Confirmed { upto }))
+}
+
+/// The row of `Status`.
+pub fn status(alloc: Global, tables: &EndTables, id: &MessageId) -> Result<Outcome, NoMemory>
+    ensures row { IfOk result (Rests (standing_reply (sent_of id.now tables.now.end.sent))) }
+    ensures stands { IfOk result (λ outcome. CanStand tables.now.end outcome.effects) }
+{
+    Ok(rests(alloc, standing_reply(alloc, tables, id)?))
+}
+
+/// The reply to `Status`.
+fn standing_reply(alloc: Global, tables: &EndTables, id: &MessageId) -> Result<Reply, NoMemory>
+    ensures { IfOk result (λ reply. reply ≡ standing_reply (sent_of id.now tables.now.end.sent)) }
+{
+    let Some(number) = tables.number_of(id) else {
+        return Ok(Reply::Unknown);
+    };
+    match tables.status(number) {
+        None => unreachable!(),
+        Some(Standing::Pending { tries }) => Ok(Reply::Pending { tries }),
+        Some(Standing::Receipted) => Ok(Reply::Receipted),
+        Some(Standing::Failed) => Ok(Reply::Failed),
+        Some(Standing::Refused) => refused(alloc, tables, number),
+    }
+}
+
+/// The error that the other end refused the submission with.
+fn refused(alloc: Global, tables: &EndTables, number: u64) -> Result<Reply, NoMemory>
+    requires { option_map (λ s. standing_of s.tries s.mark) (sent_at number tables.now.end.sent) ≡ Some Standing.Refused }
+    ensures { IfOk result (λ reply. reply ≡ standing_reply (sent_at number tables.now.end.sent)) }
+{
+    match tables.refused_code(number) {
+        None => unreachable!(),
+        Some(code) => Ok(Reply::RefusedWith {
+            code: code.try_clone(alloc)?,
+        }),
+    }
+}

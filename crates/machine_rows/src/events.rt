@@ -1,0 +1,60 @@
+//! Each event has its rows.
+ghost use Rattle.std.specs.Prelude.{◌≡◌, IfOk, IsTrue};
+ghost use Rattle.end_tables.specs.Standing.{CanStand};
+ghost use Rattle.exchange_model.specs.Coming.{may_come};
+ghost use Rattle.exchange_model.specs.Table.{RowOf, Comes};
+
+use crate::{asking, coming, consuming, submitting};
+use as4_values::{Message, NoMemory};
+use end_tables::EndTables;
+use exchange_model::{Event, Outcome, What};
+use pmodes::Modes;
+use std::alloc::Global;
+
+/// The row of an event at an end with these modes and tables, the journal's limit left aside. Its effects can be carried
+/// out there.
+pub fn row_of(
+    alloc: Global,
+    modes: &Modes,
+    tables: &EndTables,
+    event: &Event,
+) -> Result<Outcome, NoMemory>
+    ensures row { IfOk result (RowOf modes.now tables.now.end event.now event.now.what) }
+    ensures stands { IfOk result (λ outcome. CanStand tables.now.end outcome.effects) }
+{
+    match &event.what {
+        What::Submit {
+            mode,
+            conversation,
+            loads,
+        } => submitting::submit(alloc, modes, tables, event, mode, conversation, loads),
+        What::Tick => submitting::tick(alloc, tables, event),
+        What::Take => asking::take(alloc, tables),
+        What::Ask { mode } => asking::ask(alloc, modes, event, mode),
+        What::Came(message) => row_of_message(alloc, modes, tables, event, message),
+        What::Read { n } => consuming::read(alloc, tables, *n),
+        What::Confirm { upto } => consuming::confirm(alloc, tables, *upto),
+        What::Status { id } => consuming::status(alloc, tables, id),
+    }
+}
+
+/// The row of a message that comes.
+#[tactic(auto, unfolding(exchange_model::specs::Coming::may_come))]
+fn row_of_message(
+    alloc: Global,
+    modes: &Modes,
+    tables: &EndTables,
+    event: &Event,
+    message: &Message,
+) -> Result<Outcome, NoMemory>
+    requires { IsTrue (may_come (What.Came message.now)) }
+    ensures row { IfOk result (Comes modes.now tables.now.end event.now message.now) }
+    ensures stands { IfOk result (λ outcome. CanStand tables.now.end outcome.effects) }
+{
+    match message {
+        Message::User { header, payloads } => {
+            coming::user(alloc, modes, tables, event, header, payloads)
+        }
+        Message::Signal(signal) => coming::signal(alloc, modes, tables, event, signal),
+    }
+}

@@ -1,0 +1,91 @@
+//! A message is handed in to be sent, and the clock is set.
+ghost use Rattle.std.specs.Prelude.{◌≡◌, ◌<◌, IfOk, false, length};
+ghost use Rattle.exchange_model.specs.Submitting.{are_too_large};
+ghost use Rattle.exchange_model.specs.Table.{Submits, TakesIn, Ticks};
+ghost use Rattle.end_tables.specs.Standing.{CanStand};
+
+use crate::rows::{gives, rests, room_for_one};
+use as4_effects::{Effect, Tick};
+use as4_values::{Load, MessageId, Mode, NoMemory, Seq, Text};
+use end_tables::EndTables;
+use exchange_model::{Event, Outcome, Reply};
+use pmodes::Modes;
+use std::alloc::Global;
+use submissions::{Intake, are_too_large, submission};
+
+/// How many submissions an end has at most.
+const MAX_SUBMISSIONS: u64 = 1_048_576;
+
+/// The row of `Submit`.
+#[tactic(auto, unfolding(exchange_model::specs::Table::Submits))]
+pub fn submit(
+    alloc: Global,
+    modes: &Modes,
+    tables: &EndTables,
+    event: &Event,
+    name: &Text,
+    conversation: &Option<Text>,
+    loads: &Seq<Load>,
+) -> Result<Outcome, NoMemory>
+    ensures row { IfOk result (Submits modes.now tables.now.end event.now name.now conversation.now loads.now) }
+    ensures stands { IfOk result (λ outcome. CanStand tables.now.end outcome.effects) }
+{
+    let Some(mode) = modes.named(name) else {
+        return Ok(rests(alloc, Reply::NoMode));
+    };
+    if tables.submitted() >= MAX_SUBMISSIONS {
+        return Ok(rests(alloc, Reply::OutboxFull));
+    }
+    if are_too_large(loads.items()) {
+        return Ok(rests(alloc, Reply::TooLarge));
+    }
+    take_in(alloc, mode, tables, event, conversation, loads)
+}
+
+/// The message is taken in.
+fn take_in(
+    alloc: Global,
+    mode: &Mode,
+    tables: &EndTables,
+    event: &Event,
+    conversation: &Option<Text>,
+    loads: &Seq<Load>,
+) -> Result<Outcome, NoMemory>
+    requires numbered { length tables.now.end.sent < 1048576 }
+    requires small { are_too_large loads.now ≡ false }
+    ensures row { IfOk result (TakesIn mode.now tables.now.end event.now conversation.now loads.now) }
+    ensures stands { IfOk result (λ outcome. CanStand tables.now.end outcome.effects) }
+{
+    let number = tables.submitted();
+    let intake = Intake {
+        number,
+        now: tables.moment(),
+        stamp: event.stamp,
+        nonce: event.nonce,
+    };
+    let room = room_for_one(alloc)?;
+    let id = MessageId::of_submission(alloc, number, event.nonce)?;
+    let submission = submission(alloc, mode, intake, conversation, loads)?;
+    Ok(gives(
+        room,
+        Effect::Submitted(submission),
+        Reply::Submitted { number, id },
+    ))
+}
+
+/// The row of `Tick`.
+#[tactic(auto, unfolding(exchange_model::specs::Table::Ticks))]
+pub fn tick(alloc: Global, tables: &EndTables, event: &Event) -> Result<Outcome, NoMemory>
+    ensures row { IfOk result (Ticks tables.now.end event.now) }
+    ensures stands { IfOk result (λ outcome. CanStand tables.now.end outcome.effects) }
+{
+    if event.stamp <= tables.moment() {
+        return Ok(rests(alloc, Reply::Ticked { failed: 0 }));
+    }
+    let room = room_for_one(alloc)?;
+    let failed = tables.spent(event.stamp);
+    let tick = Tick {
+        moment: event.stamp,
+    };
+    Ok(gives(room, Effect::Ticked(tick), Reply::Ticked { failed }))
+}

@@ -1,0 +1,4 @@
+pub mod PlanLemmas
+pub mod RecordLemmas
+pub mod ReplayLemmas
+pub mod SmallLemmas

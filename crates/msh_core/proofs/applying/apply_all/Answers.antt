@@ -1,0 +1,19 @@
+use Rattle.std.proofs.Common.{◌∷◌, drop, sym, ◌∙◌, ap}
+use Rattle.std.specs.Vec.Iter.{into_iter_items}
+use Rattle.exchange_model.specs.Apply.{after_all}
+use Rattle.msh_core.proofs.PlanLemmas.{CanGo, goes_on}
+use Rattle.msh_core.proofs.applying.apply_all.Goals as goal
+
+pub loop-effect-preserved : goal.loop-effect-preserved
+loop-effect-preserved c =
+    let can : CanGo c.loop-effect.tables.end c.loop-effect.tables.rooms
+    (c.in-Some.effect ∷ into_iter_items c.next.new.self) (drop c.loop-effect.index c.items-queues.result.now) =
+    rw (sym c.in-Some.ensures.steps.0) c.loop-effect.invariant.can in
+    let next = goes_on c.loop-effect.tables.end c.loop-effect.tables.rooms c.apply.new.self.rooms c.in-Some.effect
+    (into_iter_items c.next.new.self) c.loop-effect.index c.items-queues.result.now can in
+    record {
+      can = rw c.apply.ensures next.on;
+      leads = ap (after_all (into_iter_items c.next.new.self)) c.apply.ensures
+          ∙ ap (λ effects. after_all effects c.loop-effect.tables.end) (sym c.in-Some.ensures.steps.0)
+          ∙ c.loop-effect.invariant.leads;
+    }

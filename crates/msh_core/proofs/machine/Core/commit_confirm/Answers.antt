@@ -1,0 +1,12 @@
+use Rattle.std.proofs.Common.{◌≡◌, ◌+◌, ap, ◌∙◌}
+use Rattle.exchange_model.specs.Apply.{after}
+use Rattle.exchange_model.specs.End.{End}
+use Rattle.msh_core.specs.Machine.{Machine}
+use Rattle.msh_core.proofs.SmallLemmas.{confirm_done}
+use Rattle.msh_core.proofs.machine.Core.commit_confirm.Goals as goal
+
+pub returns-clause-step : goal.returns-clause-step
+returns-clause-step c outcome stands =
+    let same : c.self.inside.tables.end ≡ c.args.self.now.end = ap (λ (m : Machine). m.end) c.self.view_is in
+    confirm_done c.args.self.now.end c.grow.new.self.end c.args.upto outcome
+    (c.grow.ensures.end ∙ ap (λ (e : End). record e { size = e.size + 16 }) (c.apply.ensures ∙ ap (after _) same)) stands

@@ -1,0 +1,42 @@
+use Rattle.std.proofs.Common.{◌≡◌, ◌<◌, ◌≤◌, length, ap, sym, ◌∙◌, arith}
+use Rattle.msh_core.specs.Machine.{Machine}
+use Rattle.msh_core.proofs.SmallLemmas.{confirm_full, confirm_gone, confirm_made, confirm_none}
+use Rattle.msh_core.proofs.machine.Core.plan_confirm.Goals as goal
+
+pub returns-then-upto-confirmed-clause-step : goal.returns-then-upto-confirmed-clause-step
+returns-then-upto-confirmed-clause-step c event is =
+    let confirmed : c.confirmed.result ≡ c.args.self.now.end.confirmed =
+    c.confirmed.ensures.value ∙ ap (λ (m : Machine). m.end.confirmed) c.self.view_is in
+    let gone : c.args.upto < c.args.self.now.end.confirmed = omega (arith, confirmed, c.if-upto-confirmed.true) in
+    confirm_gone c.args.self.now event c.args.upto is gone
+
+pub returns-then-upto-received-clause-step : goal.returns-then-upto-received-clause-step
+returns-then-upto-received-clause-step c event is =
+    let confirmed : c.confirmed.result ≡ c.args.self.now.end.confirmed =
+    c.confirmed.ensures.value ∙ ap (λ (m : Machine). m.end.confirmed) c.self.view_is in
+    let received : c.received.result ≡ length c.args.self.now.end.inbox =
+    c.received.ensures ∙ ap (λ (m : Machine). length m.end.inbox) c.self.view_is in
+    let left : c.args.self.now.end.confirmed ≤ c.args.upto = omega (arith, confirmed, c.if-upto-confirmed.false) in
+    let none : length c.args.self.now.end.inbox ≤ c.args.upto = omega (arith, received, c.if-upto-received.true) in
+    confirm_none c.args.self.now event c.args.upto is left none
+
+pub returns-then-not-has_small_room-clause-step : goal.returns-then-not-has_small_room-clause-step
+returns-then-not-has_small_room-clause-step c event is =
+    let confirmed : c.confirmed.result ≡ c.args.self.now.end.confirmed =
+    c.confirmed.ensures.value ∙ ap (λ (m : Machine). m.end.confirmed) c.self.view_is in
+    let received : c.received.result ≡ length c.args.self.now.end.inbox =
+    c.received.ensures ∙ ap (λ (m : Machine). length m.end.inbox) c.self.view_is in
+    let left : c.args.self.now.end.confirmed ≤ c.args.upto = omega (arith, confirmed, c.if-upto-confirmed.false) in
+    let within : c.args.upto < length c.args.self.now.end.inbox = omega (arith, received, c.if-upto-received.false) in
+    rw c.small_full.ensures
+    (confirm_full c.args.self.now event c.args.upto is left within (sym c.has_small_room.ensures ∙ c.if-not-has_small_room.true))
+
+pub returns-clause-step : goal.returns-clause-step
+returns-clause-step c event is =
+    let confirmed : c.confirmed.result ≡ c.args.self.now.end.confirmed =
+    c.confirmed.ensures.value ∙ ap (λ (m : Machine). m.end.confirmed) c.self.view_is in
+    let received : c.received.result ≡ length c.args.self.now.end.inbox =
+    c.received.ensures ∙ ap (λ (m : Machine). length m.end.inbox) c.self.view_is in
+    let left : c.args.self.now.end.confirmed ≤ c.args.upto = omega (arith, confirmed, c.if-upto-confirmed.false) in
+    let within : c.args.upto < length c.args.self.now.end.inbox = omega (arith, received, c.if-upto-received.false) in
+    confirm_made c.args.self.now event c.args.upto is left within (sym c.has_small_room.ensures ∙ c.if-not-has_small_room.false)

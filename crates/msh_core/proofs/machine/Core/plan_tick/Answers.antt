@@ -1,0 +1,26 @@
+use Rattle.std.proofs.Common.{◌≡◌, ◌<◌, ◌≤◌, ap, sym, ◌∙◌, arith}
+use Rattle.msh_core.specs.Machine.{Machine}
+use Rattle.msh_core.proofs.SmallLemmas.{tick_full, tick_late, tick_made}
+use Rattle.msh_core.proofs.machine.Core.plan_tick.Goals as goal
+
+pub returns-then-stamp-moment-clause-step : goal.returns-then-stamp-moment-clause-step
+returns-then-stamp-moment-clause-step c event is same =
+    let moment : c.moment.result ≡ c.args.self.now.end.moment =
+    c.moment.ensures.value ∙ ap (λ (m : Machine). m.end.moment) c.self.view_is in
+    let late : event.stamp ≤ c.args.self.now.end.moment = omega (arith, same, moment, c.if-stamp-moment.true) in
+    tick_late c.args.self.now event is late
+
+pub returns-then-not-has_small_room-clause-step : goal.returns-then-not-has_small_room-clause-step
+returns-then-not-has_small_room-clause-step c event is same =
+    let moment : c.moment.result ≡ c.args.self.now.end.moment =
+    c.moment.ensures.value ∙ ap (λ (m : Machine). m.end.moment) c.self.view_is in
+    let later : c.args.self.now.end.moment < event.stamp = omega (arith, same, moment, c.if-stamp-moment.false) in
+    rw c.small_full.ensures
+    (tick_full c.args.self.now event is later (sym c.has_small_room.ensures ∙ c.if-not-has_small_room.true))
+
+pub returns-clause-step : goal.returns-clause-step
+returns-clause-step c event is same =
+    let moment : c.moment.result ≡ c.args.self.now.end.moment =
+    c.moment.ensures.value ∙ ap (λ (m : Machine). m.end.moment) c.self.view_is in
+    let later : c.args.self.now.end.moment < event.stamp = omega (arith, same, moment, c.if-stamp-moment.false) in
+    rw (sym same) (tick_made c.args.self.now event is later (sym c.has_small_room.ensures ∙ c.if-not-has_small_room.false))

@@ -1,0 +1,34 @@
+-- The machine of one end, and what it plans for an event.
+use Rattle.std.specs.Prelude.{◌≡◌, List, [], ◌∷◌, true, map}
+use Rattle.as4_effects.specs.declared.effect.Effect.{Effect}
+use Rattle.as4_effects.specs.declared.queue.Queue.{Queue}
+use Rattle.as4_values.specs.declared.mode.Mode.{Mode}
+use Rattle.end_tables.specs.Rooms.{Rooms, HasRoom, queue_for}
+use Rattle.end_tables.specs.Standing.{CanStand}
+use Rattle.exchange_model.specs.End.{End}
+use Rattle.exchange_model.specs.Table.{has_room}
+use Rattle.exchange_model.specs.declared.outcome.Outcome.{Outcome}
+use Rattle.exchange_model.specs.declared.sent.Sent.{Sent}
+
+-- an end with its modes, and what its tables have room for
+pub record Machine : Type 0 where
+  pub end : End
+  pub modes : List Mode
+  pub rooms : Rooms
+
+-- an outcome, and the queue in which each effect moves a submission
+pub record Planned : Type 0 where
+  pub outcome : Outcome
+  pub queues : List Queue
+
+-- there is room for the first of these
+abbrev pub HaveRoom : Rooms → List Sent → List Effect → Type 0
+HaveRoom rooms sent [] = Unit {0}
+HaveRoom rooms sent (effect ∷ effects) = HasRoom rooms sent effect
+
+-- the plan can be carried out as it is
+pub record IsReady (machine : Machine) (plan : Planned) : Type 0 where
+  pub stands : CanStand machine.end plan.outcome.effects
+  pub queues : plan.queues ≡ map (queue_for machine.end.sent) plan.outcome.effects
+  pub room : HaveRoom machine.rooms machine.end.sent plan.outcome.effects
+  pub limited : has_room machine.end plan.outcome.effects ≡ true

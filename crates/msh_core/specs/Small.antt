@@ -1,0 +1,36 @@
+-- The plans that take no memory: those of a tick and of a confirmation.
+use Rattle.std.specs.Prelude.{◌≡◌, ◌+◌, ◌<◌, ◌≤◌, [], ◌∷◌, length}
+use Rattle.std.specs.List.{count_by}
+use Rattle.as4_effects.specs.declared.effect.Effect.TheVariants as effect
+use Rattle.as4_effects.specs.declared.effect.Tick.{Tick}
+use Rattle.exchange_model.specs.End.{End}
+use Rattle.exchange_model.specs.Questions.{is_spent}
+use Rattle.exchange_model.specs.Table.{Step, journal_limit}
+use Rattle.exchange_model.specs.declared.event.Event.{Event}
+use Rattle.exchange_model.specs.declared.outcome.Outcome.{Outcome}
+use Rattle.exchange_model.specs.declared.reply.Reply.TheVariants as reply
+use Rattle.msh_core.specs.Machine.{Machine}
+use Rattle.msh_core.specs.declared.small.SmallPlan.{SmallPlan}
+use Rattle.msh_core.specs.declared.small.SmallPlan.TheVariants as plan
+
+-- the outcome that a plan stands for, at an end
+abbrev pub StandsFor : End → SmallPlan → Outcome → Type 0
+StandsFor end (plan.Tick moment) outcome =
+    (tick : Tick) × (tick.moment ≡ moment)
+    × (outcome ≡ record { effects = effect.Ticked tick ∷ []; reply = reply.Ticked (count_by (is_spent moment) end.sent) })
+StandsFor end (plan.Confirm upto) outcome =
+    outcome ≡ record { effects = effect.Confirmed upto ∷ []; reply = reply.Confirmed upto }
+StandsFor end (plan.Rest r) outcome = outcome ≡ record { effects = []; reply = r }
+
+-- the plan can be carried out as it is
+abbrev pub IsSmallReady : End → SmallPlan → Type 0
+IsSmallReady end (plan.Tick moment) =
+    (end.moment < moment) × (moment ≤ 253402300799999) × (end.size + 16 ≤ journal_limit)
+IsSmallReady end (plan.Confirm upto) =
+    (end.confirmed ≤ upto) × (upto < length end.inbox) × (end.size + 16 ≤ journal_limit)
+IsSmallReady end (plan.Rest r) = Unit {0}
+
+-- the plan stands for what the machine gives to an event
+abbrev pub PlansFor : Machine → Event → SmallPlan → Type 0
+PlansFor machine event p =
+    (outcome : Outcome) × StandsFor machine.end p outcome × Step machine.modes machine.end event outcome

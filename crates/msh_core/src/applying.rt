@@ -1,0 +1,58 @@
+//! Effects are made one after another, with the room and the queues that were got for them.
+ghost use Rattle.std.specs.Prelude.{◌≡◌, IfOk, map};
+ghost use Rattle.end_tables.specs.Rooms.{queue_for};
+ghost use Rattle.end_tables.specs.Standing.{CanStand};
+ghost use Rattle.exchange_model.specs.Apply.{after_all};
+ghost use Rattle.msh_core.specs.Machine.{HaveRoom};
+
+use as4_effects::{Effect, Queue};
+use as4_values::{NoMemory, Seq};
+use end_tables::EndTables;
+use std::alloc::Global;
+
+/// Makes room for the effects, and finds the queue in which each moves a submission.
+pub fn room_for(
+    alloc: Global,
+    tables: &mut EndTables,
+    effects: &Seq<Effect>,
+) -> Result<Seq<Queue>, NoMemory>
+    requires { CanStand tables.old.end effects.now }
+    ensures room { IfOk result (λ _. HaveRoom tables.new.rooms tables.new.end.sent effects.now) }
+    ensures queues { IfOk result (λ queues. queues ≡ map (queue_for tables.new.end.sent) effects.now) }
+    ensures end { tables.new.end ≡ tables.old.end }
+{
+    if let Some(effect) = effects.items().first() {
+        tables.reserve(effect)?;
+    }
+    queues_for(alloc, tables, effects)
+}
+
+/// The queue in which each effect moves a submission.
+fn queues_for(
+    alloc: Global,
+    tables: &EndTables,
+    effects: &Seq<Effect>,
+) -> Result<Seq<Queue>, NoMemory>
+    ensures { IfOk result (λ queues. queues ≡ map (queue_for tables.now.end.sent) effects.now) }
+{
+    let mut queues = Vec::with_capacity(alloc, effects.items().len())?;
+    for effect in effects.items() {
+        queues.push(tables.queue_for(effect)?)?;
+    }
+    Ok(Seq::of(queues))
+}
+
+/// Makes the changes of all effects, in order. Takes no memory.
+pub fn apply_all(tables: &mut EndTables, effects: Seq<Effect>, queues: &Seq<Queue>)
+    requires stands { CanStand tables.old.end effects }
+    requires queues { queues.now ≡ map (queue_for tables.old.end.sent) effects }
+    requires room { HaveRoom tables.old.rooms tables.old.end.sent effects }
+    ensures { tables.new.end ≡ after_all effects tables.old.end }
+{
+    let queues = queues.items();
+    let mut index = 0;
+    for effect in effects.into_vec() {
+        tables.apply(effect, &queues[index]);
+        index += 1;
+    }
+}

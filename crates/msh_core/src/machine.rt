@@ -1,0 +1,164 @@
+ghost use Rattle.std.specs.Prelude.{◌≡◌, ◌≢◌, ◌≤◌, [], IfOk, IfSome, None, false, length, option_copied, option_map, true};
+ghost use Rattle.as4_effects.specs.Effects.{effects_limit};
+ghost use Rattle.end_tables.specs.Rooms.{new_tables};
+ghost use Rattle.end_tables.specs.Standing.{CanStand};
+ghost use Rattle.end_tables.specs.Totals.{AreTotals};
+ghost use Rattle.exchange_model.specs.Apply.{applied, record_len};
+ghost use Rattle.exchange_model.specs.Questions.{sent_at};
+ghost use Rattle.exchange_model.specs.Table.{IsLimited, Step, has_room};
+ghost use Rattle.msh_core.specs.Machine.{IsReady};
+
+use crate::applying::{apply_all, room_for};
+use crate::plan::Plan;
+use as4_effects::{Effect, Submission};
+use as4_values::{MAX_MOMENT, NoMemory, Seq};
+use end_tables::{EndTables, Totals};
+use event_code::body_len;
+use exchange_model::{Event, Outcome, Reply};
+use machine_rows::{rests, row_of};
+use pmodes::Modes;
+use std::alloc::Global;
+use std::marker::Model;
+
+/// How many bytes a journal has at most.
+pub const MAX_JOURNAL: u64 = 1_073_741_824;
+
+/// One end with its processing modes. It asks no clock, disk or peer: what happens comes in as events.
+#[derive(Drop)]
+pub struct Core {
+    alloc: Global,
+    modes: Modes,
+    pub(crate) tables: EndTables,
+}
+
+impl Model for Core {
+    ghost use Rattle.msh_core.specs.Machine.{Machine};
+
+    ghost Value = { Machine };
+
+    ghost view = { λ core. record { end = core.tables.end; modes = core.modes; rooms = core.tables.rooms } };
+}
+
+impl Core {
+    /// An end to which nothing happened yet.
+    pub fn new(alloc: Global, modes: Modes) -> Core
+        ensures { result ≡ record { end = new_tables.end; modes = modes; rooms = new_tables.rooms } }
+    {
+        Core {
+            alloc,
+            modes,
+            tables: EndTables::new(alloc),
+        }
+    }
+
+    /// What the end does with an event, with all the memory that it takes. Nothing changes but room.
+    pub fn prepare(&mut self, event: &Event) -> Result<Plan, NoMemory>
+        ensures step { IfOk result (λ plan. Step self.old.modes self.old.end event.now plan.outcome) }
+        ensures ready { IfOk result (IsReady self.new) }
+        ensures end { self.new.end ≡ self.old.end }
+        ensures modes { self.new.modes ≡ self.old.modes }
+    {
+        let row = row_of(self.alloc, &self.modes, &self.tables, event)?;
+        let outcome = limited(self.alloc, &self.tables, row);
+        match room_for(self.alloc, &mut self.tables, &outcome.effects) {
+            Ok(queues) => Ok(Plan::of(outcome, queues)),
+            Err(error) => {
+                drop(outcome);
+                Err(error)
+            }
+        }
+    }
+
+    /// Does what was planned on the present state. Takes no memory.
+    pub fn commit(&mut self, plan: Plan) -> Reply
+        requires { IsReady self.old plan }
+        ensures end { self.new.end ≡ applied plan.outcome.effects self.old.end }
+        ensures modes { self.new.modes ≡ self.old.modes }
+        ensures reply { result ≡ plan.outcome.reply }
+    {
+        let (effects, queues, reply) = plan.into_parts();
+        let len = record_len(&effects);
+        let _limited = self.tables.size();
+        apply_all(&mut self.tables, effects, &queues);
+        self.tables.grow(len);
+        reply
+    }
+
+    /// The clock, in milliseconds since 1970-01-01T00:00:00Z.
+    pub fn moment(&self) -> u64
+        ensures value { result ≡ self.now.end.moment }
+        ensures dated { result ≤ MAX_MOMENT }
+    {
+        self.tables.moment()
+    }
+
+    /// How many bytes the journal has.
+    pub fn size(&self) -> u64
+        ensures { result ≡ self.now.end.size }
+    {
+        self.tables.size()
+    }
+
+    /// The submission of this number.
+    pub fn submission(&self, number: u64) -> Option<&Submission>
+        ensures { option_copied result ≡ option_map (λ s. s.submission) (sent_at number self.now.end.sent) }
+    {
+        self.tables.get(number)
+    }
+
+    /// How many submissions, receipts, failures, refusals and deliveries there are.
+    pub fn totals(&self) -> Totals
+        ensures { AreTotals self.now.end result }
+    {
+        self.tables.totals()
+    }
+}
+
+/// The row, where the journal has room for its record.
+#[tactic(auto, unfolding(exchange_model::specs::Table::has_room))]
+fn limited(alloc: Global, tables: &EndTables, row: Outcome) -> Outcome
+    requires { CanStand tables.now.end row.effects }
+    ensures limited { IsLimited tables.now.end row result }
+    ensures stands { CanStand tables.now.end result.effects }
+    ensures room { has_room tables.now.end result.effects ≡ true }
+{
+    match lacking(tables, &row.effects) {
+        None => row,
+        Some(need) => {
+            drop(row);
+            let size = tables.size();
+            rests(alloc, Reply::Full { size, need })
+        }
+    }
+}
+
+/// How many bytes the record of the effects has, if the journal has no room for it.
+#[tactic(auto, unfolding(exchange_model::specs::Table::has_room))]
+fn lacking(tables: &EndTables, effects: &Seq<Effect>) -> Option<u64>
+    requires { length effects.now ≤ 256 }
+    ensures none { result ≡ None → has_room tables.now.end effects.now ≡ true }
+    ensures some { IfSome result (λ need. (need ≡ record_len effects.now) × (has_room tables.now.end effects.now ≡ false)) }
+{
+    if effects.items().is_empty() {
+        return None;
+    }
+    let need = record_len(effects);
+    if tables.size() + need <= MAX_JOURNAL {
+        return None;
+    }
+    Some(need)
+}
+
+/// How many bytes the record of the effects takes; where there are none there is no record.
+#[tactic(auto, unfolding(exchange_model::specs::Apply::record_len))]
+pub(crate) fn record_len(effects: &Seq<Effect>) -> u64
+    requires { length effects.now ≤ effects_limit }
+    ensures none { effects.now ≡ [] → result ≡ 0 }
+    ensures some { effects.now ≢ [] → result ≡ record_len effects.now }
+    ensures few { result ≤ 549755813895 }
+{
+    if effects.items().is_empty() {
+        return 0;
+    }
+    body_len(effects) + 5
+}

@@ -1,0 +1,92 @@
+//! The effects of a record are made again.
+ghost use Rattle.std.specs.Prelude.{◌≡◌, ◌+◌, ◌≤◌, ℕ, Err, IfOk, None, Some, IsTrue, OnOk, length};
+ghost use Rattle.as4_effects.specs.Effects.{effects_limit};
+ghost use Rattle.end_tables.specs.Rooms.{HasRoom, queue_for};
+ghost use Rattle.exchange_model.specs.Apply.{after, after_all, applied, first_unfit, is_fit, record_len};
+ghost use Rattle.msh_core.specs.declared.replaying.ReplayRefusal.TheVariants.{NoMemory as NoMemoryLeft};
+
+use crate::machine::{Core, record_len};
+use as4_effects::{Effect, Queue};
+use as4_values::{NoMemory, Seq};
+use end_tables::EndTables;
+
+/// Why a record isn't made again. The core is then to be let go.
+#[derive(Clone, Copy, Debug, PartialEq, Eq)]
+pub enum ReplayRefusal {
+    /// The effect at this place, from 0, can't stand where those before it have led.
+    Unfit { index: usize },
+    NoMemory,
+}
+
+impl From<NoMemory> for ReplayRefusal {
+    ghost from_gives = { λ _ e. e ≡ NoMemoryLeft };
+
+    fn from(_error: NoMemory) -> ReplayRefusal {
+        ReplayRefusal::NoMemory
+    }
+}
+
+impl Core {
+    /// Makes the effects of one record again.
+    pub fn replay(&mut self, effects: Seq<Effect>) -> Result<(), ReplayRefusal>
+        requires some { 1 ≤ length effects }
+        requires counted { length effects ≤ effects_limit }
+        requires limited { self.old.end.size + record_len effects ≤ 1073741824 }
+        ensures ok { OnOk result (self.new.end ≡ applied effects self.old.end) }
+        ensures fit { OnOk result (first_unfit effects self.old.end ≡ None) }
+        ensures unfit { (index : ℕ) → result ≡ Err (ReplayRefusal.Unfit index) → first_unfit effects self.old.end ≡ Some index }
+        ensures modes { self.new.modes ≡ self.old.modes }
+    {
+        let len = record_len(&effects);
+        replay_all(&mut self.tables, effects)?;
+        self.tables.grow(len);
+        Ok(())
+    }
+}
+
+/// Makes effects one after another.
+fn replay_all(tables: &mut EndTables, effects: Seq<Effect>) -> Result<(), ReplayRefusal>
+    requires { length effects ≤ effects_limit }
+    ensures ok { OnOk result (tables.new.end ≡ after_all effects tables.old.end) }
+    ensures fit { OnOk result (first_unfit effects tables.old.end ≡ None) }
+    ensures unfit { (index : ℕ) → result ≡ Err (ReplayRefusal.Unfit index) → first_unfit effects tables.old.end ≡ Some index }
+{
+    let mut index = 0;
+    for effect in effects.into_vec() {
+        if !tables.fits(&effect) {
+            drop(effect);
+            return Err(ReplayRefusal::Unfit { index });
+        }
+        replay_one(tables, effect)?;
+        index += 1;
+    }
+    Ok(())
+}
+
+/// Makes an effect that fits.
+fn replay_one(tables: &mut EndTables, effect: Effect) -> Result<(), NoMemory>
+    requires { IsTrue (is_fit effect tables.old.end) }
+    ensures { OnOk result (tables.new.end ≡ after effect tables.old.end) }
+{
+    match room_for_one(tables, &effect) {
+        Ok(queue) => {
+            tables.apply(effect, &queue);
+            Ok(())
+        }
+        Err(error) => {
+            drop(effect);
+            Err(error)
+        }
+    }
+}
+
+/// Makes room for an effect that fits, and finds its queue.
+fn room_for_one(tables: &mut EndTables, effect: &Effect) -> Result<Queue, NoMemory>
+    requires { IsTrue (is_fit effect.now tables.old.end) }
+    ensures room { IfOk result (λ _. HasRoom tables.new.rooms tables.new.end.sent effect.now) }
+    ensures queue { IfOk result (λ queue. queue ≡ queue_for tables.new.end.sent effect.now) }
+    ensures end { tables.new.end ≡ tables.old.end }
+{
+    tables.reserve(effect)?;
+    tables.queue_for(effect)
+}

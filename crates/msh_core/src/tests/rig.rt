@@ -1,0 +1,338 @@
+//! An end with four modes, of which tests ask short questions.
+ghost use Rattle.std.specs.Prelude.{◌≤◌, IfOk, IsSome, IsTrue};
+ghost use Rattle.exchange_model.specs.Coming.{may_come};
+ghost use Rattle.exchange_model.specs.ErrorCodes.{error_row};
+ghost use Rattle.msh_core.specs.Machine.{IsReady};
+
+use crate::{Core, Event, Plan, Reply, What};
+use as4_codes::error_signal;
+use as4_effects::{delivery_fits, pairs};
+use as4_values::{
+    ErrorItem, Load, Message, MessageId, NoMemory, Octets, Payload, PlainData, Seq, Signal,
+    SignalBody, Text, UserHeader,
+};
+use machine_rows::{pull_request, receipt};
+use pmodes::Modes;
+use std::alloc::Global;
+
+/// What an end said, without its texts.
+#[derive(Clone, Copy, Debug, PartialEq, Eq)]
+pub enum Said {
+    Submitted(u64),
+    Ticked(u64),
+    Push,
+    Nothing,
+    /// A pull request goes out.
+    Request,
+    /// A user message, whose identifier begins with this digit.
+    User(u8),
+    Receipt,
+    /// An error signal with this code.
+    Error(u16),
+    Quiet,
+    /// So many bytes in the first payload.
+    Entry(usize),
+    NoEntry,
+    Pending(u32),
+    Receipted,
+    Failed,
+    Refused,
+    Other,
+}
+
+const MODES: &[u8] = b"[[mode]]
+name = \"invoice\"
+from = { role = \"seller\", party = [ { id = \"acme\" } ] }
+to = { role = \"buyer\", party = [ { id = \"bolt\" } ] }
+service = \"orders\"
+action = \"invoice\"
+push = \"http://127.0.0.1:9080/as4\"
+retries = 10
+period = 3000
+
+[[mode]]
+name = \"often\"
+from = { role = \"seller\", party = [ { id = \"acme\" } ] }
+to = { role = \"buyer\", party = [ { id = \"bolt\" } ] }
+service = \"orders\"
+action = \"often\"
+push = \"http://127.0.0.1:9080/as4\"
+retries = 1000
+period = 1
+
+[[mode]]
+name = \"once\"
+from = { role = \"seller\", party = [ { id = \"acme\" } ] }
+to = { role = \"buyer\", party = [ { id = \"bolt\" } ] }
+service = \"orders\"
+action = \"once\"
+push = \"http://127.0.0.1:9080/as4\"
+retries = 0
+period = 1000
+
+[[mode]]
+name = \"pulled\"
+from = { role = \"seller\", party = [ { id = \"acme\" } ] }
+to = { role = \"buyer\", party = [ { id = \"bolt\" } ] }
+service = \"orders\"
+action = \"pulled\"
+pull = \"drill-m\"
+address = \"http://127.0.0.1:9080/as4\"
+retries = 3
+period = 1000
+";
+
+/// An end, and how many events it has met.
+#[derive(Drop)]
+pub struct Rig {
+    pub core: Core,
+    alloc: Global,
+    nonce: u128,
+    /// The message that it pushed last.
+    pushed: Option<Message>,
+}
+
+impl Rig {
+    pub fn new(alloc: Global) -> Option<Rig> {
+        let modes = Modes::read(alloc, MODES).ok()?;
+        Some(Rig {
+            core: Core::new(alloc, modes),
+            alloc,
+            nonce: 0,
+            pushed: None,
+        })
+    }
+
+    /// What it says to an event.
+    pub fn says(&mut self, what: What) -> Option<Said>
+        requires { IsTrue (may_come what) }
+    {
+        let stamp = self.core.moment();
+        self.says_at(stamp.min(1_000_000), what)
+    }
+
+    fn says_at(&mut self, stamp: u64, what: What) -> Option<Said>
+        requires coming { IsTrue (may_come what) }
+        requires dated { stamp ≤ 1000000 }
+    {
+        let event = Event {
+            stamp,
+            nonce: self.nonce,
+            what,
+        };
+        self.nonce = self.nonce.wrapping_add(1);
+        let prepared = self.core.prepare(&event);
+        drop(event);
+        self.hands_out_if(prepared)
+    }
+
+    fn hands_out_if(&mut self, prepared: Result<Plan, NoMemory>) -> Option<Said>
+        requires { IfOk prepared (IsReady self.old.core) }
+    {
+        match prepared {
+            Ok(plan) => Some(self.hands_out(plan)),
+            Err(_) => {
+                drop(prepared);
+                None
+            }
+        }
+    }
+
+    fn hands_out(&mut self, plan: Plan) -> Said
+        requires { IsReady self.old.core plan }
+    {
+        let reply = self.core.commit(plan);
+        let said = summary(&reply);
+        self.keep(reply);
+        said
+    }
+
+    /// Keeps the message that is pushed.
+    fn keep(&mut self, reply: Reply) {
+        match reply {
+            Reply::Push { address, message } => {
+                drop(address);
+                drop(self.pushed.replace(message));
+            }
+            other => drop(other),
+        }
+    }
+
+    pub fn ticks(&mut self, moment: u64) -> Option<Said> {
+        if moment > 1_000_000 {
+            return None;
+        }
+        self.says_at(moment, What::Tick)
+    }
+
+    pub fn takes(&mut self) -> Option<Said> {
+        self.says(What::Take)
+    }
+
+    pub fn asks(&mut self, mode: &str) -> Option<Said> {
+        let mode = Text::read(self.alloc, mode.as_bytes()).ok()?;
+        self.says(What::Ask { mode })
+    }
+
+    /// The bytes `hello` are handed in by this mode.
+    pub fn submits(&mut self, mode: &str) -> Option<Said> {
+        let alloc = self.alloc;
+        let mode = Text::read(alloc, mode.as_bytes()).ok()?;
+        let media = Octets::of(Vec::from_slice(alloc, b"text/plain").ok()?);
+        let content = Octets::of(Vec::from_slice(alloc, b"hello").ok()?);
+        let loads = Seq::of(vec![in alloc; Load { media, content }].ok()?);
+        self.says(What::Submit {
+            mode,
+            conversation: None,
+            loads,
+        })
+    }
+}
+
+impl Rig {
+    /// The header of the message that it pushed last.
+    fn header(&self) -> Option<UserHeader> {
+        match &self.pushed {
+            Some(Message::User { header, .. }) => header.try_clone(self.alloc).ok(),
+            _ => None,
+        }
+    }
+
+    /// The message that the other end pushed last comes.
+    pub fn hears(&mut self, sender: &Rig) -> Option<Said> {
+        let message = sender.pushed.as_ref()?;
+        if !may_come(self.alloc, message) {
+            return None;
+        }
+        let message = message.try_clone(self.alloc).ok()?;
+        self.says(What::Came(message))
+    }
+
+    fn hears_signal(&mut self, signal: Signal) -> Option<Said> {
+        self.says(What::Came(Message::Signal(signal)))
+    }
+
+    pub fn is_pulled(&mut self, channel: &str) -> Option<Said> {
+        let mpc = Text::read(self.alloc, channel.as_bytes()).ok()?;
+        let signal = pull_request(self.alloc, &mpc, 0, 1000).ok()?;
+        self.hears_signal(signal)
+    }
+
+    /// A receipt comes of the message that it pushed last, with a copy of its header or without.
+    pub fn is_answered(&mut self, with_copy: bool) -> Option<Said> {
+        let header = self.header()?;
+        let mut signal = receipt(self.alloc, &header, 0, 1000).ok()?;
+        if !with_copy {
+            signal.body = SignalBody::Receipt { copy: None };
+        }
+        self.hears_signal(signal)
+    }
+
+    /// A receipt comes whose copy has another action.
+    pub fn is_answered_for_another_action(&mut self) -> Option<Said> {
+        let mut header = self.header()?;
+        header.action = Text::read(self.alloc, b"order").ok()?;
+        let signal = receipt(self.alloc, &header, 0, 1000).ok()?;
+        self.hears_signal(signal)
+    }
+
+    /// A receipt comes of a message of this identifier.
+    pub fn is_answered_for(&mut self, id: &str) -> Option<Said> {
+        let mut header = self.header()?;
+        header.id = MessageId::read(self.alloc, id.as_bytes()).ok()?;
+        let signal = receipt(self.alloc, &header, 0, 1000).ok()?;
+        self.hears_signal(signal)
+    }
+
+    /// An error with this code comes, about the message that it pushed last.
+    pub fn is_refused(&mut self, code: u16) -> Option<Said>
+        requires { IsSome (error_row code) }
+    {
+        let header = self.header()?;
+        let signal = error_signal(self.alloc, code, Some(&header.id), 0, 1000).ok()?;
+        self.hears_signal(signal)
+    }
+
+    /// How the message that it pushed last stands.
+    pub fn status(&mut self) -> Option<Said> {
+        let header = self.header()?;
+        self.says(What::Status { id: header.id })
+    }
+}
+
+/// Whether an end takes the message as an event.
+fn may_come(alloc: Global, message: &Message) -> bool
+    ensures { IsTrue result → IsTrue (may_come (What.Came message.now)) }
+{
+    match message {
+        Message::User { header, payloads } => {
+            let paired = pairs(alloc, header.parts.items(), payloads.items());
+            matches!(paired, Ok(true)) && delivery_fits(header, payloads)
+        }
+        Message::Signal(_) => true,
+    }
+}
+
+/// What a reply says, without its texts.
+fn summary(reply: &Reply) -> Said {
+    match reply {
+        Reply::Submitted { number, .. } => Said::Submitted(*number),
+        Reply::Ticked { failed } => Said::Ticked(*failed),
+        Reply::Push { .. } => Said::Push,
+        Reply::Nothing => Said::Nothing,
+        Reply::Request { .. } => Said::Request,
+        Reply::Answer(Message::User { header, .. }) => Said::User(first_digit(header.id.bytes())),
+        Reply::Answer(Message::Signal(signal)) => summary_of(&signal.body),
+        Reply::Quiet => Said::Quiet,
+        Reply::Entry { payloads, .. } => Said::Entry(first_len(payloads.items())),
+        Reply::NoEntry => Said::NoEntry,
+        Reply::Pending { tries } => Said::Pending(*tries),
+        Reply::Receipted => Said::Receipted,
+        Reply::Failed => Said::Failed,
+        Reply::RefusedWith { .. } => Said::Refused,
+        _ => Said::Other,
+    }
+}
+
+fn first_digit(id: &[u8]) -> u8 {
+    match id.first() {
+        Some(digit @ b'0'..=b'9') => *digit - b'0',
+        _ => 255,
+    }
+}
+
+fn first_len(payloads: &[Payload]) -> usize {
+    payloads
+        .first()
+        .map_or(0, |payload| payload.content.bytes().len())
+}
+
+fn summary_of(body: &SignalBody) -> Said {
+    match body {
+        SignalBody::Receipt { .. } => Said::Receipt,
+        SignalBody::Errors { items } => Said::Error(first_code(items.items())),
+        SignalBody::Pull { .. } => Said::Other,
+    }
+}
+
+fn first_code(items: &[ErrorItem]) -> u16 {
+    let Some(item) = items.first() else {
+        return 0;
+    };
+    for code in [1, 3, 6, 10, 302] {
+        if item.code.bytes() == code_bytes(code) {
+            return code;
+        }
+    }
+    0
+}
+
+fn code_bytes(code: u16) -> &'static [u8] {
+    match code {
+        1 => b"EBMS:0001",
+        3 => b"EBMS:0003",
+        6 => b"EBMS:0006",
+        10 => b"EBMS:0010",
+        _ => b"EBMS:0302",
+    }
+}

@@ -1,0 +1,189 @@
+-- Refusals of pending submissions, of numbers that differ, fit one after another.
+use Rattle.std.proofs.Common.{◌≡◌, ℕ, ◌≤◌, List, [], ◌∷◌, Bool, true, false, cond, eqb, Option, Some, None, option_map, length, map, refl, ap, sym, ◌∙◌, arith, inl, inr, suc}
+use Rattle.std.specs.Prelude.{not}
+use Rattle.std.specs.List.{AllByRecursion, cons_option, filter, filter_map}
+use Rattle.std.specs.Option.{IfSome, option_and_then, option_or}
+use Rattle.std.proofs.lemmas.Bool.{cases_Bool, ne_eqb}
+use Rattle.std.proofs.lemmas.List.{length-map}
+use Rattle.as4_effects.specs.declared.effect.Effect.{Effect}
+use Rattle.as4_effects.specs.declared.effect.Effect.TheVariants.{Refused}
+use Rattle.as4_values.specs.declared.signal_body.ErrorItem.{ErrorItem}
+use Rattle.as4_values.specs.declared.signal_body.Severity.{Severity}
+use Rattle.as4_values.specs.declared.signal_body.Severity.TheVariants.{Failure, Warning}
+use Rattle.end_tables.proofs.NumberLemmas.{IsOf, StandAtNumbers, itself, numbered, sent_of_list}
+use Rattle.end_tables.specs.Numbered.{AreNumberedFrom}
+use Rattle.end_tables.specs.Rooms.{TakesNoRoom}
+use Rattle.end_tables.specs.Standing.{CanStand, TakeOneRoom}
+use Rattle.exchange_model.specs.Apply.{after, changed, first_unfit, is_fit, is_one, marked}
+use Rattle.exchange_model.specs.End.{End}
+use Rattle.exchange_model.specs.Questions.{is_pending, sent_at, sent_of}
+use Rattle.exchange_model.specs.Refusing.{Refusal, once, refusal_by, refusal_of, refusal_with, refusals_of}
+use Rattle.exchange_model.specs.declared.sent.Mark.{Mark}
+use Rattle.exchange_model.specs.declared.sent.Mark.TheVariants as mark
+use Rattle.exchange_model.specs.declared.sent.Sent.{Sent}
+
+abbrev pub effect_of : Refusal → Effect
+effect_of refusal = Refused refusal.number refusal.code
+
+abbrev pub is_other : ℕ → Refusal → Bool
+is_other number refusal = not (eqb refusal.number number)
+
+-- each names a pending submission
+abbrev pub ArePending : List Sent → List Refusal → Type 0
+ArePending sent [] = Unit {0}
+ArePending sent (r ∷ refusals) = (is_one is_pending (sent_at r.number sent) ≡ true) × ArePending sent refusals
+
+-- none has this number
+abbrev pub AreOthers : ℕ → List Refusal → Type 0
+AreOthers number [] = Unit {0}
+AreOthers number (r ∷ refusals) = (eqb r.number number ≡ false) × AreOthers number refusals
+
+-- no two have one number
+abbrev pub Differ : List Refusal → Type 0
+Differ [] = Unit {0}
+Differ (r ∷ refusals) = AreOthers r.number refusals × Differ refusals
+
+differs : (n m k : ℕ) → eqb m n ≡ false → eqb k n ≡ true → eqb k m ≡ false
+differs n m k d e = ne_eqb k m (λ same. let f : true ≡ false = sym e ∙ ap (λ x. eqb x n) same ∙ d in cc)
+
+-- a submission of another number stays as it is
+other_at : (n m : ℕ) (to : Mark) (sent : List Sent) → eqb m n ≡ false → sent_at m (changed n (marked to) sent) ≡ sent_at m sent
+unfolding changed
+other_at n m to [] d = refl
+other_at n m to (s ∷ sent) d =
+    elim (cases_Bool (eqb s.submission.number n)) [
+      | inl e ↦ rw (e, differs n m s.submission.number d e) (other_at n m to sent d)
+      | inr e ↦ rw e (ap (λ (o : Option Sent). cond (eqb s.submission.number m) (Some s) o) (other_at n m to sent d))
+    ]
+
+-- those of other numbers stay pending
+still_pending : (n : ℕ) (to : Mark) (sent : List Sent) (refusals : List Refusal) → AreOthers n refusals → ArePending sent refusals
+    → ArePending (changed n (marked to) sent) refusals
+still_pending n to sent [] others pending = tt
+still_pending n to sent (r ∷ refusals) others pending =
+    (ap (is_one is_pending) (other_at n r.number to sent others.0) ∙ pending.0, still_pending n to sent refusals others.1 pending.1)
+
+pub fits_all : (refusals : List Refusal) (end : End) → Differ refusals → ArePending end.sent refusals → first_unfit (map effect_of refusals) end ≡ None
+unfolding is_fit after
+fits_all [] end differ pending = refl
+fits_all (r ∷ refusals) end differ pending =
+    rw pending.0 (ap (option_map suc)
+    (fits_all refusals (after (effect_of r) end) differ.1
+    (still_pending r.number (mark.Refused r.code) end.sent refusals differ.0 pending.1)))
+
+-- what is left of them
+pending_left : (p : Refusal → Bool) (sent : List Sent) (refusals : List Refusal) → ArePending sent refusals → ArePending sent (filter p refusals)
+pending_left p sent [] pending = tt
+pending_left p sent (r ∷ refusals) pending =
+    elim (p r) as (λ b. ArePending sent (cond b (r ∷ filter p refusals) (filter p refusals)))
+    [ true ↦ (pending.0, pending_left p sent refusals pending.1) | false ↦ pending_left p sent refusals pending.1 ]
+
+others_left : (p : Refusal → Bool) (n : ℕ) (refusals : List Refusal) → AreOthers n refusals → AreOthers n (filter p refusals)
+others_left p n [] others = tt
+others_left p n (r ∷ refusals) others =
+    elim (p r) as (λ b. AreOthers n (cond b (r ∷ filter p refusals) (filter p refusals)))
+    [ true ↦ (others.0, others_left p n refusals others.1) | false ↦ others_left p n refusals others.1 ]
+
+differ_left : (p : Refusal → Bool) (refusals : List Refusal) → Differ refusals → Differ (filter p refusals)
+differ_left p [] differ = tt
+differ_left p (r ∷ refusals) differ =
+    elim (p r) as (λ b. Differ (cond b (r ∷ filter p refusals) (filter p refusals)))
+    [ true ↦ (others_left p r.number refusals differ.0, differ_left p refusals differ.1) | false ↦ differ_left p refusals differ.1 ]
+
+few_left : (p : Refusal → Bool) (refusals : List Refusal) → length (filter p refusals) ≤ length refusals
+few_left p [] = omega arith
+few_left p (r ∷ refusals) =
+    elim (p r) as (λ b. length (cond b (r ∷ filter p refusals) (filter p refusals)) ≤ suc (length refusals))
+    [ true ↦ omega (arith, few_left p refusals) | false ↦ omega (arith, few_left p refusals) ]
+
+-- those that are left are of other numbers
+others_of : (n : ℕ) (refusals : List Refusal) → AreOthers n (filter (is_other n) refusals)
+others_of n [] = tt
+others_of n (r ∷ refusals) =
+    elim (cases_Bool (eqb r.number n)) [
+      | inl e ↦ rw e (others_of n refusals)
+      | inr e ↦ rw e (e, others_of n refusals)
+    ]
+
+once_pending : (sent : List Sent) (refusals : List Refusal) → ArePending sent refusals → ArePending sent (once refusals)
+unfolding once
+once_pending sent [] pending = tt
+once_pending sent (r ∷ refusals) pending =
+    (pending.0, pending_left (is_other r.number) sent (once refusals) (once_pending sent refusals pending.1))
+
+once_differ : (refusals : List Refusal) → Differ (once refusals)
+unfolding once
+once_differ [] = tt
+once_differ (r ∷ refusals) =
+    (others_of r.number (once refusals), differ_left (is_other r.number) (once refusals) (once_differ refusals))
+
+few_once : (refusals : List Refusal) → length (once refusals) ≤ length refusals
+unfolding once
+few_once [] = omega arith
+few_once (r ∷ refusals) = omega (arith, few_left (is_other r.number) (once refusals), few_once refusals)
+
+-- a refusal by number names a submission that is found by it, and pending
+pending_with : (code : List ℕ) (sent : List Sent) (s : Sent) → sent_at s.submission.number sent ≡ Some s
+    → IfSome (refusal_with code s) (λ r. is_one is_pending (sent_at r.number sent) ≡ true)
+pending_with code sent s found =
+    elim (cases_Bool (is_pending s)) [
+      | inl e ↦ rw e (ap (is_one is_pending) found ∙ e)
+      | inr e ↦ rw e tt
+    ]
+
+pending_found : (code : List ℕ) (sent : List Sent) (o : Option Sent) → AreNumberedFrom 0 sent → IfSome o (IsOf sent)
+    → IfSome (option_and_then (refusal_with code) o) (λ r. is_one is_pending (sent_at r.number sent) ≡ true)
+pending_found code sent None h i = tt
+pending_found code sent (Some s) h i = pending_with code sent s (itself 0 sent s h i)
+
+pending_by : (severity : Severity) (code : List ℕ) (about : Option (List ℕ)) (sent : List Sent) → AreNumberedFrom 0 sent
+    → IfSome (refusal_by severity code about sent) (λ r. is_one is_pending (sent_at r.number sent) ≡ true)
+pending_by Warning code about sent h = tt
+pending_by Failure code None sent h = tt
+pending_by Failure code (Some id) sent h = pending_found code sent (sent_of id sent) h (sent_of_list id sent)
+
+consed : (sent : List Sent) (o : Option Refusal) (refusals : List Refusal) → IfSome o (λ r. is_one is_pending (sent_at r.number sent) ≡ true)
+    → ArePending sent refusals → ArePending sent (cons_option o refusals)
+consed sent None refusals one pending = pending
+consed sent (Some r) refusals one pending = (one, pending)
+
+all_pending : (ref_to : Option (List ℕ)) (sent : List Sent) (items : List ErrorItem) → AreNumberedFrom 0 sent
+    → ArePending sent (filter_map (refusal_of ref_to sent) items)
+all_pending ref_to sent [] h = tt
+all_pending ref_to sent (item ∷ items) h =
+    consed sent (refusal_of ref_to sent item) (filter_map (refusal_of ref_to sent) items)
+    (pending_by item.severity item.code (option_or item.about ref_to) sent h) (all_pending ref_to sent items h)
+
+few_consed : (o : Option Refusal) (refusals : List Refusal) → length (cons_option o refusals) ≤ suc (length refusals)
+few_consed None refusals = omega arith
+few_consed (Some r) refusals = omega arith
+
+few_refusals : (ref_to : Option (List ℕ)) (sent : List Sent) (items : List ErrorItem) → length (filter_map (refusal_of ref_to sent) items) ≤ length items
+few_refusals ref_to sent [] = omega arith
+few_refusals ref_to sent (item ∷ items) =
+    omega (arith, few_consed (refusal_of ref_to sent item) (filter_map (refusal_of ref_to sent) items), few_refusals ref_to sent items)
+
+no_room : (refusals : List Refusal) → AllByRecursion TakesNoRoom (map effect_of refusals)
+unfolding TakesNoRoom
+no_room [] = tt
+no_room (r ∷ refusals) = (tt, no_room refusals)
+
+one_room : (refusals : List Refusal) → TakeOneRoom (map effect_of refusals)
+one_room [] = tt
+one_room (r ∷ []) = tt
+one_room (r ∷ q ∷ refusals) = no_room (r ∷ q ∷ refusals)
+
+-- what an error signal changes can stand
+pub all_stand : (ref_to : Option (List ℕ)) (end : End) (items : List ErrorItem) → StandAtNumbers end.sent → length items ≤ 256
+    → CanStand end (refusals_of ref_to end.sent items)
+unfolding refusals_of
+all_stand ref_to end items stand few =
+    let refusals : List Refusal = filter_map (refusal_of ref_to end.sent) items in
+    let short : length refusals ≤ length items = few_refusals ref_to end.sent items in
+    let shorter : length (once refusals) ≤ length refusals = few_once refusals in
+    record {
+      fit = fits_all (once refusals) end (once_differ refusals)
+          (once_pending end.sent refusals (all_pending ref_to end.sent items (numbered end.sent stand)));
+      few = omega (arith, length-map (once refusals) effect_of);
+      one_room = one_room (once refusals);
+    }
