@@ -1,22 +1,24 @@
 mod rig;
 
 use crate::What;
-use rig::{Rig, Said};
+use rig::{Rig, Said, two_ends};
 use std::test::Fail;
 
 /// A message that comes again is answered again, and delivered once.
 #[test]
+#[tactic(auto, unfolding(exchange_model::specs::Coming::may_come))]
 fn a_repeat_is_delivered_once(rt: HostRuntime) -> Result<(), Fail> {
-    let mut sender = Rig::new(rt.alloc()).ok_or("no sender")?;
-    let mut receiver = Rig::new(rt.alloc()).ok_or("no receiver")?;
-    sender.submits("invoice").ok_or("not submitted")?;
-    sender.takes().ok_or("not pushed")?;
+    let (mut sender, mut receiver) = two_ends(rt.alloc()).ok_or("no ends")?;
+    assert_eq!(rt; sender.submits("invoice"), Some(Said::Submitted(0)));
+    assert_eq!(rt; sender.takes(), Some(Said::Push));
     for time in 0..2 {
         assert_eq!(rt; receiver.hears(&sender), Some(Said::Receipt), "{time}");
     }
     assert_eq!(rt; receiver.core.totals().inbox, 1);
     assert_eq!(rt; receiver.says(What::Read { n: 0 }), Some(Said::Entry(5)));
     assert_eq!(rt; receiver.says(What::Read { n: 1 }), Some(Said::NoEntry));
+    drop(sender);
+    drop(receiver);
     Ok(())
 }
 
@@ -27,6 +29,7 @@ fn a_channel_that_is_not_known(rt: HostRuntime) -> Result<(), Fail> {
     assert_eq!(rt; end.is_pulled("x"), Some(Said::Error(1)));
     assert_eq!(rt; end.is_pulled("drill-m"), Some(Said::Error(6)));
     assert_eq!(rt; end.core.size(), 9);
+    drop(end);
     Ok(())
 }
 
@@ -45,16 +48,16 @@ fn pulls_take_turns(rt: HostRuntime) -> Result<(), Fail> {
     assert_eq!(rt; end.ticks(1000), Some(Said::Ticked(0)));
     assert_eq!(rt; end.is_pulled("drill-m"), Some(Said::User(0)));
     assert_eq!(rt; end.core.totals().receipted, 0);
+    drop(end);
     Ok(())
 }
 
 /// What gets no receipt in time is given up, and a late receipt changes nothing.
 #[test]
 fn a_lost_receipt(rt: HostRuntime) -> Result<(), Fail> {
-    let mut sender = Rig::new(rt.alloc()).ok_or("no sender")?;
-    let mut receiver = Rig::new(rt.alloc()).ok_or("no receiver")?;
-    sender.submits("once").ok_or("not submitted")?;
-    sender.takes().ok_or("not pushed")?;
+    let (mut sender, mut receiver) = two_ends(rt.alloc()).ok_or("no ends")?;
+    assert_eq!(rt; sender.submits("once"), Some(Said::Submitted(0)));
+    assert_eq!(rt; sender.takes(), Some(Said::Push));
     assert_eq!(rt; receiver.hears(&sender), Some(Said::Receipt));
     assert_eq!(rt; sender.ticks(999), Some(Said::Ticked(0)));
     assert_eq!(rt; sender.status(), Some(Said::Pending(1)));
@@ -62,6 +65,8 @@ fn a_lost_receipt(rt: HostRuntime) -> Result<(), Fail> {
     assert_eq!(rt; sender.status(), Some(Said::Failed));
     assert_eq!(rt; sender.is_answered(true), Some(Said::Quiet));
     assert_eq!(rt; sender.status(), Some(Said::Failed));
+    drop(sender);
+    drop(receiver);
     Ok(())
 }
 
@@ -69,7 +74,7 @@ fn a_lost_receipt(rt: HostRuntime) -> Result<(), Fail> {
 #[test]
 fn all_tries_are_spent(rt: HostRuntime) -> Result<(), Fail> {
     let mut end = Rig::new(rt.alloc()).ok_or("no end")?;
-    end.submits("often").ok_or("not submitted")?;
+    assert_eq!(rt; end.submits("often"), Some(Said::Submitted(0)));
     for moment in 0..=1000 {
         assert_eq!(rt; end.ticks(moment), Some(Said::Ticked(0)), "{moment}");
         assert_eq!(rt; end.takes(), Some(Said::Push), "{moment}");
@@ -79,6 +84,7 @@ fn all_tries_are_spent(rt: HostRuntime) -> Result<(), Fail> {
     assert_eq!(rt; end.is_answered(true), Some(Said::Quiet));
     assert_eq!(rt; end.status(), Some(Said::Receipted));
     assert_eq!(rt; end.ticks(1001), Some(Said::Ticked(0)));
+    drop(end);
     Ok(())
 }
 
@@ -86,8 +92,8 @@ fn all_tries_are_spent(rt: HostRuntime) -> Result<(), Fail> {
 #[test]
 fn receipts_that_come(rt: HostRuntime) -> Result<(), Fail> {
     let mut end = Rig::new(rt.alloc()).ok_or("no end")?;
-    end.submits("invoice").ok_or("not submitted")?;
-    end.takes().ok_or("not pushed")?;
+    assert_eq!(rt; end.submits("invoice"), Some(Said::Submitted(0)));
+    assert_eq!(rt; end.takes(), Some(Said::Push));
     assert_eq!(rt;
         end.is_answered_for_another_action(),
         Some(Said::Error(302))
@@ -97,6 +103,7 @@ fn receipts_that_come(rt: HostRuntime) -> Result<(), Fail> {
     assert_eq!(rt; end.status(), Some(Said::Pending(1)));
     assert_eq!(rt; end.is_answered(false), Some(Said::Quiet));
     assert_eq!(rt; end.status(), Some(Said::Receipted));
+    drop(end);
     Ok(())
 }
 
@@ -105,11 +112,12 @@ fn receipts_that_come(rt: HostRuntime) -> Result<(), Fail> {
 #[tactic(auto, unfolding(exchange_model::specs::ErrorCodes::error_row, exchange_model::specs::ErrorCodes::error_table))]
 fn errors_that_come(rt: HostRuntime) -> Result<(), Fail> {
     let mut end = Rig::new(rt.alloc()).ok_or("no end")?;
-    end.submits("invoice").ok_or("not submitted")?;
-    end.takes().ok_or("not pushed")?;
+    assert_eq!(rt; end.submits("invoice"), Some(Said::Submitted(0)));
+    assert_eq!(rt; end.takes(), Some(Said::Push));
     assert_eq!(rt; end.is_refused(6), Some(Said::Quiet));
     assert_eq!(rt; end.status(), Some(Said::Pending(1)));
     assert_eq!(rt; end.is_refused(301), Some(Said::Quiet));
     assert_eq!(rt; end.status(), Some(Said::Refused));
+    drop(end);
     Ok(())
 }

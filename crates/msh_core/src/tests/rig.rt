@@ -9,7 +9,7 @@ use as4_codes::error_signal;
 use as4_effects::{delivery_fits, pairs};
 use as4_values::{
     ErrorItem, Load, Message, MessageId, NoMemory, Octets, Payload, PlainData, Seq, Signal,
-    SignalBody, Text, UserHeader,
+    SignalBody, Text, UserHeader, stamp_text,
 };
 use machine_rows::{pull_request, receipt};
 use pmodes::Modes;
@@ -92,6 +92,18 @@ pub struct Rig {
     pushed: Option<Message>,
 }
 
+/// Two of them.
+pub fn two_ends(alloc: Global) -> Option<(Rig, Rig)> {
+    match (Rig::new(alloc), Rig::new(alloc)) {
+        (Some(one), Some(other)) => Some((one, other)),
+        (one, other) => {
+            drop(one);
+            drop(other);
+            None
+        }
+    }
+}
+
 impl Rig {
     pub fn new(alloc: Global) -> Option<Rig> {
         let modes = Modes::read(alloc, MODES).ok()?;
@@ -158,6 +170,7 @@ impl Rig {
         }
     }
 
+    #[tactic(auto, unfolding(exchange_model::specs::Coming::may_come))]
     pub fn ticks(&mut self, moment: u64) -> Option<Said> {
         if moment > 1_000_000 {
             return None;
@@ -165,16 +178,19 @@ impl Rig {
         self.says_at(moment, What::Tick)
     }
 
+    #[tactic(auto, unfolding(exchange_model::specs::Coming::may_come))]
     pub fn takes(&mut self) -> Option<Said> {
         self.says(What::Take)
     }
 
+    #[tactic(auto, unfolding(exchange_model::specs::Coming::may_come))]
     pub fn asks(&mut self, mode: &str) -> Option<Said> {
         let mode = Text::read(self.alloc, mode.as_bytes()).ok()?;
         self.says(What::Ask { mode })
     }
 
     /// The bytes `hello` are handed in by this mode.
+    #[tactic(auto, unfolding(exchange_model::specs::Coming::may_come))]
     pub fn submits(&mut self, mode: &str) -> Option<Said> {
         let alloc = self.alloc;
         let mode = Text::read(alloc, mode.as_bytes()).ok()?;
@@ -191,9 +207,9 @@ impl Rig {
 
 impl Rig {
     /// The header of the message that it pushed last.
-    fn header(&self) -> Option<UserHeader> {
+    fn header(&self) -> Option<&UserHeader> {
         match &self.pushed {
-            Some(Message::User { header, .. }) => header.try_clone(self.alloc).ok(),
+            Some(Message::User { header, .. }) => Some(header),
             _ => None,
         }
     }
@@ -208,6 +224,7 @@ impl Rig {
         self.says(What::Came(message))
     }
 
+    #[tactic(auto, unfolding(exchange_model::specs::Coming::may_come))]
     fn hears_signal(&mut self, signal: Signal) -> Option<Said> {
         self.says(What::Came(Message::Signal(signal)))
     }
@@ -221,27 +238,29 @@ impl Rig {
     /// A receipt comes of the message that it pushed last, with a copy of its header or without.
     pub fn is_answered(&mut self, with_copy: bool) -> Option<Said> {
         let header = self.header()?;
-        let mut signal = receipt(self.alloc, &header, 0, 1000).ok()?;
-        if !with_copy {
-            signal.body = SignalBody::Receipt { copy: None };
-        }
-        self.hears_signal(signal)
+        let signal = if with_copy {
+            receipt(self.alloc, header, 0, 1000)
+        } else {
+            bare_receipt(self.alloc, &header.id)
+        };
+        self.hears_signal(signal.ok()?)
     }
 
     /// A receipt comes whose copy has another action.
     pub fn is_answered_for_another_action(&mut self) -> Option<Said> {
-        let mut header = self.header()?;
-        header.action = Text::read(self.alloc, b"order").ok()?;
-        let signal = receipt(self.alloc, &header, 0, 1000).ok()?;
-        self.hears_signal(signal)
+        let action = Text::read(self.alloc, b"order").ok()?;
+        let mut header = self.header()?.try_clone(self.alloc).ok()?;
+        header.action = action;
+        let signal = receipt(self.alloc, &header, 0, 1000);
+        drop(header);
+        self.hears_signal(signal.ok()?)
     }
 
     /// A receipt comes of a message of this identifier.
     pub fn is_answered_for(&mut self, id: &str) -> Option<Said> {
-        let mut header = self.header()?;
-        header.id = MessageId::read(self.alloc, id.as_bytes()).ok()?;
-        let signal = receipt(self.alloc, &header, 0, 1000).ok()?;
-        self.hears_signal(signal)
+        let id = MessageId::read(self.alloc, id.as_bytes()).ok()?;
+        let signal = bare_receipt(self.alloc, &id);
+        self.hears_signal(signal.ok()?)
     }
 
     /// An error with this code comes, about the message that it pushed last.
@@ -249,18 +268,33 @@ impl Rig {
         requires { IsSome (error_row code) }
     {
         let header = self.header()?;
-        let signal = error_signal(self.alloc, code, Some(&header.id), 0, 1000).ok()?;
-        self.hears_signal(signal)
+        let signal = error_signal(self.alloc, code, Some(&header.id), 0, 1000);
+        self.hears_signal(signal.ok()?)
     }
 
     /// How the message that it pushed last stands.
+    #[tactic(auto, unfolding(exchange_model::specs::Coming::may_come))]
     pub fn status(&mut self) -> Option<Said> {
-        let header = self.header()?;
-        self.says(What::Status { id: header.id })
+        let id = self.header()?.id.try_clone(self.alloc).ok()?;
+        self.says(What::Status { id })
     }
 }
 
+/// A receipt of the message of this identifier, without a copy of its header.
+fn bare_receipt(alloc: Global, id: &MessageId) -> Result<Signal, NoMemory> {
+    let stamp = stamp_text(alloc, 0)?;
+    let ref_to = Some(id.try_clone(alloc)?);
+    let id = MessageId::of_signal(alloc, 1000)?;
+    Ok(Signal {
+        stamp,
+        id,
+        ref_to,
+        body: SignalBody::Receipt { copy: None },
+    })
+}
+
 /// Whether an end takes the message as an event.
+#[tactic(auto, unfolding(exchange_model::specs::Coming::may_come, exchange_model::specs::Coming::is_deliverable))]
 fn may_come(alloc: Global, message: &Message) -> bool
     ensures { IsTrue result → IsTrue (may_come (What.Came message.now)) }
 {
