@@ -2,7 +2,7 @@
 //! `as4 --help` shows the words.
 #![tactic(auto)]
 
-use as4_flow::{ReaderSource, Sink, WriterSink, send_all};
+use as4_flow::{ReaderSource, Sink, WriterSink};
 use as4_tool::{Status, run};
 use as4_values::{Octets, Seq};
 use std::env;
@@ -41,6 +41,6 @@ fn words_of<R: Env + AllocGlobal>(rt: &R) -> Result<Seq<Octets>, Status> {
 
 // Tells what came before the run.
 fn refused<E: Sink>(errors: &mut E, status: Status) -> ExitCode {
-    let _ = send_all(errors, status.lines());
+    status.tell(errors);
     ExitCode::from(status.code())
 }

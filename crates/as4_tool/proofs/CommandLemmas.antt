@@ -6,7 +6,7 @@ use Rattle.std.specs.Str.{IsUtf8}
 use Rattle.std.specs.Str.Parse.{ParsesUnsigned, digits_value}
 use Rattle.std.specs.Fmt.{decimal}
 use Rattle.as4_tool.specs.declared.command.Command.{Command}
-use Rattle.as4_tool.specs.declared.command.Command.TheVariants.{Help, Version, Answer}
+use Rattle.as4_tool.specs.declared.command.Command.TheVariants.{Help, Version, Answer, Drill, Generate}
 use Rattle.as4_tool.specs.Command.{Spells}
 use Rattle.std.proofs.lemmas.Str.{IsUtf8-from_ascii}
 use Rattle.std.proofs.lemmas.Fmt.{IsAscii-decimal_wide, parse-decimal_wide, decimal_is_IsNumeral_wide}
@@ -53,9 +53,13 @@ pub spells_once : (words : List (List ℕ)) (one other : Command) → Spells wor
 spells_once words Help Help first second = refl
 spells_once words Help Version first second = cc
 spells_once words Help (Answer stamp nonce) first second = cc (second.0)
+spells_once words Help Drill first second = cc
+spells_once words Help (Generate seed count) first second = cc (second.0)
 spells_once words Version Help first second = cc
 spells_once words Version Version first second = refl
 spells_once words Version (Answer stamp nonce) first second = cc (second.0)
+spells_once words Version Drill first second = cc
+spells_once words Version (Generate seed count) first second = cc (second.0)
 spells_once words (Answer stamp nonce) Help first second = cc (first.0)
 spells_once words (Answer stamp nonce) Version first second = cc (first.0)
 spells_once words (Answer stamp nonce) (Answer later number) first second =
@@ -63,4 +67,21 @@ spells_once words (Answer stamp nonce) (Answer later number) first second =
     let nonces : decimal nonce ≡ decimal number = cc (first.0, second.0) in
     let same_stamp : stamp ≡ later = decimal_once stamp later (omega (arith, first.1)) (omega (arith, second.1)) stamps in
     let same_nonce : nonce ≡ number = decimal_once nonce number (short nonce first.2) (short number second.2) nonces in
+    cc
+spells_once words (Answer stamp nonce) Drill first second = cc (first.0)
+spells_once words (Answer stamp nonce) (Generate seed count) first second = cc (first.0, second.0)
+spells_once words Drill Help first second = cc
+spells_once words Drill Version first second = cc
+spells_once words Drill (Answer stamp nonce) first second = cc (second.0)
+spells_once words Drill Drill first second = refl
+spells_once words Drill (Generate seed count) first second = cc (second.0)
+spells_once words (Generate seed count) Help first second = cc (first.0)
+spells_once words (Generate seed count) Version first second = cc (first.0)
+spells_once words (Generate seed count) (Answer stamp nonce) first second = cc (first.0, second.0)
+spells_once words (Generate seed count) Drill first second = cc (first.0)
+spells_once words (Generate seed count) (Generate other many) first second =
+    let seeds : decimal seed ≡ decimal other = cc (first.0, second.0) in
+    let counts : decimal count ≡ decimal many = cc (first.0, second.0) in
+    let same_seed : seed ≡ other = decimal_once seed other (omega (arith, first.1)) (omega (arith, second.1)) seeds in
+    let same_count : count ≡ many = decimal_once count many (omega (arith, first.2)) (omega (arith, second.2)) counts in
     cc

@@ -1,2 +1,4 @@
 pub mod AnswerLemmas
 pub mod CommandLemmas
+pub mod DrillLemmas
+pub mod TellLemmas

@@ -2,7 +2,7 @@
 use Rattle.std.specs.Prelude.{◌≡◌, ℕ, ◌^◌, ◌<◌, ◌≤◌, List, [], ◌∷◌, codes, decimal}
 use Rattle.as4_values.specs.declared.moment.TheConstants.{MAX_MOMENT}
 use Rattle.as4_tool.specs.declared.command.Command.{Command}
-use Rattle.as4_tool.specs.declared.command.Command.TheVariants.{Help, Version, Answer}
+use Rattle.as4_tool.specs.declared.command.Command.TheVariants.{Help, Version, Answer, Drill, Generate}
 
 -- these words, each a list of bytes, spell the command
 abbrev pub Spells : List (List ℕ) → Command → Type 0
@@ -10,6 +10,9 @@ Spells words Help = words ≡ codes "--help" ∷ []
 Spells words Version = words ≡ codes "--version" ∷ []
 Spells words (Answer stamp nonce) =
     (words ≡ codes "answer" ∷ decimal stamp ∷ decimal nonce ∷ []) × (stamp ≤ MAX_MOMENT) × (nonce < 2 ^ 128)
+Spells words Drill = words ≡ codes "drill" ∷ []
+Spells words (Generate seed count) =
+    (words ≡ codes "drill" ∷ codes "--generate" ∷ decimal seed ∷ decimal count ∷ []) × (seed < 2 ^ 64) × (count ≤ 1000)
 
 -- these words spell some command
 abbrev pub IsCommand : List (List ℕ) → Type 0
@@ -18,3 +21,7 @@ IsCommand words = (command : Command) × Spells words command
 -- these words ask for an answer
 abbrev pub AsksAnswer : List (List ℕ) → Type 0
 AsksAnswer words = (stamp : ℕ) × (nonce : ℕ) × Spells words (Answer stamp nonce)
+
+-- these words ask for a drill of a script
+abbrev pub AsksDrill : List (List ℕ) → Type 0
+AsksDrill words = Spells words Drill

@@ -1,37 +1,41 @@
--- How a run ends: with which exit status, and what it has written then.
-use Rattle.std.specs.Prelude.{◌≡◌, ℕ, ◌≤◌, ◌⊎◌, List, [], ◌∷◌, Option, length}
+-- How a run ends: with which status, and what it has written then.
+use Rattle.std.specs.Prelude.{◌≡◌, ℕ, ◌≤◌, ◌⊎◌, List, [], ◌∷◌, Option, None, length}
 use Rattle.as4_flow.specs.Told.{Told, behind, TakesFront}
+use Rattle.drill.specs.Ends.{Streams, Ends as DrillEnds}
+use Rattle.drill.specs.Generated.{GeneratedEnds}
+use Rattle.drill.specs.declared.script.DrillEnd.{DrillEnd}
 use Rattle.as4_tool.specs.Answer.{IsAnswer}
-use Rattle.as4_tool.specs.Status.{code_of, IsOneOf}
+use Rattle.as4_tool.specs.Status.{IsOneOf, status_of}
 use Rattle.as4_tool.specs.declared.texts.TheConstants.{HELP, VERSION}
 use Rattle.as4_tool.specs.declared.running.TheConstants.{LIMIT}
 use Rattle.as4_tool.specs.declared.command.Command.{Command}
-use Rattle.as4_tool.specs.declared.command.Command.TheVariants.{Help, Version, Answer}
+use Rattle.as4_tool.specs.declared.command.Command.TheVariants.{Help, Version, Answer, Drill, Generate}
+use Rattle.as4_tool.specs.declared.status.Status.{Status}
 use Rattle.as4_tool.specs.declared.status.Status.TheVariants.{Done, ReadFault, WriteFault, NoMemory, TooLong, Unbuilt}
-use Rattle.as4_flow.specs.Faults.{Rose}
 
 -- the whole text was written behind what was taken, or a front of it and then the output failed
-abbrev pub Writes : List ℕ → ℕ → Option (List ℕ) → Option (List ℕ) → Type 0
-Writes text code taken later =
-    ((code ≡ code_of Done) × (later ≡ behind taken text))
-    ⊎ ((code ≡ code_of WriteFault) × TakesFront text taken later)
+abbrev pub Writes : List ℕ → Status → Option (List ℕ) → Option (List ℕ) → Type 0
+Writes text status taken later =
+    ((status ≡ Done) × (later ≡ behind taken text))
+    ⊎ ((status ≡ WriteFault) × TakesFront text taken later)
 
 -- the input is within the limit and was read to its end, and its answer was written
-abbrev pub Answers : ℕ → ℕ → ℕ → (file rest taken later : Option (List ℕ)) → Type 0
-Answers stamp nonce code file rest taken later =
-    (answer : List ℕ) × Told file (λ file. (length file ≤ LIMIT) × IsAnswer stamp nonce file answer) × Told rest (λ rest. rest ≡ [])
-    × Writes answer code taken later
+abbrev pub Answers : ℕ → ℕ → Status → Streams → Option (List ℕ) → Type 0
+Answers stamp nonce status streams rest =
+    (answer : List ℕ) × Told streams.left (λ file. (length file ≤ LIMIT) × IsAnswer stamp nonce file answer)
+    × Told rest (λ rest. rest ≡ []) × Writes answer status streams.taken streams.later
 
--- the ends that each command has, by what the input had, what is left of it, and what the output had taken
--- and has taken then
-abbrev pub Ends : Command → ℕ → (file rest taken later : Option (List ℕ)) → Type 0
-Ends Help code file rest taken later = Writes HELP.now code taken later
-Ends Version code file rest taken later = Writes VERSION.now code taken later
-Ends (Answer stamp nonce) code file rest taken later =
-    Answers stamp nonce code file rest taken later
-    ⊎ IsOneOf (ReadFault ∷ NoMemory ∷ TooLong ∷ Unbuilt ∷ []) code
+-- no input, and the output as it is
+abbrev pub no_input : Streams → Streams
+no_input streams = record streams { left = None; read_faults = 0; later_read_faults = 0 }
 
--- the whole text was told, or a front of it and then the errors failed
-abbrev pub Tells : List ℕ → Option (List ℕ) → Option (List ℕ) → ℕ → ℕ → Type 0
-Tells text taken later faults later_faults =
-    (later ≡ behind taken text) ⊎ (TakesFront text taken later × Rose faults later_faults)
+-- the ends that each command has, by the input and the output before and after, and what is left of the input
+abbrev pub Ends : Command → Status → Streams → Option (List ℕ) → Type 0
+Ends Help status streams rest = Writes HELP.now status streams.taken streams.later
+Ends Version status streams rest = Writes VERSION.now status streams.taken streams.later
+Ends (Answer stamp nonce) status streams rest =
+    Answers stamp nonce status streams rest
+    ⊎ IsOneOf (ReadFault ∷ NoMemory ∷ TooLong ∷ Unbuilt ∷ []) status
+Ends Drill status streams rest = (end : DrillEnd) × (status ≡ status_of end) × DrillEnds end streams
+Ends (Generate seed count) status streams rest =
+    (end : DrillEnd) × (status ≡ status_of end) × GeneratedEnds seed count end (no_input streams)

@@ -2,3 +2,4 @@ pub mod Answer
 pub mod Command
 pub mod Status
 pub mod Ends
+pub mod Telling

@@ -1,29 +1,45 @@
 -- The exit statuses of the program.
-use Rattle.std.specs.Prelude.{◌≡◌, ℕ, ◌⊎◌, List, [], ◌∷◌, codes}
+use Rattle.std.specs.Prelude.{◌≡◌, ℕ, ◌⊎◌, List, [], ◌∷◌, ◌++◌, codes}
+use Rattle.std.specs.Fmt.{decimal}
+use Rattle.drill.specs.declared.script.DrillEnd.{DrillEnd}
+use Rattle.drill.specs.declared.script.DrillEnd.TheVariants as ends
 use Rattle.as4_tool.specs.declared.status.Status.{Status}
-use Rattle.as4_tool.specs.declared.status.Status.TheVariants.{Done, ReadFault, WriteFault, NoMemory, TooLong, Unbuilt, BadWords}
+use Rattle.as4_tool.specs.declared.status.Status.TheVariants.{Done, WrongLine, ReadFault, WriteFault, NoMemory, TooManyEvents, TooLong, Unbuilt, BadWords}
 
 -- the exit status of an end
 abbrev pub code_of : Status → ℕ
 code_of Done = 0
+code_of (WrongLine number) = 2
 code_of ReadFault = 3
 code_of WriteFault = 4
 code_of NoMemory = 5
+code_of TooManyEvents = 6
 code_of TooLong = 11
 code_of Unbuilt = 13
 code_of BadWords = 64
 
--- the exit status is that of one of these ends
-abbrev pub IsOneOf : List Status → ℕ → Type 0
-IsOneOf [] code = ⊥
-IsOneOf (status ∷ others) code = (code ≡ code_of status) ⊎ IsOneOf others code
+-- it is one of these ends
+abbrev pub IsOneOf : List Status → Status → Type 0
+IsOneOf [] status = ⊥
+IsOneOf (one ∷ others) status = (status ≡ one) ⊎ IsOneOf others status
 
 -- what is told of it on the errors, as lines
 abbrev pub lines_of : Status → List ℕ
 lines_of Done = []
+lines_of (WrongLine number) = codes "line " ++ decimal number ++ codes "\n"
 lines_of ReadFault = codes "read fault\n"
 lines_of WriteFault = codes "write fault\n"
 lines_of NoMemory = codes "no memory\n"
+lines_of TooManyEvents = codes "more than 100000 events\n"
 lines_of TooLong = codes "input too long\n"
 lines_of Unbuilt = codes "not built yet\n"
 lines_of BadWords = codes "bad words\nas4 --help shows the words\n"
+
+-- the status of a drill's end
+abbrev pub status_of : DrillEnd → Status
+status_of ends.Read = Done
+status_of (ends.Line number) = WrongLine number
+status_of ends.TooMany = TooManyEvents
+status_of ends.ReadFault = ReadFault
+status_of ends.WriteFault = WriteFault
+status_of ends.NoMemory = NoMemory

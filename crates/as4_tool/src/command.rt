@@ -1,14 +1,19 @@
 //! The words of the program.
 //!
-//!     --help                 shows the words
-//!     --version              shows the version
-//!     answer STAMP NONCE     reads a request and writes the answer
+//!     --help                          shows the words
+//!     --version                       shows the version
+//!     answer STAMP NONCE              reads a request and writes the answer
+//!     drill                           runs a script of two ends, and writes what its lines lead to
+//!     drill --generate SEED COUNT     runs a generated script, and writes the numbers of both ends
 ghost use Rattle.std.specs.Prelude.{◌≡◌, ℕ, List, [], ◌∷◌, ◌<◌, ◌^◌, codes, IfSome, IfNone};
 ghost use Rattle.std.specs.Fmt.{decimal};
 
 use as4_values::{MAX_MOMENT, Octets, Seq};
 use itoa::Buffer;
 use std::str;
+
+/// The most messages of a generated script.
+const MAX_COUNT: u64 = 1_000;
 
 /// What the words ask for.
 #[derive(Clone, Copy, Debug, PartialEq, Eq)]
@@ -20,6 +25,13 @@ pub enum Command {
         stamp: u64,
         /// What makes the answer's identifiers unlike all others.
         nonce: u128,
+    },
+    Drill,
+    Generate {
+        /// What the sizes of the messages follow from.
+        seed: u64,
+        /// How many messages are submitted, at most 1,000.
+        count: u64,
     },
 }
 
@@ -35,6 +47,9 @@ pub fn command_of(words: &Seq<Octets>) -> Option<Command>
         [word] => lone_command_of(word.bytes()),
         [word, stamp, nonce] if word.bytes() == b"answer".as_slice() => {
             answer_of(stamp.bytes(), nonce.bytes())
+        }
+        [word, option, seed, count] => {
+            generate_of(word.bytes(), option.bytes(), seed.bytes(), count.bytes())
         }
         _ => None,
     }
@@ -56,6 +71,9 @@ fn lone_command_of(word: &[u8]) -> Option<Command>
     if word == b"--version".as_slice() {
         return Some(Command::Version);
     }
+    if word == b"drill".as_slice() {
+        return Some(Command::Drill);
+    }
     None
 }
 
@@ -72,6 +90,41 @@ fn answer_of(stamp: &[u8], nonce: &[u8]) -> Option<Command>
     Some(Command::Answer {
         stamp: stamp as u64,
         nonce,
+    })
+}
+
+// Reads the four words of a generated script.
+fn generate_of(word: &[u8], option: &[u8], seed: &[u8], count: &[u8]) -> Option<Command>
+    ensures found { IfSome result (Spells (word.now ∷ option.now ∷ seed.now ∷ count.now ∷ [])) }
+    ensures only { (command : Command) → Spells (word.now ∷ option.now ∷ seed.now ∷ count.now ∷ []) command
+        → result ≡ Some command }
+{
+    if word != b"drill".as_slice() {
+        return None;
+    }
+    if option != b"--generate".as_slice() {
+        return None;
+    }
+    numbers_of(seed, count)
+}
+
+// Reads the two words behind `drill --generate`.
+fn numbers_of(seed: &[u8], count: &[u8]) -> Option<Command>
+    ensures found { IfSome result (Spells (codes "drill" ∷ codes "--generate" ∷ seed.now ∷ count.now ∷ [])) }
+    ensures only { (command : Command) → Spells (codes "drill" ∷ codes "--generate" ∷ seed.now ∷ count.now ∷ []) command
+        → result ≡ Some command }
+{
+    let seed = number_of(seed)?;
+    let count = number_of(count)?;
+    if seed > u128::from(u64::MAX) {
+        return None;
+    }
+    if count > u128::from(MAX_COUNT) {
+        return None;
+    }
+    Some(Command::Generate {
+        seed: seed as u64,
+        count: count as u64,
     })
 }
 

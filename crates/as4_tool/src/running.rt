@@ -1,15 +1,23 @@
 //! A run of the program: words and input come in, and the output, the errors and the exit status go out.
 //!
-//!     --help, --version      a text                         0, 4
-//!     answer STAMP NONCE     the answer to the input        0, 3, 4, 5, 11, 13
-//!     other words                                           64
-ghost use Rattle.std.specs.Prelude.{◌≡◌, ◌≢◌, ℕ, [], ◌<◌, ◌≤◌, ◌↔◌, List, length, IfOk, IsErrOf, MatchResult};
+//!     --help, --version               a text                                         0, 4
+//!     answer STAMP NONCE              the answer to the input                        0, 3, 4, 5, 11, 13
+//!     drill                           what the lines of the script lead to           0, 2, 3, 4, 5, 6
+//!     drill --generate SEED COUNT     the numbers that a generated script leads to   0, 4, 5, 6
+//!     other words                                                                    64
+ghost use Rattle.std.specs.Prelude.{◌≡◌, ◌≢◌, ℕ, [], ◌<◌, ◌≤◌, ◌↔◌, List, None, length, IfOk, IsErrOf, MatchResult};
 ghost use Rattle.as4_flow.specs.Told.{Told};
 ghost use Rattle.as4_flow.specs.Faults.{Rose};
-ghost use Rattle.as4_tool.specs.Command.{Spells, IsCommand, AsksAnswer};
-ghost use Rattle.as4_tool.specs.Status.{code_of, lines_of};
+ghost use Rattle.drill.specs.Generated.{GeneratedEnds};
+ghost use Rattle.drill.specs.Transcript.{PlaysAll, Stage, new_stage};
+ghost use Rattle.drill.specs.declared.script.DrillEnd.{DrillEnd};
+ghost use Rattle.drill_script.specs.declared.line.Line.{Line};
+ghost use Rattle.exchange_model.specs.DeliveredOnce.{BothDeliverOnce};
+ghost use Rattle.as4_tool.specs.Command.{Spells, IsCommand, AsksAnswer, AsksDrill};
+ghost use Rattle.as4_tool.specs.Status.{code_of, lines_of, status_of};
 ghost use Rattle.as4_tool.specs.Answer.{IsOther};
-ghost use Rattle.as4_tool.specs.Ends.{Writes, Ends, Tells};
+ghost use Rattle.as4_tool.specs.Ends.{Writes, Ends};
+ghost use Rattle.as4_tool.specs.Telling.{Tells};
 
 use crate::answers::{Unanswered, answer_file};
 use crate::command::{Command, command_of};
@@ -17,6 +25,7 @@ use crate::status::Status;
 use crate::texts::{HELP, VERSION};
 use as4_flow::{ReadRefusal, SendFailed, Sink, Source, read_all, send_all};
 use as4_values::{MAX_MOMENT, Octets, Seq};
+use drill::a_drill_delivers_once;
 use std::alloc::Global;
 
 /// The longest input, in bytes.
@@ -30,11 +39,22 @@ pub fn run<I: Source, O: Sink, E: Sink>(
     output: &mut O,
     errors: &mut E,
 ) -> u8
-    // What the words ask for, and how each command ends.
+    // Whether the words ask for something.
     ensures bad_words { (result ≡ code_of Status.BadWords) ↔ ¬ IsCommand words.now }
     ensures command { result ≢ code_of Status.BadWords → IsCommand words.now }
-    ensures ends { (command : Command) → Spells words.now command →
-        Ends command result (I.left input.old) (I.left input.new) (O.taken output.old) (O.taken output.new) }
+
+    // The exit status is that of an end, its lines are told on the errors, and each command ends so.
+    ensures ends { (status : Status) × (result ≡ code_of status)
+        × Tells (lines_of status) (E.taken errors.old) (E.taken errors.new) (E.faults errors.old) (E.faults errors.new)
+        × ((command : Command) → Spells words.now command → Ends command status (record {
+          left = I.left input.old;
+          taken = O.taken output.old;
+          later = O.taken output.new;
+          read_faults = I.faults input.old;
+          later_read_faults = I.faults input.new;
+          write_faults = O.faults output.old;
+          later_write_faults = O.faults output.new;
+        }) (I.left input.new)) }
 
     // What each other status comes from.
     ensures read_fault { result ≡ code_of Status.ReadFault → Rose (I.faults input.old) (I.faults input.new) }
@@ -44,19 +64,19 @@ pub fn run<I: Source, O: Sink, E: Sink>(
         Told (I.left input.old) (λ file. (length file ≤ LIMIT) × IsOther file) × Told (I.left input.new) (λ rest. rest ≡ []) }
 
     // What stays as it was.
-    ensures silent { result ≢ code_of Status.Done → result ≢ code_of Status.WriteFault →
+    ensures silent { ¬ AsksDrill words.now → result ≢ code_of Status.Done → result ≢ code_of Status.WriteFault →
         O.taken output.new ≡ O.taken output.old }
-    ensures untouched { ¬ AsksAnswer words.now → input.new ≡ input.old }
+    ensures untouched { ¬ AsksAnswer words.now → ¬ AsksDrill words.now → input.new ≡ input.old }
     ensures counted { (I.faults input.old ≤ I.faults input.new) × (O.faults output.old ≤ O.faults output.new) ×
         (E.faults errors.old ≤ E.faults errors.new) }
 
-    // The exit status is that of an end, and its lines are told on the errors.
-    ensures status { (status : Status) × (result ≡ code_of status) ×
-        Tells (lines_of status) (E.taken errors.old) (E.taken errors.new) (E.faults errors.old) (E.faults errors.new) }
+    // Whatever the script of a drill, its messages are delivered once.
+    ensures once { (lines : List Line) (text : List ℕ) (stage : Stage)
+        → PlaysAll lines new_stage text stage → BothDeliverOnce stage.world }
 {
+    a_drill_delivers_once();
     let status = obey(alloc, words, input, output);
-    // Where the errors fail too, nothing is left to tell it to.
-    let _ = send_all(errors, status.lines());
+    status.tell(errors);
     status.code()
 }
 
@@ -69,8 +89,15 @@ fn obey<I: Source, O: Sink>(
 ) -> Status
     ensures bad_words { (code_of result ≡ code_of Status.BadWords) ↔ ¬ IsCommand words.now }
     ensures command { code_of result ≢ code_of Status.BadWords → IsCommand words.now }
-    ensures ends { (command : Command) → Spells words.now command →
-        Ends command (code_of result) (I.left input.old) (I.left input.new) (O.taken output.old) (O.taken output.new) }
+    ensures ends { (command : Command) → Spells words.now command → Ends command result (record {
+      left = I.left input.old;
+      taken = O.taken output.old;
+      later = O.taken output.new;
+      read_faults = I.faults input.old;
+      later_read_faults = I.faults input.new;
+      write_faults = O.faults output.old;
+      later_write_faults = O.faults output.new;
+    }) (I.left input.new) }
 
     ensures read_fault { code_of result ≡ code_of Status.ReadFault → Rose (I.faults input.old) (I.faults input.new) }
     ensures write_fault { code_of result ≡ code_of Status.WriteFault → Rose (O.faults output.old) (O.faults output.new) }
@@ -78,22 +105,24 @@ fn obey<I: Source, O: Sink>(
     ensures unbuilt { code_of result ≡ code_of Status.Unbuilt →
         Told (I.left input.old) (λ file. (length file ≤ LIMIT) × IsOther file) × Told (I.left input.new) (λ rest. rest ≡ []) }
 
-    ensures silent { code_of result ≢ code_of Status.Done → code_of result ≢ code_of Status.WriteFault →
-        O.taken output.new ≡ O.taken output.old }
-    ensures untouched { ¬ AsksAnswer words.now → input.new ≡ input.old }
+    ensures silent { ¬ AsksDrill words.now → code_of result ≢ code_of Status.Done →
+        code_of result ≢ code_of Status.WriteFault → O.taken output.new ≡ O.taken output.old }
+    ensures untouched { ¬ AsksAnswer words.now → ¬ AsksDrill words.now → input.new ≡ input.old }
     ensures counted { (I.faults input.old ≤ I.faults input.new) × (O.faults output.old ≤ O.faults output.new) }
 {
     match command_of(words) {
         Some(Command::Help) => write(output, HELP),
         Some(Command::Version) => write(output, VERSION),
         Some(Command::Answer { stamp, nonce }) => answer(alloc, stamp, nonce, input, output),
+        Some(Command::Drill) => play(alloc, input, output),
+        Some(Command::Generate { seed, count }) => generate(alloc, seed, count, output),
         None => Status::BadWords,
     }
 }
 
 // Writes all the bytes.
 fn write<O: Sink>(output: &mut O, bytes: &[u8]) -> Status
-    ensures writes { Writes bytes.now (code_of result) (O.taken output.old) (O.taken output.new) }
+    ensures writes { Writes bytes.now result (O.taken output.old) (O.taken output.new) }
     ensures fault { code_of result ≡ code_of Status.WriteFault → Rose (O.faults output.old) (O.faults output.new) }
     ensures counted { O.faults output.old ≤ O.faults output.new }
 {
@@ -112,8 +141,15 @@ fn answer<I: Source, O: Sink>(
     output: &mut O,
 ) -> Status
     requires { stamp ≤ MAX_MOMENT }
-    ensures ends { Ends (Command.Answer stamp nonce) (code_of result) (I.left input.old) (I.left input.new)
-        (O.taken output.old) (O.taken output.new) }
+    ensures ends { Ends (Command.Answer stamp nonce) result (record {
+      left = I.left input.old;
+      taken = O.taken output.old;
+      later = O.taken output.new;
+      read_faults = I.faults input.old;
+      later_read_faults = I.faults input.new;
+      write_faults = O.faults output.old;
+      later_write_faults = O.faults output.new;
+    }) (I.left input.new) }
 
     ensures read_fault { code_of result ≡ code_of Status.ReadFault → Rose (I.faults input.old) (I.faults input.new) }
     ensures write_fault { code_of result ≡ code_of Status.WriteFault → Rose (O.faults output.old) (O.faults output.new) }
@@ -136,4 +172,48 @@ fn answer<I: Source, O: Sink>(
         Err(Unanswered::Unbuilt) => Status::Unbuilt,
         Err(Unanswered::NoMemory) => Status::NoMemory,
     }
+}
+
+// Runs the script that the input has.
+fn play<I: Source, O: Sink>(alloc: Global, input: &mut I, output: &mut O) -> Status
+    ensures ends { Ends Command.Drill result (record {
+      left = I.left input.old;
+      taken = O.taken output.old;
+      later = O.taken output.new;
+      read_faults = I.faults input.old;
+      later_read_faults = I.faults input.new;
+      write_faults = O.faults output.old;
+      later_write_faults = O.faults output.new;
+    }) (I.left input.new) }
+
+    ensures read_fault { code_of result ≡ code_of Status.ReadFault → Rose (I.faults input.old) (I.faults input.new) }
+    ensures write_fault { code_of result ≡ code_of Status.WriteFault → Rose (O.faults output.old) (O.faults output.new) }
+    ensures others { (code_of result ≢ code_of Status.TooLong) × (code_of result ≢ code_of Status.Unbuilt) ×
+        (code_of result ≢ code_of Status.BadWords) }
+    ensures counted { (I.faults input.old ≤ I.faults input.new) × (O.faults output.old ≤ O.faults output.new) }
+{
+    Status::of_drill(drill::drill(alloc, input, output))
+}
+
+// Runs a generated script.
+fn generate<O: Sink>(alloc: Global, seed: u64, count: u64, output: &mut O) -> Status
+    requires { count ≤ 1000 }
+    ensures ends { (end : DrillEnd) × (result ≡ status_of end) × GeneratedEnds seed count end (record {
+      left = None;
+      taken = O.taken output.old;
+      later = O.taken output.new;
+      read_faults = 0;
+      later_read_faults = 0;
+      write_faults = O.faults output.old;
+      later_write_faults = O.faults output.new;
+    }) }
+
+    ensures write_fault { code_of result ≡ code_of Status.WriteFault → Rose (O.faults output.old) (O.faults output.new) }
+    ensures others { (code_of result ≢ code_of Status.ReadFault) × (code_of result ≢ code_of Status.TooLong) ×
+        (code_of result ≢ code_of Status.Unbuilt) × (code_of result ≢ code_of Status.BadWords) }
+    ensures silent { code_of result ≢ code_of Status.Done → code_of result ≢ code_of Status.WriteFault →
+        O.taken output.new ≡ O.taken output.old }
+    ensures counted { O.faults output.old ≤ O.faults output.new }
+{
+    Status::of_drill(drill::generate(alloc, seed, count, output))
 }

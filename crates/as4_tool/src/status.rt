@@ -1,51 +1,119 @@
 //! How a run of the program ends.
 //!
 //!      0  all was done
-//!      3  read fault      11  input too long
-//!      4  write fault     13  not built yet
-//!      5  no memory       64  bad words
-ghost use Rattle.std.specs.Prelude.{◌≡◌};
+//!      2  line N             6  more than 100000 events
+//!      3  read fault        11  input too long
+//!      4  write fault       13  not built yet
+//!      5  no memory         64  bad words
+ghost use Rattle.std.specs.Prelude.{◌≡◌, ◌≤◌, ◌++◌, codes};
+ghost use Rattle.std.specs.Fmt.{decimal};
+ghost use Rattle.as4_tool.specs.Telling.{Tells};
 
-/// The end of a run. Its number is the exit status of the program.
+use as4_flow::{SendFailed, Sink, send_all};
+use drill::DrillEnd;
+use itoa::Buffer;
+
+/// The end of a run.
 #[derive(Clone, Copy, Debug, PartialEq, Eq)]
 pub enum Status {
-    Done = 0,
-    /// The input failed. Nothing was written.
-    ReadFault = 3,
+    Done,
+    /// This line of the script, the first being 1, isn't one of a script, or not in its place. What the lines before it
+    /// wrote was written.
+    WrongLine { number: u64 },
+    /// The input failed. Nothing was written, but what a script's lines before the fault wrote.
+    ReadFault,
     /// The output failed. It has taken only a front of what was to be written.
-    WriteFault = 4,
-    /// There was no memory. Nothing was written.
-    NoMemory = 5,
+    WriteFault,
+    /// There was no memory. Nothing was written, but what a script's lines before wrote.
+    NoMemory,
+    /// The next line would make event 100,001. Nothing was written, but what a script's lines before wrote.
+    TooManyEvents,
     /// The input is longer than the limit. Nothing was written.
-    TooLong = 11,
+    TooLong,
     /// The program can't answer this input yet. Nothing was written.
-    Unbuilt = 13,
+    Unbuilt,
     /// The words name no command. Nothing was read or written.
-    BadWords = 64,
+    BadWords,
 }
 
 impl Status {
-    ghost use Rattle.as4_tool.specs.Status.{code_of, lines_of};
+    ghost use Rattle.as4_tool.specs.Status.{code_of, lines_of, status_of};
+
+    /// The status of a drill's end.
+    pub fn of_drill(end: DrillEnd) -> Status
+        ensures { result ≡ status_of end }
+    {
+        match end {
+            DrillEnd::Read => Status::Done,
+            DrillEnd::Line { number } => Status::WrongLine { number },
+            DrillEnd::TooMany => Status::TooManyEvents,
+            DrillEnd::ReadFault => Status::ReadFault,
+            DrillEnd::WriteFault => Status::WriteFault,
+            DrillEnd::NoMemory => Status::NoMemory,
+        }
+    }
 
     /// The exit status of the program.
     pub fn code(self) -> u8
         ensures { result ≡ code_of self }
     {
-        self as u8
-    }
-
-    /// What is told of it on the errors, as lines. There is nothing to tell where all was done.
-    pub fn lines(self) -> &'static [u8]
-        ensures { result.now ≡ lines_of self }
-    {
         match self {
-            Status::Done => b"",
-            Status::ReadFault => b"read fault\n",
-            Status::WriteFault => b"write fault\n",
-            Status::NoMemory => b"no memory\n",
-            Status::TooLong => b"input too long\n",
-            Status::Unbuilt => b"not built yet\n",
-            Status::BadWords => b"bad words\nas4 --help shows the words\n",
+            Status::Done => 0,
+            Status::WrongLine { .. } => 2,
+            Status::ReadFault => 3,
+            Status::WriteFault => 4,
+            Status::NoMemory => 5,
+            Status::TooManyEvents => 6,
+            Status::TooLong => 11,
+            Status::Unbuilt => 13,
+            Status::BadWords => 64,
         }
     }
+
+    /// Tells it on the errors, as lines. There is nothing to tell where all was done. It takes no memory.
+    pub fn tell<E: Sink>(self, errors: &mut E)
+        ensures told { Tells (lines_of self) (E.taken errors.old) (E.taken errors.new) (E.faults errors.old) (E.faults errors.new) }
+        ensures counted { E.faults errors.old ≤ E.faults errors.new }
+    {
+        match self {
+            Status::Done => tell_text(errors, b""),
+            Status::WrongLine { number } => tell_line(errors, number),
+            Status::ReadFault => tell_text(errors, b"read fault\n"),
+            Status::WriteFault => tell_text(errors, b"write fault\n"),
+            Status::NoMemory => tell_text(errors, b"no memory\n"),
+            Status::TooManyEvents => tell_text(errors, b"more than 100000 events\n"),
+            Status::TooLong => tell_text(errors, b"input too long\n"),
+            Status::Unbuilt => tell_text(errors, b"not built yet\n"),
+            Status::BadWords => tell_text(errors, b"bad words\nas4 --help shows the words\n"),
+        }
+    }
+}
+
+// Tells the number of a line. Where the errors fail, nothing is left to tell it to.
+fn tell_line<E: Sink>(errors: &mut E, number: u64)
+    ensures told { Tells (codes "line " ++ decimal number ++ codes "\n") (E.taken errors.old) (E.taken errors.new)
+        (E.faults errors.old) (E.faults errors.new) }
+    ensures counted { E.faults errors.old ≤ E.faults errors.new }
+{
+    let _ = send_line(errors, number);
+}
+
+// Sends its parts, one after another.
+fn send_line<E: Sink>(errors: &mut E, number: u64) -> Result<(), SendFailed>
+    ensures told { Tells (codes "line " ++ decimal number ++ codes "\n") (E.taken errors.old) (E.taken errors.new)
+        (E.faults errors.old) (E.faults errors.new) }
+    ensures counted { E.faults errors.old ≤ E.faults errors.new }
+{
+    let mut buffer = Buffer::new();
+    send_all(errors, b"line ")?;
+    send_all(errors, buffer.format(number).as_bytes())?;
+    send_all(errors, b"\n")
+}
+
+// Tells this text. Where the errors fail, nothing is left to tell it to.
+fn tell_text<E: Sink>(errors: &mut E, text: &[u8])
+    ensures told { Tells text.now (E.taken errors.old) (E.taken errors.new) (E.faults errors.old) (E.faults errors.new) }
+    ensures counted { E.faults errors.old ≤ E.faults errors.new }
+{
+    let _ = send_all(errors, text);
 }

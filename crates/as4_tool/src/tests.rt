@@ -1,6 +1,6 @@
 //! What no clause says: that memory suffices, and each end once, with the exit status and the lines as a user sees them.
 
-use crate::{HELP, LIMIT, VERSION, run};
+use crate::{Command, HELP, LIMIT, Status, VERSION, command_of, run};
 use as4_flow::{MemorySink, MemorySource};
 use as4_values::{Octets, Seq};
 use std::alloc::{AllocError, Global};
@@ -54,16 +54,22 @@ fn sink(alloc: Global, failing: u64) -> Result<MemorySink, AllocError> {
     Ok(sink)
 }
 
-/// Runs the words, which stand between single spaces.
-fn end_of(alloc: Global, line: &str, file: Vec<u8>, failing: Failing) -> Result<End, AllocError> {
+/// The words that stand between single spaces.
+fn words_of(alloc: Global, line: &str) -> Result<Seq<Octets>, AllocError> {
     let mut words = Vec::new(alloc);
     for word in line.split(' ') {
         words.push(Octets::of(Vec::from_slice(alloc, word.as_bytes())?))?;
     }
+    Ok(Seq::of(words))
+}
+
+/// Runs the words.
+fn end_of(alloc: Global, line: &str, file: Vec<u8>, failing: Failing) -> Result<End, AllocError> {
+    let words = words_of(alloc, line)?;
     let mut input = MemorySource::of(file, Vec::new(alloc), vec![in alloc; failing.read]?);
     let mut output = sink(alloc, failing.write)?;
     let mut errors = sink(alloc, failing.tell)?;
-    let status = run(alloc, &Seq::of(words), &mut input, &mut output, &mut errors);
+    let status = run(alloc, &words, &mut input, &mut output, &mut errors);
     Ok(End {
         status,
         written: output.into_bytes(),
@@ -93,6 +99,8 @@ fn words_are_a_command_or_bad(rt: HostRuntime) -> Result<(), Fail> {
         ("answer 0 1 2", 64, HINT),
         ("Answer 0 1", 64, HINT),
         ("--help --version", 64, HINT),
+        ("drill 1", 64, HINT),
+        ("drill --generate 0 1001", 64, HINT),
         ("help", 64, HINT),
         ("", 64, HINT),
     ];
@@ -101,6 +109,37 @@ fn words_are_a_command_or_bad(rt: HostRuntime) -> Result<(), Fail> {
         assert_eq!(rt; end.status, status, "at {line}");
         assert_eq!(rt; end.told.as_slice(), told, "at {line}");
         assert!(rt; end.written.is_empty(), "at {line}");
+    }
+    Ok(())
+}
+
+#[test]
+fn a_drill_is_asked_for_with_numbers_in_range(rt: HostRuntime) -> Result<(), Fail> {
+    let alloc = rt.alloc();
+    let last = Command::Generate {
+        seed: 18_446_744_073_709_551_615,
+        count: 1_000,
+    };
+    let table = [
+        ("drill", Some(Command::Drill)),
+        (
+            "drill --generate 0 1",
+            Some(Command::Generate { seed: 0, count: 1 }),
+        ),
+        ("drill --generate 18446744073709551615 1000", Some(last)),
+        ("drill --generate 18446744073709551616 1000", None),
+        ("drill --generate 0 1001", None),
+        ("drill --generate 00 1", None),
+        ("drill --generate 0 01", None),
+        ("drill --generate 0 -1", None),
+        ("drill --generate 0", None),
+        ("drill --generate 0 1 2", None),
+        ("drill --Generate 0 1", None),
+        ("Drill --generate 0 1", None),
+        ("Drill", None),
+    ];
+    for (line, command) in table {
+        assert_eq!(rt; command_of(&words_of(alloc, line)?), command, "at {line}");
     }
     Ok(())
 }
@@ -149,6 +188,7 @@ fn each_fault_has_its_status(rt: HostRuntime) -> Result<(), Fail> {
     );
     let table = [
         ("answer 0 1", read, 3, b"read fault\n".as_slice()),
+        ("drill", read, 3, b"read fault\n"),
         ("--help", write, 4, b"write fault\n".as_slice()),
         ("answer 0 1", tell, 13, b"".as_slice()),
         ("answer 0", tell, 64, b"".as_slice()),
@@ -158,6 +198,98 @@ fn each_fault_has_its_status(rt: HostRuntime) -> Result<(), Fail> {
         assert_eq!(rt; end.status, status, "at {line}");
         assert_eq!(rt; end.told.as_slice(), told, "at {line}");
         assert!(rt; end.written.is_empty(), "at {line}");
+    }
+    Ok(())
+}
+
+#[test]
+fn a_wrong_line_of_a_script_is_told(rt: HostRuntime) -> Result<(), Fail> {
+    let alloc = rt.alloc();
+    for script in [b"hello\n".as_slice(), b"take a", b"\n", b"take c\ntake a\n"] {
+        let end = end_of(alloc, "drill", script.to_vec(alloc)?, NOTHING_FAILS)?;
+        assert_eq!(rt; end.status, 2, "at {} bytes", script.len());
+        assert_eq!(rt;
+            end.told.as_slice(),
+            b"line 1\n".as_slice(),
+            "at {} bytes",
+            script.len()
+        );
+        assert!(rt; end.written.is_empty(), "at {} bytes", script.len());
+    }
+    Ok(())
+}
+
+#[test]
+fn a_script_is_run(rt: HostRuntime) -> Result<(), Fail> {
+    let alloc = rt.alloc();
+    let table = [
+        (
+            b"mode m push 1 1\ntake a\nhop a\n".as_slice(),
+            2,
+            b"a nothing\n".as_slice(),
+            b"line 3\n".as_slice(),
+        ),
+        (
+            b"submit a m none\n",
+            0,
+            b"a no-mode\na end 0 0 0 0 0\nb end 0 0 0 0 0\n",
+            b"",
+        ),
+    ];
+    for (script, status, written, told) in table {
+        let end = end_of(alloc, "drill", script.to_vec(alloc)?, NOTHING_FAILS)?;
+        assert_eq!(rt; end.status, status, "at {} bytes", script.len());
+        assert_eq!(rt;
+            end.written.as_slice(),
+            written,
+            "at {} bytes",
+            script.len()
+        );
+        assert_eq!(rt; end.told.as_slice(), told, "at {} bytes", script.len());
+    }
+    Ok(())
+}
+
+#[test]
+fn each_status_has_its_number_and_line(rt: HostRuntime) -> Result<(), Fail> {
+    let alloc = rt.alloc();
+    let last = Status::WrongLine {
+        number: 18_446_744_073_709_551_615,
+    };
+    let table = [
+        (Status::Done, 0, b"".as_slice()),
+        (Status::WrongLine { number: 1 }, 2, b"line 1\n"),
+        (last, 2, b"line 18446744073709551615\n"),
+        (Status::ReadFault, 3, b"read fault\n"),
+        (Status::WriteFault, 4, b"write fault\n"),
+        (Status::NoMemory, 5, b"no memory\n"),
+        (Status::TooManyEvents, 6, b"more than 100000 events\n"),
+        (Status::TooLong, 11, b"input too long\n"),
+        (Status::Unbuilt, 13, UNBUILT),
+        (Status::BadWords, 64, HINT),
+    ];
+    for (status, code, told) in table {
+        let mut errors = sink(alloc, 0)?;
+        status.tell(&mut errors);
+        assert_eq!(rt; status.code(), code, "at {code}");
+        assert_eq!(rt; errors.bytes(), told, "at {code}");
+    }
+    Ok(())
+}
+
+#[test]
+fn a_line_is_told_up_to_a_fault(rt: HostRuntime) -> Result<(), Fail> {
+    let alloc = rt.alloc();
+    let table = [
+        (1, b"".as_slice()),
+        (2, b"line "),
+        (3, b"line 12"),
+        (4, b"line 12\n"),
+    ];
+    for (failing, told) in table {
+        let mut errors = sink(alloc, failing)?;
+        Status::WrongLine { number: 12 }.tell(&mut errors);
+        assert_eq!(rt; errors.bytes(), told, "at {failing}");
     }
     Ok(())
 }

@@ -1,26 +1,33 @@
 //! What the program writes about itself.
 
 /// The answer to `--help`.
-pub const HELP: &[u8] = b"as4: answers AS4 messages
+pub const HELP: &[u8] = b"as4: answers AS4 messages, and runs drills of two ends that exchange them
 
 usage:
-  as4 answer STAMP NONCE    reads a message file from the input, writes the answer to the output
-  as4 --help                writes this text
-  as4 --version             writes the version
+  as4 answer STAMP NONCE             reads a message file from the input, writes the answer to the output
+  as4 drill                          runs the script in the input, writes to the output what its lines lead to
+  as4 drill --generate SEED COUNT    runs a generated script, writes the numbers of both ends to the output
+  as4 --help                         writes this text
+  as4 --version                      writes the version
 
 STAMP  the moment of the answer: milliseconds since 1970-01-01T00:00:00Z, 0 to 253402300799999
 NONCE  makes the answer's identifiers unlike all others: 0 to 340282366920938463463374607431768211455
-Both are decimal, without sign and without leading zeros. The input has at most 16842752 bytes.
+SEED   what the sizes of the generated messages follow from: 0 to 18446744073709551615; 0 makes all of 40960 bytes
+COUNT  how many messages the generated script submits: 0 to 1000
+All are decimal, without sign and without leading zeros. The input of an answer has at most 16842752 bytes.
 
 exit statuses, each but 0 with a line on the errors:
    0  done
+   2  line N, the first being 1, isn't one of a script, or not in its place
    3  read fault
-   4  write fault: the output has only a front of the answer
+   4  write fault: the output has only a front of what was to be written
    5  no memory
+   6  more than 100000 events
   11  input too long
   13  not built yet
   64  bad words
-On all but 0 and 4 nothing is written to the output.
+On all but 0 and 4 nothing is written to the output, except by a drill of a script: it writes what the lines before
+lead to.
 ";
 
 /// The answer to `--version`.

@@ -1,0 +1,87 @@
+-- The names of a script are plain texts, and a mode of a new name may join the others.
+use Rattle.std.proofs.Common.{◌≡◌, ◌≢◌, inl, inr, ℕ, zero, suc, ◌<◌, ◌≤◌, List, [], ◌∷◌, ◌++◌, Bool, true, false, ◌&&◌, ◌||◌, nat_le, length, length-append, refl, sym, ◌∙◌, subst, arith}
+use Rattle.std.specs.Prelude.{IsTrue, codes, slice_index}
+use Rattle.std.specs.List.{All, AllPairs, list_all, list_any}
+use Rattle.std.specs.Str.{bytes_eq}
+use Rattle.std.proofs.Math.Nat.{eq-or-lt_of_le}
+use Rattle.std.proofs.Math.Seq.{get_or-append_seam}
+use Rattle.std.proofs.lemmas.Bool.{and_parts, or_parts, leb-true}
+use Rattle.std.proofs.lemmas.Bool.Decides.{nat_tests}
+use Rattle.std.proofs.lemmas.List.{get_or_append_left}
+use Rattle.std.proofs.lemmas.List.Elements.{All-append}
+use Rattle.std.proofs.lemmas.List.Sums.{AllPass-from_list_all}
+use Rattle.std.proofs.lemmas.Slice.Eq.{bytes_eq-Decides}
+use Rattle.as4_values.specs.PlainTexts.{IsPlainText, allows_at}
+use Rattle.as4_values.specs.declared.mode.Mode.{Mode}
+use Rattle.drill_script.specs.LineText.{is_name}
+use Rattle.drill_script.specs.declared.line.Way.{Way}
+use Rattle.drill_texts.specs.Modes.{AreDrillModes, IsDrillMode, IsSomeDrillMode}
+
+-- a to z and 0 to 9
+abbrev is_name_byte : ℕ → Bool
+is_name_byte b = (nat_le 97 b && nat_le b 122) || (nat_le 48 b && nat_le b 57)
+
+name_byte_allowed : (bytes : List ℕ) (at : ℕ) → is_name_byte (slice_index bytes at) ≡ true → IsTrue (allows_at bytes at)
+name_byte_allowed bytes at named = grind (arith, nat_tests)
+
+pub name_is_plain : (name : List ℕ) → IsTrue (is_name name) → IsPlainText name
+unfolding is_name
+name_is_plain name named =
+    let outer = and_parts (nat_le 1 (length name)) _ named in
+    let inner = and_parts (nat_le (length name) 32) (list_all is_name_byte name) outer.1 in
+    let some : 1 ≤ length name = leb-true 1 (length name) outer.0 in
+    let short : length name ≤ 32 = leb-true (length name) 32 inner.0 in
+    record {
+      some = omega arith;
+      limited = omega arith;
+      each = λ at within. name_byte_allowed name at (AllPass-from_list_all is_name_byte name inner.1 at 0 within);
+    }
+
+c_is_name : IsTrue (is_name (codes "c"))
+unfolding is_name
+c_is_name = refl
+
+-- the conversation of a drill
+pub c_is_plain : IsPlainText (codes "c")
+c_is_plain = name_is_plain (codes "c") c_is_name
+
+-- none of the modes has this name
+unnamed : (modes : List Mode) (name : List ℕ) → list_any (λ (mode : Mode). bytes_eq mode.name name) modes ≡ false
+    → All (λ (mode : Mode). mode.name ≢ name) modes
+unnamed [] name none k d within = absurd (omega arith)
+unnamed (mode ∷ modes) name none zero d within =
+    let parts = or_parts (bytes_eq mode.name name) (list_any (λ (m : Mode). bytes_eq m.name name) modes) none in
+    λ same. (let yes : bytes_eq mode.name name ≡ true = (bytes_eq-Decides mode.name name).1 same in
+    absurd (cc (yes, parts.0)))
+unnamed (mode ∷ modes) name none (suc k) d within =
+    let parts = or_parts (bytes_eq mode.name name) (list_any (λ (m : Mode). bytes_eq m.name name) modes) none in
+    unnamed modes name parts.1 k d (omega arith)
+
+one_made : (mode : Mode) → IsSomeDrillMode mode → All IsSomeDrillMode (mode ∷ [])
+one_made mode is zero d short = is
+one_made mode is (suc k) d short = absurd (omega arith)
+
+within_more : (modes : List Mode) (mode : Mode) (j : ℕ) → j < length (modes ++ mode ∷ []) → j ≤ length modes
+within_more modes mode j short = omega (arith, length-append modes (mode ∷ []))
+
+more_named : (modes : List Mode) (mode : Mode) → AllPairs (λ (a b : Mode). a.name ≢ b.name) modes
+    → All (λ (other : Mode). other.name ≢ mode.name) modes → AllPairs (λ (a b : Mode). a.name ≢ b.name) (modes ++ mode ∷ [])
+more_named modes mode apart new i j d before short =
+    elim (eq-or-lt_of_le (within_more modes mode j short)) [
+      | inr low ↦ (let below : i < length modes = omega (arith, low) in
+          rw (get_or_append_left modes (mode ∷ []) d i below, get_or_append_left modes (mode ∷ []) d j low) (apart i j d before low))
+      | inl last ↦ (let below : i < length modes = omega (arith, last, before) in
+          rw (last, get_or-append_seam modes mode [] d, get_or_append_left modes (mode ∷ []) d i below) (new i d below))
+    ]
+
+-- modes, and one of a new name
+pub modes_more : (modes more : List Mode) (name : List ℕ) (way : Way) (retries period : ℕ) (mode : Mode) → AreDrillModes modes → length modes < 1024
+    → list_any (λ (m : Mode). bytes_eq m.name name) modes ≡ false → IsDrillMode name way retries period mode → more ≡ modes ++ mode ∷ []
+    → AreDrillModes more
+modes_more modes more name way retries period mode are few new is whole =
+    subst AreDrillModes (sym whole) (record {
+      counted = omega (arith, length-append modes (mode ∷ []));
+      made = All-append IsSomeDrillMode modes (mode ∷ []) are.made (one_made mode (name, way, retries, period, is));
+      named = more_named modes mode are.named
+          (λ k d within same. unnamed modes name new k d within (same ∙ is.named));
+    })

@@ -1,0 +1,259 @@
+-- What happens at one end of a stage is what its line asks for.
+use Rattle.std.proofs.Common.{◌≡◌, ◌≢◌, ℕ, ◌+◌, List, [], ◌∷◌, ◌++◌, Bool, true, false, ◌&&◌, nat_le, refl, sym, ◌∙◌, ap, subst}
+use Rattle.std.specs.Prelude.{◌≤◌, Ok, Err, IfOk, IsTrue, Result, length}
+use Rattle.std.specs.Option.{unwrap_or}
+use Rattle.std.proofs.lemmas.Bool.{and_from, and_parts, le-leb, leb-true}
+use Rattle.as4_values.specs.declared.mode.Mode.{Mode}
+use Rattle.drill.specs.Events.{Asked, Doing, Sets, Does, Says, side_of}
+use Rattle.drill.specs.Players.{Meets, Seat}
+use Rattle.drill.specs.Stages.{Acts, Happens, IsAtEnd, Performs}
+use Rattle.drill.specs.Transcript.{Makes, Plays, Stage, doing_of, is_placed, is_right, is_too_many}
+use Rattle.drill.specs.declared.refused.Refused.{Refused}
+use Rattle.drill.specs.declared.refused.Refused.TheVariants as refused
+use Rattle.drill_script.specs.LineText.{is_line, is_name, line_limit, line_text}
+use Rattle.drill_script.specs.declared.line.EndName.{EndName}
+use Rattle.drill_script.specs.declared.line.EndName.TheVariants as name
+use Rattle.drill_script.specs.declared.line.Line.{Line}
+use Rattle.drill_script.specs.declared.line.Line.TheVariants as line
+use Rattle.drill_script.specs.declared.line.Way.{Way}
+use Rattle.drill_texts.specs.Modes.{IsDrillMode}
+use Rattle.exchange_model.specs.LosslessRound.{across, party_at}
+use Rattle.exchange_model.specs.Table.{Step}
+use Rattle.exchange_model.specs.World.{IsHeard, Left, Right, World}
+use Rattle.exchange_model.specs.declared.event.Event.{Event}
+
+-- a stage by its parts
+abbrev pub staged : Seat → Seat → List Mode → ℕ → Bool → Stage
+staged left right modes events begun =
+    record { world = record { left = left.party; right = right.party }; modes = modes; events = events; begun = begun }
+
+-- at the end a
+pub left_happens : (event : Event) (number : ℕ) (lost : Bool) (left right new : Seat) (text : List ℕ) (modes : List Mode) (events : ℕ) (begun : Bool)
+    → Meets name.A event number lost left text new → left.modes ≡ modes → IsHeard right.party.said event.what
+    → Happens name.A event number lost (staged left right modes events begun) text (staged new right modes events begun)
+left_happens event number lost left right new text modes events begun meets shared heard = record {
+  act = record { side = Left; modes = modes; event = event; outcome = meets.outcome; lost = lost };
+  here = refl;
+  modes = refl;
+  meets = refl;
+  loses = refl;
+  may = record { heard = heard; step = subst (λ (m : List Mode). Step m left.party.end event meets.outcome) shared meets.step };
+  says = meets.says;
+  leads = rw meets.leads refl;
+}
+
+-- at the end b
+pub right_happens : (event : Event) (number : ℕ) (lost : Bool) (left right new : Seat) (text : List ℕ) (modes : List Mode) (events : ℕ) (begun : Bool)
+    → Meets name.B event number lost right text new → right.modes ≡ modes → IsHeard left.party.said event.what
+    → Happens name.B event number lost (staged left right modes events begun) text (staged left new modes events begun)
+right_happens event number lost left right new text modes events begun meets shared heard = record {
+  act = record { side = Right; modes = modes; event = event; outcome = meets.outcome; lost = lost };
+  here = refl;
+  modes = refl;
+  meets = refl;
+  loses = refl;
+  may = record { heard = heard; step = subst (λ (m : List Mode). Step m right.party.end event meets.outcome) shared meets.step };
+  says = meets.says;
+  leads = rw meets.leads refl;
+}
+
+pub left_met : {E : Type 0} (at : EndName) (event : Event) (number : ℕ) (lost : Bool) (left right new : Seat) (result : Result (List ℕ) E)
+    (modes : List Mode) (events : ℕ) (begun : Bool) (stage : Stage) → at ≡ name.A → staged left right modes events begun ≡ stage
+    → IfOk result (λ text. Meets at event number lost left text new) → left.modes ≡ modes
+    → IsHeard (party_at (across (side_of at)) stage.world).said event.what
+    → IfOk result (λ text. Happens at event number lost stage text (staged new right modes events begun))
+left_met at event number lost left right new (Ok text) modes events begun stage is seen meets shared heard =
+    let here : Meets name.A event number lost left text new = subst (λ (n : EndName). Meets n event number lost left text new) is meets in
+    let there : IsHeard (party_at (across (side_of name.A)) stage.world).said event.what =
+    subst (λ (n : EndName). IsHeard (party_at (across (side_of n)) stage.world).said event.what) is heard in
+    let from : IsHeard right.party.said event.what = subst (λ (s : Stage). IsHeard s.world.right.said event.what) (sym seen) there in
+    subst (λ (n : EndName). Happens n event number lost stage text (staged new right modes events begun)) (sym is)
+    (subst (λ (s : Stage). Happens name.A event number lost s text (staged new right modes events begun)) seen
+    (left_happens event number lost left right new text modes events begun here shared from))
+left_met at event number lost left right new (Err error) modes events begun stage is seen meets shared heard = tt
+
+pub right_met : {E : Type 0} (at : EndName) (event : Event) (number : ℕ) (lost : Bool) (left right new : Seat) (result : Result (List ℕ) E)
+    (modes : List Mode) (events : ℕ) (begun : Bool) (stage : Stage) → at ≡ name.B → staged left right modes events begun ≡ stage
+    → IfOk result (λ text. Meets at event number lost right text new) → right.modes ≡ modes
+    → IsHeard (party_at (across (side_of at)) stage.world).said event.what
+    → IfOk result (λ text. Happens at event number lost stage text (staged left new modes events begun))
+right_met at event number lost left right new (Ok text) modes events begun stage is seen meets shared heard =
+    let here : Meets name.B event number lost right text new = subst (λ (n : EndName). Meets n event number lost right text new) is meets in
+    let there : IsHeard (party_at (across (side_of name.B)) stage.world).said event.what =
+    subst (λ (n : EndName). IsHeard (party_at (across (side_of n)) stage.world).said event.what) is heard in
+    let from : IsHeard left.party.said event.what = subst (λ (s : Stage). IsHeard s.world.left.said event.what) (sym seen) there in
+    subst (λ (n : EndName). Happens n event number lost stage text (staged left new modes events begun)) (sym is)
+    (subst (λ (s : Stage). Happens name.B event number lost s text (staged left new modes events begun)) seen
+    (right_happens event number lost left right new text modes events begun here shared from))
+right_met at event number lost left right new (Err error) modes events begun stage is seen meets shared heard = tt
+
+-- the event that a line asks for
+pub record IsAskedAt (ask : Asked) (old : Stage) (event : Event) : Type 0 where
+  pub does : event.what ≡ ask.what
+  pub stamp : event.stamp ≡ unwrap_or ask.moment (party_at (side_of ask.end) old.world).end.moment
+  pub nonce : event.nonce ≡ old.events
+
+counted_on : (old mid new : Stage) (world : World) → old.begun ≡ true → mid ≡ record old { world = world } → new ≡ record mid { events = mid.events + 1 }
+    → new ≡ record old { world = world; events = old.events + 1; begun = true }
+counted_on old mid new world begun led counted = counted ∙ rw (led, begun) refl
+
+pub happened_makes : (ask : Asked) (event : Event) (old mid new : Stage) (text : List ℕ) → Happens ask.end event ask.number ask.lost old text mid
+    → old.begun ≡ true → IsAskedAt ask old event → new ≡ record mid { events = mid.events + 1 } → Makes ask old text new
+happened_makes ask event old mid new text happens begun is counted = record {
+  act = happens.act;
+  at = happens.here;
+  modes = happens.modes;
+  does = ap (λ (e : Event). e.what) happens.meets ∙ is.does;
+  stamp = ap (λ (e : Event). e.stamp) happens.meets ∙ is.stamp;
+  nonce = ap (λ (e : Event). e.nonce) happens.meets ∙ is.nonce;
+  lost = happens.loses;
+  may = happens.may;
+  says = happens.says;
+  leads = counted_on old mid new _ begun happens.leads counted;
+}
+
+-- where the modes are shared from this line on
+
+makes_begun : (ask : Asked) (old new : Stage) (text : List ℕ) → Makes ask (record old { begun = true }) text new → Makes ask old text new
+makes_begun ask old new text makes = record {
+  act = makes.act;
+  at = makes.at;
+  modes = makes.modes;
+  does = makes.does;
+  stamp = makes.stamp;
+  nonce = makes.nonce;
+  lost = makes.lost;
+  may = makes.may;
+  says = makes.says;
+  leads = makes.leads;
+}
+
+begun_performs : (doing : Doing) (old new : Stage) (result : Result (List ℕ) Refused) → Performs doing (record old { begun = true }) result new
+    → Performs doing old result new
+begun_performs Sets old new (Ok text) performs = performs
+begun_performs (Does ask) old new (Ok text) performs = (makes_begun ask old new text performs.0, performs.1)
+begun_performs (Says at words) old new (Ok text) performs = performs
+begun_performs doing old new (Err refused.TooMany) performs = performs
+begun_performs doing old new (Err refused.Wrong) performs = performs
+begun_performs doing old new (Err refused.NoMemory) performs = performs
+
+pub performs_from : (l : Line) (old mid new : Stage) (result : Result (List ℕ) Refused) → mid ≡ record old { begun = true }
+    → Performs (doing_of mid.world l) mid result new → Performs (doing_of old.world l) old result new
+performs_from l old mid new result begun performs =
+    begun_performs (doing_of old.world l) old new result
+    (subst (λ (s : Stage). Performs (doing_of s.world l) s result new) begun performs)
+
+-- a line that does something at an end is played
+
+right_at_end : (l : Line) (stage : Stage) → IsAtEnd l → IsTrue (is_line l) → length (line_text l) ≤ line_limit → is_right l stage ≡ true
+right_at_end l stage at said short =
+    and_from (is_line l) (nat_le (length (line_text l)) line_limit && is_placed l stage) said
+    (and_from (nat_le (length (line_text l)) line_limit) (is_placed l stage) (le-leb (length (line_text l)) line_limit short) (placed l at))
+  where
+    placed : (k : Line) → IsAtEnd k → is_placed k stage ≡ true
+    placed (line.Mode name way retries period) never = absurd never
+    placed k is = refl
+
+plays_at_end : (l : Line) (doing : Doing) (old new : Stage) (text : List ℕ) → IsAtEnd l → Acts doing old text new → Plays l doing old text new
+plays_at_end (line.Mode name way retries period) doing old new text never acts = absurd never
+plays_at_end l (Does ask) old new text at acts = acts
+plays_at_end l (Says end words) old new text at acts = acts
+plays_at_end l Sets old new text at never = absurd never
+
+-- what is said of a line that is played, or isn't
+pub record Turns (l : Line) (old new : Stage) (result : Result (List ℕ) Refused) : Type 0 where
+  pub right : IfOk result (λ _. (is_right l old ≡ true) × (is_too_many l old ≡ false))
+  pub plays : IfOk result (λ text. Plays l (doing_of old.world l) old text new)
+  pub wrong : result ≡ Err refused.Wrong → is_right l old ≡ false
+  pub too_many : result ≡ Err refused.TooMany → (is_right l old ≡ true) × (is_too_many l old ≡ true)
+
+pub at_end_turns : (l : Line) (old new : Stage) (result : Result (List ℕ) Refused) → IsAtEnd l → IsTrue (is_line l) → length (line_text l) ≤ line_limit
+    → Performs (doing_of old.world l) old result new → Turns l old new result
+at_end_turns l old new (Ok text) at said short performs = record {
+  right = (right_at_end l old at said short, performs.1);
+  plays = plays_at_end l (doing_of old.world l) old new text at performs.0;
+  wrong = λ never. absurd cc;
+  too_many = λ never. absurd cc;
+}
+at_end_turns l old new (Err refused.TooMany) at said short performs = record {
+  right = tt;
+  plays = tt;
+  wrong = λ never. absurd cc;
+  too_many = λ _. (right_at_end l old at said short, performs);
+}
+at_end_turns l old new (Err refused.Wrong) at said short never = absurd never
+at_end_turns l old new (Err refused.NoMemory) at said short performs = record {
+  right = tt;
+  plays = tt;
+  wrong = λ never. absurd cc;
+  too_many = λ never. absurd cc;
+}
+
+-- a line that names a mode
+
+-- what its words are
+pub record IsModeLine (name : List ℕ) (retries period : ℕ) : Type 0 where
+  pub named : IsTrue (is_name name)
+  pub limited : retries ≤ 1000
+  pub some : 1 ≤ period
+  pub timed : period ≤ 1000000000
+
+pub mode_line : (l : Line) (name : List ℕ) (way : Way) (retries period : ℕ) → l ≡ line.Mode name way retries period → IsTrue (is_line l)
+    → IsModeLine name retries period
+unfolding is_line
+mode_line l name way retries period is said =
+    let here : IsTrue (is_line (line.Mode name way retries period)) = subst (λ (k : Line). IsTrue (is_line k)) is said in
+    let first = and_parts (is_name name) (nat_le retries 1000 && (nat_le 1 period && nat_le period 1000000000)) here in
+    let second = and_parts (nat_le retries 1000) (nat_le 1 period && nat_le period 1000000000) first.1 in
+    let third = and_parts (nat_le 1 period) (nat_le period 1000000000) second.1 in
+    record {
+      named = first.0;
+      limited = leb-true retries 1000 second.0;
+      some = leb-true 1 period third.0;
+      timed = leb-true period 1000000000 third.1;
+    }
+
+-- a mode is added
+abbrev pub Adds : List ℕ → Way → ℕ → ℕ → Stage → List ℕ → Stage → Type 0
+Adds name way retries period old text new =
+    (text ≡ []) × ((mode : Mode) × IsDrillMode name way retries period mode × (new ≡ record old { modes = old.modes ++ mode ∷ [] }))
+
+no_event : (name : List ℕ) (way : Way) (retries period : ℕ) (stage : Stage) → is_too_many (line.Mode name way retries period) stage ≡ false
+unfolding doing_of
+no_event name way retries period stage = refl
+
+right_mode : (l : Line) (stage : Stage) (placed : Bool) → IsTrue (is_line l) → length (line_text l) ≤ line_limit → is_placed l stage ≡ placed → is_right l stage ≡ placed
+right_mode l stage placed said short is =
+    let long : nat_le (length (line_text l)) line_limit ≡ true = le-leb (length (line_text l)) line_limit short in
+    rw (said, long, is) refl
+
+added_turns : (name : List ℕ) (way : Way) (retries period : ℕ) (old new : Stage) (result : Result (List ℕ) Refused)
+    → IsTrue (is_line (line.Mode name way retries period)) → length (line_text (line.Mode name way retries period)) ≤ line_limit
+    → IfOk result (λ _. is_placed (line.Mode name way retries period) old ≡ true)
+    → IfOk result (λ text. Adds name way retries period old text new)
+    → (result ≡ Err refused.Wrong → is_placed (line.Mode name way retries period) old ≡ false)
+    → result ≢ Err refused.TooMany → Turns (line.Mode name way retries period) old new result
+added_turns name way retries period old new (Ok text) said short placed adds wrong few = record {
+  right = (right_mode (line.Mode name way retries period) old true said short placed, no_event name way retries period old);
+  plays = (adds.1.0, adds.1.1, adds.0, adds.1.2);
+  wrong = λ never. absurd cc;
+  too_many = λ never. absurd cc;
+}
+added_turns name way retries period old new (Err error) said short placed adds wrong few = record {
+  right = tt;
+  plays = tt;
+  wrong = λ is. right_mode (line.Mode name way retries period) old false said short (wrong is);
+  too_many = λ many. absurd (few many);
+}
+
+pub mode_turns : (l : Line) (name : List ℕ) (way : Way) (retries period : ℕ) (old new : Stage) (result : Result (List ℕ) Refused)
+    → l ≡ line.Mode name way retries period → IsTrue (is_line l) → length (line_text l) ≤ line_limit
+    → IfOk result (λ _. is_placed (line.Mode name way retries period) old ≡ true)
+    → IfOk result (λ text. Adds name way retries period old text new)
+    → (result ≡ Err refused.Wrong → is_placed (line.Mode name way retries period) old ≡ false)
+    → result ≢ Err refused.TooMany → Turns l old new result
+mode_turns l name way retries period old new result is said short placed adds wrong few =
+    subst (λ (k : Line). Turns k old new result) (sym is)
+    (added_turns name way retries period old new result
+    (subst (λ (k : Line). IsTrue (is_line k)) is said) (subst (λ (k : Line). length (line_text k) ≤ line_limit) is short)
+    placed adds wrong few)

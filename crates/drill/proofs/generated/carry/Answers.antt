@@ -1,0 +1,34 @@
+use Rattle.std.proofs.Common.{arith}
+use Rattle.drill.specs.Generated.{Leads, carried}
+use Rattle.drill_script.specs.declared.line.Line.TheVariants as line
+use Rattle.std.specs.Prelude.{[], ◌∷◌}
+use Rattle.drill.proofs.GeneratedLemmas.{came_right, came_said, came_short, carried_twice, goes_on, lost_right, lost_said, lost_short}
+use Rattle.drill.proofs.generated.carry.Goals as goal
+
+pub play_one-requires-clause-spelled : goal.play_one-requires-clause-spelled
+play_one-requires-clause-spelled c = came_said c.args.end c.args.place (omega arith)
+
+pub play_one-requires-clause-short : goal.play_one-requires-clause-short
+play_one-requires-clause-short c = came_short c.args.end c.args.place (omega arith)
+
+pub play_one-requires-clause-right : goal.play_one-requires-clause-right
+play_one-requires-clause-right c = came_right c.args.end c.args.place c.args.stage.now (omega arith)
+
+pub play_one-requires-then-counter-eq4-clause-spelled : goal.play_one-requires-then-counter-eq4-clause-spelled
+play_one-requires-then-counter-eq4-clause-spelled c = lost_said c.args.end c.args.place (omega arith)
+
+pub play_one-requires-then-counter-eq4-clause-short : goal.play_one-requires-then-counter-eq4-clause-short
+play_one-requires-then-counter-eq4-clause-short c = lost_short c.args.end c.args.place (omega arith)
+
+pub play_one-requires-then-counter-eq4-clause-right : goal.play_one-requires-then-counter-eq4-clause-right
+play_one-requires-then-counter-eq4-clause-right c = lost_right c.args.end c.args.place c.play_one.new.stage (omega arith)
+
+pub returns-then-counter-eq4 : goal.returns-then-counter-eq4
+returns-then-counter-eq4 c =
+    goes_on c.play_one-then-counter-eq4.result (line.Came c.args.end c.args.place ∷ []) c.args.stage.now c.play_one.new.stage
+    (λ _. Leads (line.Lost c.args.end c.args.place ∷ []) c.play_one.new.stage c.play_one-then-counter-eq4.new.stage)
+    (λ _. Leads (carried c.args.counter c.args.end c.args.place) c.args.stage.now c.play_one-then-counter-eq4.new.stage)
+    c.in_ok-play_one.ensures
+    (λ _ lost. carried_twice c.args.counter c.args.end c.args.place c.args.stage.now c.play_one.new.stage c.play_one-then-counter-eq4.new.stage
+    c.if-counter-eq2.false c.if-counter-eq4.true c.in_ok-play_one.ensures lost)
+    c.play_one-then-counter-eq4.ensures

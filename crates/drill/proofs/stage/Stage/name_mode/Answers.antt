@@ -1,0 +1,21 @@
+use Rattle.std.proofs.Common.{◌<◌, length, arith, refl, sym, ◌∙◌}
+use Rattle.drill.proofs.NameLemmas.{modes_more}
+use Rattle.drill.proofs.stage.Stage.name_mode.Goals as goal
+
+pub invariant_of-self-2 : goal.invariant_of-self-2
+invariant_of-self-2 c =
+    let added = c.in_ok-add_mode.ensures.adds in
+    let few : length c.self.inside.modes.items < 1024 = rw (← c.as_slice.ensures.value) (omega arith) in
+    record {
+      made = modes_more c.self.inside.modes.items c.add_mode.new.modes.items c.args.name.now c.args.way c.args.retries c.args.period added.0
+          c.self.invariant.made few
+          (rw c.as_slice.ensures.value at (sym c.is_named.ensures ∙ c.if-is_named.false)) added.1 added.2;
+      few = c.self.invariant.few;
+      shared = λ begun. absurd (cc (begun, c.if-self.false));
+      new = c.self.invariant.new;
+    }
+
+pub returns-clause-adds : goal.returns-clause-adds
+returns-clause-adds c =
+    let added = c.in_ok-add_mode.ensures.adds in
+    (c.of.ensures ∙ c.new.ensures.items, (added.0, added.1, rw (← c.self.view_is, added.2) refl))

@@ -1,0 +1,68 @@
+-- How a drill ends: what it has read, and what it has written then.
+use Rattle.std.specs.Prelude.{◌≡◌, ℕ, ◌+◌, ◌<◌, ◌≤◌, ◌⊎◌, List, [], ◌∷◌, ◌++◌, true, false, Option, length}
+use Rattle.as4_flow.specs.Faults.{Rose}
+use Rattle.as4_flow.specs.Told.{Told, behind, TakesFront}
+use Rattle.drill.specs.Transcript.{Stage, PlaysAll, new_stage, script_text, end_lines, is_right, is_too_many, lines_limit}
+use Rattle.drill.specs.declared.script.DrillEnd.{DrillEnd}
+use Rattle.drill.specs.declared.script.DrillEnd.TheVariants as ends
+use Rattle.drill_script.specs.LineText.{line_text}
+use Rattle.drill_script.specs.declared.line.Line.{Line}
+
+-- a source and a sink before and after: what the source had left, how often each had failed, what the sink had taken
+pub record Streams : Type 0 where
+  pub left : Option (List ℕ)
+  pub taken : Option (List ℕ)
+  pub later : Option (List ℕ)
+  pub read_faults : ℕ
+  pub later_read_faults : ℕ
+  pub write_faults : ℕ
+  pub later_write_faults : ℕ
+
+-- these lines were played, and this is behind them
+abbrev pub Reads : List Line → List ℕ → Streams → Type 0
+Reads lines rest streams = Told streams.left (λ script. script ≡ script_text lines ++ rest)
+
+-- these lines, and what they wrote
+pub record Played (lines : List Line) (text : List ℕ) (stage : Stage) : Type 0 where
+  pub plays : PlaysAll lines new_stage text stage
+  pub few : length lines ≤ lines_limit
+
+-- no line of the grammar stands here in its place
+abbrev pub IsOutside : List Line → Stage → List ℕ → Type 0
+IsOutside lines stage rest =
+    (0 < length rest)
+    × ((length lines ≡ lines_limit)
+    ⊎ ((l : Line) (more : List ℕ) → rest ≡ line_text l ++ 10 ∷ more → is_right l stage ≡ false))
+
+-- a line stands here that makes one event too many
+abbrev pub IsTooMuch : List Line → Stage → List ℕ → Type 0
+IsTooMuch lines stage rest =
+    (l : Line) × (more : List ℕ) × (rest ≡ line_text l ++ 10 ∷ more) × (is_right l stage ≡ true)
+    × (is_too_many l stage ≡ true) × (length lines < lines_limit)
+
+-- by what was played: its text was written, and what comes behind it is as said
+abbrev pub EndsAt : DrillEnd → List Line → List ℕ → Stage → Streams → Type 0
+EndsAt ends.Read lines text stage streams =
+    Reads lines [] streams × (streams.later ≡ behind streams.taken (text ++ end_lines stage.world))
+EndsAt (ends.Line number) lines text stage streams =
+    (number ≡ length lines + 1) × (streams.later ≡ behind streams.taken text)
+    × Told streams.left (λ script. (rest : List ℕ) × (script ≡ script_text lines ++ rest) × IsOutside lines stage rest)
+EndsAt ends.TooMany lines text stage streams =
+    (streams.later ≡ behind streams.taken text)
+    × Told streams.left (λ script. (rest : List ℕ) × (script ≡ script_text lines ++ rest) × IsTooMuch lines stage rest)
+EndsAt ends.ReadFault lines text stage streams =
+    (streams.later ≡ behind streams.taken text) × Rose streams.read_faults streams.later_read_faults
+    × Told streams.left (λ script. (rest : List ℕ) × (script ≡ script_text lines ++ rest))
+EndsAt ends.WriteFault lines text stage streams =
+    Rose streams.write_faults streams.later_write_faults
+    × ((TakesFront text streams.taken streams.later
+    × Told streams.left (λ script. (rest : List ℕ) × (script ≡ script_text lines ++ rest)))
+    ⊎ (TakesFront (text ++ end_lines stage.world) streams.taken streams.later × Reads lines [] streams))
+EndsAt ends.NoMemory lines text stage streams =
+    (streams.later ≡ behind streams.taken text)
+    × Told streams.left (λ script. (rest : List ℕ) × (script ≡ script_text lines ++ rest))
+
+-- how a drill ends
+abbrev pub Ends : DrillEnd → Streams → Type 0
+Ends end streams =
+    (lines : List Line) × (text : List ℕ) × (stage : Stage) × Played lines text stage × EndsAt end lines text stage streams

@@ -1,0 +1,48 @@
+-- What a line of a script does at an end.
+use Rattle.std.specs.Prelude.{ℕ, List, Bool, false, Option, Some, None, option_map, codes, slice_get}
+use Rattle.as4_values.specs.declared.message.Message.{Message}
+use Rattle.drill_script.specs.declared.line.EndName.{EndName}
+use Rattle.drill_script.specs.declared.line.EndName.TheVariants as name
+use Rattle.exchange_model.specs.LosslessRound.{party_at, across}
+use Rattle.exchange_model.specs.Questions.{sent_at}
+use Rattle.exchange_model.specs.World.{Side, Left, Right, World}
+use Rattle.exchange_model.specs.declared.what.What.{What}
+use Rattle.exchange_model.specs.declared.what.What.TheVariants as what
+
+abbrev pub side_of : EndName → Side
+side_of name.A = Left
+side_of name.B = Right
+
+-- what a line asks of an end: an event, the moment that it sets, whether the reply is lost, and the number that the
+-- line names
+pub record Asked : Type 0 where
+  pub end : EndName
+  pub what : What
+  pub moment : Option ℕ
+  pub lost : Bool
+  pub number : ℕ
+
+abbrev pub asked : EndName → ℕ → What → Asked
+asked end number w = record { end = end; what = w; moment = None; lost = false; number = number }
+
+-- what a line does: it sets a mode, asks for an event, or only has something said of an end
+pub data Doing : Type 0 where
+  Sets : Doing
+  Does : Asked → Doing
+  Says : EndName → List ℕ → Doing
+
+abbrev pub comes : EndName → Bool → Option Message → Doing
+comes end lost None = Says end (codes "no-package")
+comes end lost (Some message) = Does (record { end = end; what = what.Came message; moment = None; lost = lost; number = 0 })
+
+abbrev pub tells : EndName → ℕ → List ℕ → Option (List ℕ) → Doing
+tells end number unknown None = Says end unknown
+tells end number unknown (Some id) = Does (asked end number (what.Status id))
+
+-- the package of a number that the other end sent
+abbrev pub package_for : EndName → ℕ → World → Option Message
+package_for end number world = slice_get (party_at (across (side_of end)) world).said number
+
+abbrev pub id_at : EndName → ℕ → World → Option (List ℕ)
+id_at end number world =
+    option_map (λ s. s.submission.header.id) (sent_at number (party_at (side_of end) world).end.sent)

@@ -1,0 +1,101 @@
+-- The world that a seed and a count generate: a script that writes itself, by what the ends have sent so far.
+--
+-- Both ends have the mode `invoice`, which pushes with 10 retries and a period of 3,000 milliseconds. End a submits so
+-- many messages. In each of eleven rounds its clock is set to 3,000 times the round, from 0, and it takes until there is
+-- nothing to be pushed. A counter begins at 0, and each package that is carried takes its number c and raises it by one:
+-- the package is lost where c mod 3 is 2; else it comes, and where c mod 5 is 4 it comes once more, with the reply lost.
+-- What is answered to a message that came is carried next, by the same rule. Last, a's clock is set to 33,000.
+use Rattle.std.specs.Prelude.{◌≡◌, ℕ, zero, suc, ◌+◌, ◌*◌, ◌/◌, ◌%◌, ◌^◌, ◌==◌, List, [], ◌∷◌, ◌++◌, true, if◌then◌else◌, None, IsSome, length, codes}
+use Rattle.as4_effects.specs.declared.queue.Queue.TheVariants as queue
+use Rattle.as4_flow.specs.Faults.{Rose}
+use Rattle.as4_flow.specs.Told.{behind, TakesFront}
+use Rattle.drill.specs.Ends.{Streams}
+use Rattle.drill.specs.Transcript.{Stage, PlaysAll, new_stage, end_lines, is_too_many}
+use Rattle.drill.specs.declared.script.DrillEnd.{DrillEnd}
+use Rattle.drill.specs.declared.script.DrillEnd.TheVariants as ends
+use Rattle.drill_script.specs.declared.line.EndName.{EndName}
+use Rattle.drill_script.specs.declared.line.EndName.TheVariants as name
+use Rattle.drill_script.specs.declared.line.Line.{Line}
+use Rattle.drill_script.specs.declared.line.Line.TheVariants as line
+use Rattle.drill_script.specs.declared.line.ScriptLoad.TheVariants.{Size}
+use Rattle.drill_script.specs.declared.line.Way.TheVariants.{Push}
+use Rattle.exchange_model.specs.Questions.{head_of}
+
+abbrev pub invoice : List ℕ
+invoice = codes "invoice"
+
+-- the numbers that follow a seed (a linear congruential sequence)
+unfoldable pub next_number : ℕ → ℕ
+next_number x = (x * 6364136223846793005 + 1442695040888963407) % 2 ^ 64
+
+-- how many bytes a message has
+abbrev pub size_by : ℕ → ℕ → ℕ
+size_by seed x = if seed == 0 then 40960 else (x / 2 ^ 33) % 40961
+
+-- so many submissions, where the last number was x
+abbrev pub submissions : ℕ → ℕ → ℕ → List Line
+submissions seed x zero = []
+submissions seed x (suc count) =
+    line.Submit name.A invoice (Size (size_by seed (next_number x))) ∷ submissions seed (next_number x) count
+
+-- a package is carried to an end with this number of the counter
+abbrev pub carried : ℕ → EndName → ℕ → List Line
+carried c end place =
+    if c % 3 == 2 then [] else line.Came end place ∷ (if c % 5 == 4 then line.Lost end place ∷ [] else [])
+
+-- end a takes its package of the first place, and it is carried; what end b answers has the second place
+abbrev pub leg : ℕ → ℕ → ℕ → List Line
+leg c place answer =
+    line.Take name.A ∷ (if c % 3 == 2 then [] else carried c name.B place ++ carried (c + 1) name.A answer)
+
+-- the counter behind it
+abbrev pub counted : ℕ → ℕ
+counted c = if c % 3 == 2 then c + 1 else c + 2
+
+-- the lines are played, whatever they write
+abbrev pub Leads : List Line → Stage → Stage → Type 0
+Leads lines old new = (text : List ℕ) × PlaysAll lines old text new
+
+-- end a takes so many packages, and then there is nothing
+abbrev pub TakesAll : ℕ → ℕ → Stage → ℕ → Stage → Type 0
+TakesAll zero c old later new =
+    (head_of queue.Push old.world.left.end ≡ None) × Leads (line.Take name.A ∷ []) old new × (later ≡ c)
+TakesAll (suc takes) c old later new =
+    (mid : Stage) × IsSome (head_of queue.Push old.world.left.end)
+    × Leads (leg c (length old.world.left.said) (length old.world.right.said)) old mid
+    × TakesAll takes (counted c) mid later new
+
+abbrev pub ticks_a : ℕ → List Line
+ticks_a moment = line.Tick name.A moment ∷ []
+
+-- so many rounds from this one on
+abbrev pub Rounds : ℕ → ℕ → ℕ → Stage → Stage → Type 0
+Rounds zero round c old new = new ≡ old
+Rounds (suc rounds) round c old new =
+    (begun : Stage) × (done : Stage) × (takes : ℕ) × (later : ℕ) × Leads (ticks_a (3000 * round)) old begun
+    × TakesAll takes c begun later done × Rounds rounds (suc round) later done new
+
+-- what the seed and the count lead to
+abbrev pub IsGenerated : ℕ → ℕ → Stage → Type 0
+IsGenerated seed count stage =
+    (begun : Stage) × (done : Stage)
+    × Leads (line.Mode invoice Push 10 3000 ∷ submissions seed seed count) new_stage begun
+    × Rounds 11 0 0 begun done × Leads (ticks_a 33000) done stage
+
+-- some script comes to a line that makes one event too many
+abbrev pub IsTooLong : Type 0
+IsTooLong =
+    (lines : List Line) × (text : List ℕ) × (stage : Stage) × (l : Line) × PlaysAll lines new_stage text stage
+    × (is_too_many l stage ≡ true)
+
+-- how the generated world ends: the numbers of both ends are written
+abbrev pub GeneratedEnds : ℕ → ℕ → DrillEnd → Streams → Type 0
+GeneratedEnds seed count ends.Read streams =
+    (stage : Stage) × IsGenerated seed count stage × (streams.later ≡ behind streams.taken (end_lines stage.world))
+GeneratedEnds seed count ends.WriteFault streams =
+    (stage : Stage) × IsGenerated seed count stage × Rose streams.write_faults streams.later_write_faults
+    × TakesFront (end_lines stage.world) streams.taken streams.later
+GeneratedEnds seed count ends.TooMany streams = IsTooLong × (streams.later ≡ streams.taken)
+GeneratedEnds seed count ends.NoMemory streams = streams.later ≡ streams.taken
+GeneratedEnds seed count ends.ReadFault streams = ⊥
+GeneratedEnds seed count (ends.Line number) streams = ⊥

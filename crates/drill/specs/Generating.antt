@@ -1,0 +1,53 @@
+-- On the way to the world that a seed and a count generate.
+use Rattle.std.specs.Prelude.{◌≡◌, ℕ, ◌+◌, ◌*◌, List, [], ◌∷◌, ◌++◌, ◌%◌, ◌==◌, Bool, true, false, if◌then◌else◌, None, Option, Some, IsSome, Ok, Err, Result, codes, length}
+use Rattle.as4_effects.specs.declared.queue.Queue.TheVariants as queue
+use Rattle.drill.specs.Generated.{IsTooLong, Leads, TakesAll, carried, counted, leg, ticks_a}
+use Rattle.drill.specs.Transcript.{Plays, Stage, doing_of, new_stage}
+use Rattle.drill.specs.declared.refused.Refused.{Refused}
+use Rattle.drill.specs.declared.refused.Refused.TheVariants as refused
+use Rattle.drill_script.specs.declared.line.EndName.TheVariants as name
+use Rattle.drill_script.specs.declared.line.Line.{Line}
+use Rattle.drill_script.specs.declared.line.Line.TheVariants as line
+use Rattle.exchange_model.specs.Questions.{head_of}
+use Rattle.exchange_model.specs.declared.sent.Sent.{Sent}
+
+-- some lines lead here
+abbrev pub IsReached : Stage → Type 0
+IsReached stage = (lines : List Line) × Leads lines new_stage stage
+
+-- the stage goes on so, or memory ran out, or a line made one event too many
+abbrev pub Goes : {X : Type 0} → Result X Refused → Stage → (X → Type 0) → Type 0
+Goes (Ok x) old P = P x
+Goes (Err refused.TooMany) old P = IsReached old → IsTooLong
+Goes (Err refused.Wrong) old P = ⊥
+Goes (Err refused.NoMemory) old P = Unit {0}
+
+-- what a package and what is answered to it lead to
+abbrev pub carried_both : ℕ → ℕ → ℕ → List Line
+carried_both c place answer =
+    if c % 3 == 2 then [] else carried c name.B place ++ carried (c + 1) name.A answer
+
+-- a leg was played, or there was nothing to take
+abbrev pub Legs : ℕ → Stage → Stage → Option ℕ → Type 0
+Legs c old new None = (head_of queue.Push old.world.left.end ≡ None) × Leads (line.Take name.A ∷ []) old new
+Legs c old new (Some later) =
+    (later ≡ counted c) × IsSome (head_of queue.Push old.world.left.end)
+    × Leads (leg c (length old.world.left.said) (length old.world.right.said)) old new
+
+-- whether there is a head
+abbrev pub IsHead : Bool → Option Sent → Type 0
+IsHead true head = IsSome head
+IsHead false head = head ≡ None
+
+-- one round
+abbrev pub IsRound : ℕ → ℕ → Stage → ℕ → Stage → Type 0
+IsRound round c old later new =
+    (begun : Stage) × (takes : ℕ) × Leads (ticks_a (3000 * round)) old begun × TakesAll takes c begun later new
+
+-- a line is played, and this is its text
+abbrev pub Turns : Line → Stage → List ℕ → Stage → Type 0
+Turns l old text new = Leads (l ∷ []) old new × Plays l (doing_of old.world l) old text new
+
+-- what is written where there is nothing to be pushed
+abbrev pub nothing_line : List ℕ
+nothing_line = codes "a nothing" ++ 10 ∷ []

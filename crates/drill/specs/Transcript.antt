@@ -1,0 +1,106 @@
+-- What a drill writes for a script: each line makes an event at one of two ends, whose steps are the machine's.
+use Rattle.std.specs.Prelude.{◌≡◌, ℕ, ◌+◌, List, [], ◌∷◌, ◌++◌, Bool, true, false, not, ◌&&◌, nat_lt, nat_le, IsTrue, Some, length, codes}
+use Rattle.std.specs.List.{flat_map, list_any}
+use Rattle.std.specs.Option.{unwrap_or}
+use Rattle.std.specs.Str.{bytes_eq}
+use Rattle.as4_values.specs.declared.mode.Mode.{Mode}
+use Rattle.drill.specs.Events.{Asked, Doing, Sets, Does, Says, asked, comes, tells, package_for, id_at, side_of}
+use Rattle.drill_script.specs.LineText.{line_text, is_line, line_limit}
+use Rattle.drill_script.specs.declared.line.EndName.TheVariants as name
+use Rattle.drill_script.specs.declared.line.Line.{Line}
+use Rattle.drill_script.specs.declared.line.Line.TheVariants as line
+use Rattle.drill_texts.specs.Loads.{loads_of}
+use Rattle.drill_texts.specs.Modes.{IsDrillMode}
+use Rattle.drill_texts.specs.Texts.{said_line, reply_text, status_text, end_line}
+use Rattle.exchange_model.specs.LosslessRound.{party_at}
+use Rattle.exchange_model.specs.World.{Act, World, MayHappenAt, new_world, world_at}
+use Rattle.exchange_model.specs.declared.what.What.TheVariants as what
+
+-- what a script has led to: two ends with their modes, how many events were made, and whether a line was more than a
+-- mode
+pub record Stage : Type 0 where
+  pub world : World
+  pub modes : List Mode
+  pub events : ℕ
+  pub begun : Bool
+
+abbrev pub new_stage : Stage
+new_stage = record { world = new_world; modes = []; events = 0; begun = false }
+
+-- what a line does
+unfoldable pub doing_of : World → Line → Doing
+doing_of world (line.Mode name way retries period) = Sets
+doing_of world (line.Submit end mode load) = Does (asked end 0 (what.Submit mode (Some (codes "c")) (loads_of load)))
+doing_of world (line.Tick end moment) =
+    Does (record { end = end; what = what.Tick; moment = Some moment; lost = false; number = 0 })
+doing_of world (line.Take end) = Does (asked end 0 what.Take)
+doing_of world (line.Ask end mode) = Does (asked end 0 (what.Ask mode))
+doing_of world (line.Came end number) = comes end false (package_for end number world)
+doing_of world (line.Lost end number) = comes end true (package_for end number world)
+doing_of world (line.Read end number) = Does (asked end number (what.Read number))
+doing_of world (line.Confirm end number) = Does (asked end number (what.Confirm number))
+doing_of world (line.Status end number) =
+    tells end number (status_text number (codes "unknown")) (id_at end number world)
+
+-- an event at an end: its nonce is its number among all events, its moment is the end's where the line sets none
+pub record Makes (ask : Asked) (old : Stage) (text : List ℕ) (new : Stage) : Type 0 where
+  pub act : Act
+  pub at : act.side ≡ side_of ask.end
+  pub modes : act.modes ≡ old.modes
+  pub does : act.event.what ≡ ask.what
+  pub stamp : act.event.stamp ≡ unwrap_or ask.moment (party_at (side_of ask.end) old.world).end.moment
+  pub nonce : act.event.nonce ≡ old.events
+  pub lost : act.lost ≡ ask.lost
+  pub may : MayHappenAt (side_of ask.end) act old.world
+  pub says : text ≡ said_line ask.end
+      (reply_text ask.number ask.lost (length (party_at (side_of ask.end) old.world).said) act.outcome.reply)
+  pub leads : new ≡ record old { world = world_at (side_of ask.end) act old.world; events = old.events + 1; begun = true }
+
+abbrev pub Plays : Line → Doing → Stage → List ℕ → Stage → Type 0
+Plays (line.Mode name way retries period) doing old text new =
+    (mode : Mode) × IsDrillMode name way retries period mode × (text ≡ [])
+    × (new ≡ record old { modes = old.modes ++ mode ∷ [] })
+Plays l (Does ask) old text new = Makes ask old text new
+Plays l (Says end words) old text new = (text ≡ said_line end words) × (new ≡ record old { begun = true })
+Plays l Sets old text new = ⊥
+
+-- modes come first, at most 1,024, each name once
+abbrev pub is_placed : Line → Stage → Bool
+is_placed (line.Mode name way retries period) stage =
+    not stage.begun && (nat_lt (length stage.modes) 1024 && not (list_any (λ (mode : Mode). bytes_eq mode.name name) stage.modes))
+is_placed l stage = true
+
+abbrev pub is_event : Doing → Bool
+is_event (Does ask) = true
+is_event other = false
+
+-- how many events a script may make
+abbrev pub events_limit : ℕ
+events_limit = 100000
+
+-- the line is in the grammar, in its place
+abbrev pub is_right : Line → Stage → Bool
+is_right l stage = is_line l && (nat_le (length (line_text l)) line_limit && is_placed l stage)
+
+-- one line too many
+abbrev pub is_too_many : Line → Stage → Bool
+is_too_many l stage = is_event (doing_of stage.world l) && nat_le events_limit stage.events
+
+-- these lines, one after another
+abbrev pub PlaysAll : List Line → Stage → List ℕ → Stage → Type 0
+PlaysAll [] old text new = (text ≡ []) × (new ≡ old)
+PlaysAll (l ∷ lines) old text new =
+    (mid : Stage) × (words : List ℕ) × (rest : List ℕ) × IsTrue (is_right l old) × (is_too_many l old ≡ false)
+    × Plays l (doing_of old.world l) old words mid × PlaysAll lines mid rest new × (text ≡ words ++ rest)
+
+-- each line ends in LF
+abbrev pub script_text : List Line → List ℕ
+script_text lines = flat_map (λ l. line_text l ++ 10 ∷ []) lines
+
+-- how many lines a script may have
+abbrev pub lines_limit : ℕ
+lines_limit = 1000000
+
+-- the numbers of both ends
+abbrev pub end_lines : World → List ℕ
+end_lines world = end_line name.A world.left.end ++ end_line name.B world.right.end

@@ -1,0 +1,18 @@
+//! A script of two ends is run, and what happens is written down.
+#![tactic(auto)]
+
+mod generated;
+mod laws;
+mod naming;
+mod next;
+mod player;
+mod playing;
+mod refused;
+mod script;
+mod stage;
+#[cfg(test)]
+mod tests;
+
+pub use generated::generate;
+pub use laws::a_drill_delivers_once;
+pub use script::{DrillEnd, drill};

@@ -1,0 +1,234 @@
+//! What each line of a script does.
+ghost use Rattle.std.specs.Prelude.{◌≡◌, ◌≢◌, ◌<◌, ◌≤◌, ◌∷◌, [], ◌++◌, Err, IfOk, IfSome, IsTrue, Some, codes, false, length, true};
+ghost use Rattle.std.specs.Option.{unwrap_or};
+ghost use Rattle.as4_values.specs.declared.mode.Mode.{Mode as ModeValue};
+ghost use Rattle.drill.specs.Events.{Does, asked, comes, id_at, package_for, side_of, tells};
+ghost use Rattle.drill.specs.Stages.{IsAtEnd, Performs};
+ghost use Rattle.drill.specs.Transcript.{Makes, Plays, doing_of, is_placed, is_right, is_too_many};
+ghost use Rattle.drill_script.specs.LineText.{is_line, is_load, is_name, line_limit, line_text};
+ghost use Rattle.drill_texts.specs.Loads.{loads_of};
+ghost use Rattle.drill_texts.specs.Modes.{IsDrillMode};
+ghost use Rattle.drill_texts.specs.Texts.{status_text};
+ghost use Rattle.exchange_model.specs.Coming.{may_come};
+ghost use Rattle.exchange_model.specs.LosslessRound.{across, party_at};
+ghost use Rattle.exchange_model.specs.World.{IsHeard};
+ghost use Rattle.exchange_model.specs.declared.what.What.TheVariants as what;
+
+use crate::naming::{add_mode, is_named, name_text, plain_text};
+use crate::refused::Refused;
+use crate::stage::Stage;
+use as4_values::{MAX_MOMENT, NoMemory, Octets, PlainData};
+use drill_script::{EndName, Line, ScriptLoad, Way};
+use drill_texts::{loads_of, no_package_line, unknown_line};
+use exchange_model::{Event, What};
+use std::alloc::Global;
+
+/// How many modes a script names at most.
+const MAX_MODES: usize = 1024;
+
+/// How many events a script makes at most.
+const MAX_EVENTS: u64 = 100_000;
+
+impl Stage {
+    /// Plays a line, and gives what it writes.
+    pub fn play(&mut self, line: &Line) -> Result<Octets, Refused>
+        requires spelled { IsTrue (is_line line.now) }
+        requires short { length (line_text line.now) ≤ line_limit }
+        ensures right { IfOk result (λ _. (is_right line.now self.old ≡ true) × (is_too_many line.now self.old ≡ false)) }
+        ensures plays { IfOk result (λ text. Plays line.now (doing_of self.old.world line.now) self.old text self.new) }
+        ensures wrong { result ≡ Err Refused.Wrong → is_right line.now self.old ≡ false }
+        ensures too_many { result ≡ Err Refused.TooMany
+            → (is_right line.now self.old ≡ true) × (is_too_many line.now self.old ≡ true) }
+    {
+        match line {
+            Line::Mode {
+                name,
+                way,
+                retries,
+                period,
+            } => self.name_mode(name, *way, *retries, *period),
+            other => self.play_at_end(other),
+        }
+    }
+
+    /// Both ends get a mode, where the script has only named modes so far.
+    fn name_mode(
+        &mut self,
+        name: &Octets,
+        way: Way,
+        retries: u32,
+        period: u64,
+    ) -> Result<Octets, Refused>
+        requires named { IsTrue (is_name name.now) }
+        requires retries { retries ≤ 1000 }
+        requires begun { 1 ≤ period }
+        requires period { period ≤ 1000000000 }
+        ensures placed { IfOk result (λ _. is_placed (Line.Mode name.now way retries period) self.old ≡ true) }
+        ensures adds { IfOk result (λ text. (text ≡ []) × ((mode : ModeValue) × IsDrillMode name.now way retries period mode
+            × (self.new ≡ record self.old { modes = self.old.modes ++ mode ∷ [] }))) }
+        ensures wrong { result ≡ Err Refused.Wrong → is_placed (Line.Mode name.now way retries period) self.old ≡ false }
+        ensures few { result ≢ Err Refused.TooMany }
+    {
+        if self.begun || self.modes.len() >= MAX_MODES || is_named(self.modes.as_slice(), name) {
+            return Err(Refused::Wrong);
+        }
+        add_mode(self.alloc, &mut self.modes, name, way, retries, period)?;
+        Ok(Octets::of(Vec::new(self.alloc)))
+    }
+
+    /// What a line does that names no mode.
+    #[tactic(auto, using(crate::proofs::StageLemmas::performs_from))]
+    fn play_at_end(&mut self, line: &Line) -> Result<Octets, Refused>
+        requires spelled { IsTrue (is_line line.now) }
+        requires other { IsAtEnd line.now }
+        ensures { Performs (doing_of self.old.world line.now) self.old result self.new }
+    {
+        self.begin()?;
+        self.play_begun(line)
+    }
+
+    /// What such a line does where both ends have their modes.
+    #[tactic(auto, unfolding(crate::specs::Transcript::doing_of, drill_script::specs::LineText::is_line, exchange_model::specs::Coming::may_come))]
+    fn play_begun(&mut self, line: &Line) -> Result<Octets, Refused>
+        requires spelled { IsTrue (is_line line.now) }
+        requires other { IsAtEnd line.now }
+        requires begun { self.old.begun ≡ true }
+        ensures { Performs (doing_of self.old.world line.now) self.old result self.new }
+    {
+        match line {
+            Line::Mode { .. } => unreachable!(),
+            Line::Submit { end, mode, load } => self.submit(*end, mode, load),
+            Line::Tick { end, moment } => self.make(*end, Some(*moment), What::Tick, false, 0),
+            Line::Take { end } => self.make(*end, None, What::Take, false, 0),
+            Line::Ask { end, mode } => self.ask(*end, mode),
+            Line::Came { end, package } => self.receive(*end, *package, false),
+            Line::Lost { end, package } => self.receive(*end, *package, true),
+            Line::Read { end, number } => {
+                self.make(*end, None, What::Read { n: *number }, false, *number)
+            }
+            Line::Confirm { end, number } => {
+                self.make(*end, None, What::Confirm { upto: *number }, false, *number)
+            }
+            Line::Status { end, number } => self.tell(*end, *number),
+        }
+    }
+
+    /// A message is handed in.
+    #[tactic(auto, unfolding(exchange_model::specs::Coming::may_come))]
+    fn submit(&mut self, end: EndName, mode: &Octets, load: &ScriptLoad) -> Result<Octets, Refused>
+        requires named { IsTrue (is_name mode.now) }
+        requires loaded { IsTrue (is_load load.now) }
+        requires begun { self.old.begun ≡ true }
+        ensures { Performs (Does (asked end 0 (what.Submit mode.now (Some (codes "c")) (loads_of load.now)))) self.old result self.new }
+    {
+        let what = submission(self.alloc, mode, load)?;
+        self.make(end, None, what, false, 0)
+    }
+
+    /// A pull request is asked for.
+    #[tactic(auto, unfolding(exchange_model::specs::Coming::may_come))]
+    fn ask(&mut self, end: EndName, mode: &Octets) -> Result<Octets, Refused>
+        requires named { IsTrue (is_name mode.now) }
+        requires begun { self.old.begun ≡ true }
+        ensures { Performs (Does (asked end 0 (what.Ask mode.now))) self.old result self.new }
+    {
+        let mode = name_text(self.alloc, mode)?;
+        self.make(end, None, What::Ask { mode }, false, 0)
+    }
+
+    /// The package of this number that the other end sent comes; the reply may be lost.
+    fn receive(&mut self, end: EndName, number: u64, lost: bool) -> Result<Octets, Refused>
+        requires { self.old.begun ≡ true }
+        ensures { Performs (comes end lost (package_for end number self.old.world)) self.old result self.new }
+    {
+        match self.package_for(end, number) {
+            None => Ok(no_package_line(self.alloc, end)?),
+            Some(message) => {
+                let what = What::Came(message.try_clone(self.alloc)?);
+                self.make(end, None, what, lost, 0)
+            }
+        }
+    }
+
+    /// The producer asks what became of the submission of this number.
+    #[tactic(auto, unfolding(exchange_model::specs::Coming::may_come))]
+    fn tell(&mut self, end: EndName, number: u64) -> Result<Octets, Refused>
+        requires { self.old.begun ≡ true }
+        ensures { Performs (tells end number (status_text number (codes "unknown")) (id_at end number self.old.world)) self.old result self.new }
+    {
+        match self.id_at(end, number) {
+            None => Ok(unknown_line(self.alloc, end, number)?),
+            Some(id) => {
+                let what = What::Status {
+                    id: id.try_clone(self.alloc)?,
+                };
+                self.make(end, None, what, false, number)
+            }
+        }
+    }
+
+    /// The moment that a line sets, or else the end's.
+    fn stamp_for(&self, end: EndName, moment: Option<u64>) -> u64
+        requires { IfSome moment (λ m. m ≤ MAX_MOMENT) }
+        ensures value { result ≡ unwrap_or moment (party_at (side_of end) self.now.world).end.moment }
+        ensures dated { result ≤ MAX_MOMENT }
+    {
+        match moment {
+            Some(moment) => moment,
+            None => self.moment(end),
+        }
+    }
+
+    /// The event happens, at the moment that the line sets or else at the end's. Its nonce is its number among all.
+    fn make(
+        &mut self,
+        end: EndName,
+        moment: Option<u64>,
+        what: What,
+        lost: bool,
+        number: u64,
+    ) -> Result<Octets, Refused>
+        requires begun { self.old.begun ≡ true }
+        requires dated { IfSome moment (λ m. m ≤ MAX_MOMENT) }
+        requires comes { IsTrue (may_come what) }
+        requires heard { IsHeard (party_at (across (side_of end)) self.old.world).said what }
+        ensures { Performs (Does (record { end = end; what = what; moment = moment; lost = lost; number = number })) self.old result self.new }
+    {
+        if self.events >= MAX_EVENTS {
+            drop(what);
+            return Err(Refused::TooMany);
+        }
+        let stamp = self.stamp_for(end, moment);
+        let event = Event {
+            stamp,
+            nonce: u128::from(self.events),
+            what,
+        };
+        let said = self.meet(end, &event, number, lost);
+        drop(event);
+        match said {
+            Ok(text) => {
+                self.events += 1;
+                Ok(text)
+            }
+            Err(_) => Err(Refused::NoMemory),
+        }
+    }
+}
+
+/// The event of a message that is handed in, in the conversation `c`.
+#[tactic(auto, using(crate::proofs::NameLemmas::c_is_plain))]
+fn submission(alloc: Global, mode: &Octets, load: &ScriptLoad) -> Result<What, NoMemory>
+    requires named { IsTrue (is_name mode.now) }
+    requires loaded { IsTrue (is_load load.now) }
+    ensures { IfOk result (λ w. w ≡ what.Submit mode.now (Some (codes "c")) (loads_of load.now)) }
+{
+    let mode = name_text(alloc, mode)?;
+    let conversation = plain_text(alloc, b"c")?;
+    let loads = loads_of(alloc, load)?;
+    Ok(What::Submit {
+        mode,
+        conversation: Some(conversation),
+        loads,
+    })
+}

@@ -1,0 +1,141 @@
+//! A script is read line by line, and each line is played.
+ghost use Rattle.std.specs.Prelude.{◌≡◌, ℕ, [], ◌+◌, ◌<◌, ◌≤◌, List, Option, IsNone, IsTrue, MatchOption, length};
+ghost use Rattle.as4_flow.specs.Told.{Told, before};
+ghost use Rattle.drill.specs.Ends.{Ends};
+ghost use Rattle.drill.specs.Running.{Flow, SoFar, between, flow};
+ghost use Rattle.drill.specs.Transcript.{PlaysAll, Stage as StageValue, lines_limit, new_stage};
+ghost use Rattle.drill_script.specs.Lacking.{parted};
+ghost use Rattle.drill_script.specs.LineText.{is_line, line_limit, line_text};
+ghost use Rattle.drill_script.specs.declared.line.Line.{Line as LineValue};
+ghost use Rattle.exchange_model.specs.DeliveredOnce.{BothDeliverOnce};
+
+use crate::laws::a_drill_delivers_once;
+use crate::next::{Next, next_line};
+use crate::refused::Refused;
+use crate::stage::Stage;
+use as4_flow::{Sink, Source, send_all};
+use drill_script::{Line, LineReader};
+use std::alloc::Global;
+
+/// The most lines that a script has.
+const MAX_LINES: u64 = 1_000_000;
+
+/// How a drill ends.
+#[derive(Clone, Copy, Debug, PartialEq, Eq)]
+pub enum DrillEnd {
+    /// The script was read to its end, and all that it leads to was written.
+    Read,
+    /// This line, the first being 1, isn't one of a script, or not in its place.
+    Line { number: u64 },
+    /// The next line would make event 100,001.
+    TooMany,
+    /// The source failed.
+    ReadFault,
+    /// The sink failed.
+    WriteFault,
+    /// Memory ran out.
+    NoMemory,
+}
+
+/// Runs the script on two ends, and writes a line for each that does something. Where the script ends early, or a fault
+/// comes, what the lines before have written stays.
+pub fn drill<S: Source, K: Sink>(alloc: Global, source: &mut S, sink: &mut K) -> DrillEnd
+    ensures ends { Ends result (record {
+      left = S.left source.old;
+      taken = K.taken sink.old;
+      later = K.taken sink.new;
+      read_faults = S.faults source.old;
+      later_read_faults = S.faults source.new;
+      write_faults = K.faults sink.old;
+      later_write_faults = K.faults sink.new;
+    }) }
+    ensures counted { (S.faults source.old ≤ S.faults source.new) × (K.faults sink.old ≤ K.faults sink.new) }
+
+    // Whatever the script, its messages are delivered once.
+    ensures once { (lines : List LineValue) (text : List ℕ) (stage : StageValue)
+        → PlaysAll lines new_stage text stage → BothDeliverOnce stage.world }
+{
+    a_drill_delivers_once();
+    let mut reader = LineReader::new(alloc);
+    let mut stage = match Stage::new(alloc) {
+        Ok(stage) => stage,
+        Err(_) => return DrillEnd::NoMemory,
+    };
+    let mut played = 0;
+    'lines: loop {
+        if let Some(end) = play_next(alloc, &mut reader, source, &mut stage, sink, played) {
+            return end;
+        }
+        played += 1;
+    }
+}
+
+// Reads the next line, plays it and writes its text, where so many were played before. It answers how the drill ends, if
+// it does here.
+fn play_next<S: Source, K: Sink>(
+    alloc: Global,
+    reader: &mut LineReader,
+    source: &mut S,
+    stage: &mut Stage,
+    sink: &mut K,
+    played: u64,
+) -> Option<DrillEnd>
+    requires { played ≤ lines_limit }
+    ensures goes { (start : Flow)
+        → SoFar stage.old reader.old played start (flow (S.left source.old) (K.taken sink.old) (S.faults source.old) (K.faults sink.old))
+        → let now : Flow = flow (S.left source.new) (K.taken sink.new) (S.faults source.new) (K.faults sink.new) in
+        MatchOption result (SoFar stage.new reader.new (played + 1) start now) (λ end. Ends end (between start now)) }
+    ensures more { IsNone result → played < lines_limit }
+    ensures counted { (S.faults source.old ≤ S.faults source.new) × (K.faults sink.old ≤ K.faults sink.new) }
+{
+    match next_line(alloc, reader, source) {
+        Next::Line(line) => play_line(stage, &line, sink, played),
+        Next::End => Some(finish(stage, sink)),
+        Next::Outside => Some(DrillEnd::Line { number: played + 1 }),
+        Next::Failed => Some(DrillEnd::ReadFault),
+        Next::NoMemory => Some(DrillEnd::NoMemory),
+    }
+}
+
+// Plays a line and writes its text, where so many were played before. It answers how the drill ends, if it does here.
+fn play_line<K: Sink>(stage: &mut Stage, line: &Line, sink: &mut K, played: u64) -> Option<DrillEnd>
+    requires spelled { IsTrue (is_line line.now) }
+    requires short { length (line_text line.now) ≤ line_limit }
+    requires few { played ≤ lines_limit }
+    ensures goes { (start : Flow) (held : List ℕ) (left : Option (List ℕ)) (reads : ℕ)
+        → SoFar stage.old (parted 10 (line_text line.now) held) played start (flow left (K.taken sink.old) reads (K.faults sink.old))
+        → let now : Flow = flow left (K.taken sink.new) reads (K.faults sink.new) in
+        MatchOption result (SoFar stage.new held (played + 1) start now) (λ end. Ends end (between start now)) }
+    ensures more { IsNone result → played < lines_limit }
+    ensures counted { K.faults sink.old ≤ K.faults sink.new }
+{
+    if played == MAX_LINES {
+        return Some(DrillEnd::Line { number: played + 1 });
+    }
+    match stage.play(line) {
+        Ok(text) => match send_all(sink, text.bytes()) {
+            Ok(()) => None,
+            Err(_) => Some(DrillEnd::WriteFault),
+        },
+        Err(Refused::Wrong) => Some(DrillEnd::Line { number: played + 1 }),
+        Err(Refused::TooMany) => Some(DrillEnd::TooMany),
+        Err(Refused::NoMemory) => Some(DrillEnd::NoMemory),
+    }
+}
+
+// Writes the numbers of both ends, where nothing is left to read.
+fn finish<K: Sink>(stage: &Stage, sink: &mut K) -> DrillEnd
+    ensures ends { (start : Flow) (held : List ℕ) (count : ℕ) (left : Option (List ℕ)) (reads : ℕ)
+        → SoFar stage.now held count start (flow left (K.taken sink.old) reads (K.faults sink.old))
+        → Told (before held left) (λ bytes. bytes ≡ [])
+        → Ends result (between start (flow left (K.taken sink.new) reads (K.faults sink.new))) }
+    ensures counted { K.faults sink.old ≤ K.faults sink.new }
+{
+    match stage.end_lines() {
+        Ok(text) => match send_all(sink, text.bytes()) {
+            Ok(()) => DrillEnd::Read,
+            Err(_) => DrillEnd::WriteFault,
+        },
+        Err(_) => DrillEnd::NoMemory,
+    }
+}

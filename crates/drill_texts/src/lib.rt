@@ -1,0 +1,14 @@
+//! The texts of a drill: what is written of each reply, and the modes and loads that a script names.
+#![tactic(auto)]
+
+mod loads;
+mod messages;
+mod modes;
+mod pieces;
+mod replies;
+#[cfg(test)]
+mod tests;
+
+pub use loads::loads_of;
+pub use modes::{drill_mode, modes_of};
+pub use replies::{end_line, no_package_line, reply_line, unknown_line};

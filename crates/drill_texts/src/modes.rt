@@ -1,0 +1,113 @@
+//! The processing modes of a drill, which both ends have (P-Modes, ebMS 3.0 Core, section 4).
+//!
+//!     NAME    1 to 32 of a to z and 0 to 9; the action too
+//!     from    the party drill-a in the role sender
+//!     to      the party drill-b in the role receiver
+//!     route   One-Way/Push to http://drill/, or One-Way/Pull from the channel drill-NAME
+
+ghost use Rattle.std.specs.Prelude.{◌≡◌, ◌≤◌, IfOk, IsTrue, length};
+ghost use Rattle.as4_values.specs.PlainTexts.{IsPlainText};
+ghost use Rattle.drill_script.specs.LineText.{is_name};
+ghost use Rattle.drill_texts.specs.Modes.{AreDrillModes, IsDrillMode, IsDrillSide, route_of};
+
+use as4_values::{Mode, NoMemory, Octets, Party, Route, Seq, Service, Side, Text, TextRefusal};
+use drill_script::Way;
+use pmodes::{ModeRefusal, Modes};
+use std::alloc::Global;
+
+/// The processing mode of a line of a script: from `drill-a` to `drill-b`, over the address `http://drill/`.
+#[tactic(auto, using(crate::proofs::ModeLemmas::word_is_plain, crate::proofs::ModeLemmas::name_is_plain, crate::proofs::ModeLemmas::name_is_mode_name, crate::proofs::ModeLemmas::name_is_short, crate::proofs::ModeLemmas::sender_is_short, crate::proofs::ModeLemmas::receiver_is_short, crate::proofs::ModeLemmas::service_is_short, crate::proofs::ModeLemmas::no_agreement, crate::proofs::ModeLemmas::route_is_right, crate::proofs::ModeLemmas::never_collects))]
+pub fn drill_mode(
+    alloc: Global,
+    name: &Octets,
+    way: Way,
+    retries: u32,
+    period: u64,
+) -> Result<Mode, NoMemory>
+    requires named { IsTrue (is_name name.now) }
+    requires retries { retries ≤ 1000 }
+    requires begun { 1 ≤ period }
+    requires period { period ≤ 1000000000 }
+    ensures { IfOk result (IsDrillMode name.now way retries period) }
+{
+    let action = text_of(alloc, name.bytes())?;
+    let service = text_of(alloc, b"drill")?;
+    let from = side_of(alloc, b"drill-a", b"sender")?;
+    let to = side_of(alloc, b"drill-b", b"receiver")?;
+    let route = route_of(alloc, name.bytes(), way)?;
+    let name = text_of(alloc, name.bytes())?;
+    Ok(Mode {
+        name,
+        from,
+        to,
+        service: Service {
+            value: service,
+            kind: None,
+        },
+        action,
+        agreement: None,
+        route,
+        retries,
+        period,
+        collect: false,
+    })
+}
+
+/// The modes of a script: no message belongs to two of them.
+#[tactic(auto, using(crate::proofs::ListLemmas::drill_modes_stand))]
+pub fn modes_of(alloc: Global, list: Seq<Mode>) -> Result<Modes, NoMemory>
+    requires { AreDrillModes list }
+    ensures { IfOk result (λ modes. modes ≡ list) }
+{
+    match Modes::of_list(alloc, list) {
+        Ok(modes) => Ok(modes),
+        Err(ModeRefusal::NoMemory) => Err(NoMemory),
+        Err(_) => unreachable!(),
+    }
+}
+
+/// A side of one party, with a role.
+fn side_of(alloc: Global, id: &[u8], role: &[u8]) -> Result<Side, NoMemory>
+    requires id { IsPlainText id.now }
+    requires role { IsPlainText role.now }
+    ensures { IfOk result (IsDrillSide id.now role.now) }
+{
+    let mut parties = Vec::with_capacity(alloc, 1)?;
+    let id = text_of(alloc, id)?;
+    let role = text_of(alloc, role)?;
+    parties.push_reserved(Party { id, kind: None });
+    Ok(Side {
+        parties: Seq::of(parties),
+        role,
+    })
+}
+
+/// The route of a mode of this name.
+#[tactic(auto, using(crate::proofs::ModeLemmas::word_is_plain, crate::proofs::ModeLemmas::channel_is_plain))]
+fn route_of(alloc: Global, name: &[u8], way: Way) -> Result<Route, NoMemory>
+    requires { IsTrue (is_name name.now) }
+    ensures { IfOk result (λ route. route ≡ route_of name.now way) }
+{
+    let address = text_of(alloc, b"http://drill/")?;
+    match way {
+        Way::Push => Ok(Route::Push { address }),
+        Way::Pull => {
+            let mut mpc = Vec::from_slice(alloc, b"drill-")?;
+            mpc.extend_from_slice(name)?;
+            let mpc = text_of(alloc, mpc.as_slice())?;
+            Ok(Route::Pull { mpc, address })
+        }
+    }
+}
+
+/// The text that plain bytes are.
+fn text_of(alloc: Global, bytes: &[u8]) -> Result<Text, NoMemory>
+    requires { IsPlainText bytes.now }
+    ensures { IfOk result (λ text. text ≡ bytes.now) }
+{
+    match Text::read(alloc, bytes) {
+        Ok(text) => Ok(text),
+        Err(TextRefusal::NoMemory) => Err(NoMemory),
+        Err(TextRefusal::BadText { .. }) => unreachable!(),
+    }
+}

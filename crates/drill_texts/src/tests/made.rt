@@ -1,0 +1,167 @@
+//! Replies and messages made by hand.
+
+ghost use Rattle.std.specs.Prelude.{◌≡◌, IfOk};
+
+use as4_values::{
+    Code, ErrorItem, Message, MessageId, NoMemory, Octets, Party, Payload, Seq, Service, Severity,
+    Side, Signal, SignalBody, StampText, Text, UserHeader, stamp_text,
+};
+use exchange_model::Reply;
+use std::alloc::Global;
+
+fn text(alloc: Global, word: &[u8]) -> Option<Text> {
+    Text::read(alloc, word).ok()
+}
+
+fn code(alloc: Global, word: &[u8]) -> Option<Code> {
+    Code::read(alloc, word).ok()
+}
+
+/// The stamp of the first moment.
+fn stamp(alloc: Global) -> Option<StampText> {
+    stamp_text(alloc, 0).ok()
+}
+
+/// The identifier of the submission 0.
+fn id(alloc: Global) -> Option<MessageId> {
+    MessageId::of_submission(alloc, 0, 0).ok()
+}
+
+fn side(alloc: Global, id: &[u8]) -> Option<Side> {
+    let party = Party {
+        id: text(alloc, id)?,
+        kind: None,
+    };
+    Some(Side {
+        parties: Seq::of(vec![in alloc; party].ok()?),
+        role: text(alloc, b"r")?,
+    })
+}
+
+fn header(alloc: Global) -> Option<UserHeader> {
+    let stamp = stamp(alloc)?;
+    let id = id(alloc)?;
+    let from = side(alloc, b"a")?;
+    let to = side(alloc, b"b")?;
+    let value = text(alloc, b"s")?;
+    let action = text(alloc, b"act")?;
+    Some(UserHeader {
+        mpc: None,
+        stamp,
+        id,
+        ref_to: None,
+        from,
+        to,
+        agreement: None,
+        service: Service { value, kind: None },
+        action,
+        conversation: None,
+        properties: Seq::of(Vec::new(alloc)),
+        parts: Seq::of(Vec::new(alloc)),
+    })
+}
+
+fn octets(alloc: Global, bytes: &[u8]) -> Result<Octets, NoMemory>
+    ensures { IfOk result (λ octets. octets ≡ bytes.now) }
+{
+    Ok(Octets::of(Vec::from_slice(alloc, bytes)?))
+}
+
+/// A payload of five bytes.
+fn payload(alloc: Global) -> Result<Payload, NoMemory> {
+    let cid = octets(alloc, b"p1@a")?;
+    let media = octets(alloc, b"text/plain")?;
+    let content = octets(alloc, b"hello")?;
+    Ok(Payload {
+        cid,
+        media,
+        content,
+    })
+}
+
+fn payloads(alloc: Global) -> Option<Seq<Payload>> {
+    let mut payloads = Vec::with_capacity(alloc, 1).ok()?;
+    payloads.push_reserved(payload(alloc).ok()?);
+    Some(Seq::of(payloads))
+}
+
+pub fn submitted(alloc: Global) -> Option<Reply> {
+    let id = id(alloc)?;
+    Some(Reply::Submitted { number: 0, id })
+}
+
+pub fn pushed(alloc: Global) -> Option<Reply> {
+    let address = text(alloc, b"http://drill/")?;
+    let payloads = Seq::of(Vec::new(alloc));
+    let header = header(alloc)?;
+    Some(Reply::Push {
+        address,
+        message: Message::User { header, payloads },
+    })
+}
+
+pub fn requested(alloc: Global) -> Option<Reply> {
+    let address = text(alloc, b"http://drill/")?;
+    let mpc = text(alloc, b"drill-m")?;
+    let stamp = stamp(alloc)?;
+    let id = id(alloc)?;
+    Some(Reply::Request {
+        address,
+        message: Message::Signal(Signal {
+            stamp,
+            id,
+            ref_to: None,
+            body: SignalBody::Pull { mpc },
+        }),
+    })
+}
+
+pub fn entry(alloc: Global) -> Option<Reply> {
+    let payloads = payloads(alloc)?;
+    let header = header(alloc)?;
+    Some(Reply::Entry { header, payloads })
+}
+
+pub fn refused(alloc: Global) -> Option<Reply> {
+    let code = code(alloc, b"EBMS:0010")?;
+    Some(Reply::RefusedWith { code })
+}
+
+/// The receipt of the submission 0.
+pub fn receipt(alloc: Global) -> Option<Message> {
+    let stamp = stamp(alloc)?;
+    let signal = MessageId::of_signal(alloc, 1).ok()?;
+    let id = id(alloc)?;
+    Some(Message::Signal(Signal {
+        stamp,
+        id: signal,
+        ref_to: Some(id),
+        body: SignalBody::Receipt { copy: None },
+    }))
+}
+
+/// An error signal of one error.
+pub fn error(alloc: Global) -> Option<Message> {
+    let mut items = Vec::with_capacity(alloc, 1).ok()?;
+    let code = code(alloc, b"EBMS:0006")?;
+    let stamp = stamp(alloc)?;
+    let id = id(alloc)?;
+    items.push_reserved(ErrorItem {
+        code,
+        severity: Severity::Warning,
+        origin: None,
+        category: None,
+        about: None,
+        short: None,
+        description: None,
+        detail: None,
+    });
+    Some(Message::Signal(Signal {
+        stamp,
+        id,
+        ref_to: None,
+        body: SignalBody::Errors {
+            items: Seq::of(items),
+        },
+    }))
+}
