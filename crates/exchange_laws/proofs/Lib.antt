@@ -12,5 +12,6 @@ pub mod SendsLemmas
 pub mod SentChanges
 pub mod SentLemmas
 pub mod SentSteps
+pub mod SettleLemmas
 pub mod StepLemmas
 pub mod WorldLemmas

@@ -31,7 +31,7 @@ pub fn a_round_settles()
 {}
 
 /// Whatever comes to an end, forged messages too: its inbox has each identifier at most once, and a submission
-/// counts as receipted only where a receipt of it came.
+/// counts as receipted only where a receipt of it came and settled it.
 pub fn an_end_is_safe()
     ensures { (acts : List Act) → MayHappenTo acts empty_end → IsSafe acts (end_after acts empty_end) }
 {}

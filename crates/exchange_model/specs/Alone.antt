@@ -1,6 +1,7 @@
 -- One end alone, whatever comes to it, from a partner that forges too.
 use Rattle.std.specs.Prelude.{◌≡◌, ◌≢◌, List, [], ◌∷◌, Option, Some, map}
 use Rattle.std.specs.List.{AllPairs, Contains}
+use Rattle.as4_effects.specs.declared.effect.Effect.TheVariants as effect
 use Rattle.as4_values.specs.declared.header.UserHeader.{UserHeader}
 use Rattle.as4_values.specs.declared.message.Message.TheVariants as message
 use Rattle.as4_values.specs.declared.signal.Signal.{Signal}
@@ -24,7 +25,7 @@ abbrev pub end_after : List Act → End → End
 end_after [] end = end
 end_after (act ∷ acts) end = end_after acts (applied act.outcome.effects end)
 
--- in the act a receipt came that names the submission, with no copy of another header
+-- in the act a receipt came that names the submission, with no copy of another header, and it settled the submission
 pub record BringsReceiptOf (s : Sent) (act : Act) : Type 0 where
   pub signal : Signal
   pub copy : Option UserHeader
@@ -32,11 +33,12 @@ pub record BringsReceiptOf (s : Sent) (act : Act) : Type 0 where
   pub receipt : signal.body ≡ body.Receipt copy
   pub names : signal.ref_to ≡ Some s.submission.header.id
   pub same : ¬ IsOther copy s.submission.header
+  pub settles : act.outcome.effects ≡ effect.Receipted s.submission.number ∷ []
 
 -- what holds at an end whatever its partner sends
 pub record IsSafe (acts : List Act) (end : End) : Type 0 where
   -- the inbox has each identifier at most once
   pub at_most_once : AllPairs (λ a b. a ≢ b) (map (λ (entry : InboxEntry). entry.header.id) end.inbox)
-  -- a submission counts as receipted only where a receipt of it came
+  -- a submission counts as receipted only where a receipt of it came and settled it
   pub receipted : (s : Sent) → Contains end.sent s → s.mark ≡ Receipted
       → (act : Act) × Contains acts act × BringsReceiptOf s act

@@ -1,4 +1,4 @@
--- What effects change at an end, and which effects fit there.
+-- What effects change at an end, and which effects fit there: this handler's own.
 use Rattle.std.specs.Prelude.{ℕ, suc, ◌+◌, List, [], ◌∷◌, ◌++◌, Bool, true, false, not, ◌&&◌, ◌==◌, nat_lt, nat_le, if◌then◌else◌, Option, Some, None, option_map, length, map, take, drop}
 use Rattle.as4_effects.specs.Effects.{effects_body}
 use Rattle.as4_effects.specs.declared.effect.Effect.{Effect}
@@ -19,6 +19,7 @@ unsent submission = record { submission = submission; tries = 0; last = 0; mark 
 abbrev pub tried : ℕ → Sent → Sent
 tried moment s = record s { tries = s.tries + 1; last = moment }
 
+-- standing so from then on
 abbrev pub marked : Mark → Sent → Sent
 marked m s = record s { mark = m }
 
@@ -30,7 +31,7 @@ failed_if_spent moment s = if is_spent moment s then marked mark.Failed s else s
 unfoldable pub changed : ℕ → (Sent → Sent) → List Sent → List Sent
 changed number change sent = map (λ s. if s.submission.number == number then change s else s) sent
 
--- the first so many entries without their payloads
+-- the first so many entries without their payloads, the others as they are
 unfoldable pub emptied : ℕ → List InboxEntry → List InboxEntry
 emptied count inbox =
     map (λ (entry : InboxEntry). record entry { payloads = [] }) (take count inbox) ++ drop count inbox
@@ -52,7 +53,7 @@ abbrev pub after_all : List Effect → End → End
 after_all [] end = end
 after_all (e ∷ effects) end = after_all effects (after e end)
 
--- how many bytes the record of these effects takes
+-- how many bytes the record of these effects takes: five more than their body
 unfoldable pub record_len : List Effect → ℕ
 record_len effects = length (effects_body effects) + 5
 
@@ -62,7 +63,7 @@ applied [] end = end
 applied (e ∷ effects) end =
     let new = after_all (e ∷ effects) end in record new { size = new.size + record_len (e ∷ effects) }
 
--- the submission of this number is there, and is such a one
+-- there is such a submission, and the test holds of it
 abbrev pub is_one : (Sent → Bool) → Option Sent → Bool
 is_one test None = false
 is_one test (Some s) = test s

@@ -12,7 +12,7 @@ use Rattle.exchange_model.specs.declared.what.What.TheVariants.{Came}
 unfoldable pub is_deliverable : UserHeader → List Payload → Bool
 is_deliverable header payloads = pair header.parts payloads && fits_an_effect (delivered_body header payloads)
 
--- all but user messages that can't be delivered
+-- any event, but for a user message that no delivery can hold
 unfoldable pub may_come : What → Bool
 may_come (Came (User header payloads)) = is_deliverable header payloads
 may_come what = true

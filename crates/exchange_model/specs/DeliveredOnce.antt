@@ -26,7 +26,7 @@ pub record DeliversOnce (sender receiver : End) : Type 0 where
   -- what the sender holds a receipt for stands in the inbox, exactly once
   pub exactly_once : (s : Sent) → Contains sender.sent s → s.mark ≡ Receipted
       → count_by (λ (entry : InboxEntry). bytes_eq entry.header.id s.submission.header.id) receiver.inbox ≡ 1
-  -- what is given up was sent as often as its mode says
+  -- what is given up was sent, and sent again as often as its mode says
   pub tried_enough : (s : Sent) → Contains sender.sent s → s.mark ≡ Failed → s.tries ≡ s.submission.retries + 1
 
 -- both ways

@@ -5,6 +5,7 @@ use Rattle.as4_values.specs.declared.signal_body.Severity.{Severity}
 use Rattle.as4_values.specs.declared.signal_body.Severity.TheVariants.{Failure, Warning}
 use Rattle.as4_values.specs.declared.signal_body.ErrorItem.{ErrorItem}
 
+-- an error: its number, its short description, how bad it is, and its category
 pub record ErrorRow : Type 0 where
   pub code : ℕ
   pub short : List ℕ

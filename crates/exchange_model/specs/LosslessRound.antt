@@ -26,14 +26,14 @@ abbrev pub across : Side → Side
 across Left = Right
 across Right = Left
 
+-- the reply says that the journal is full
 abbrev pub IsFull : Reply → Type 0
 IsFull (reply.Full size need) = Unit {0}
 IsFull other = ⊥
 
--- the act's reply leaves, and isn't that the journal is full
+-- the act is at this side, and its reply isn't that the journal is full; a reply that is lost can't be brought on
 pub record Answers (side : Side) (act : Act) : Type 0 where
   pub here : act.side ≡ side
-  pub kept : act.lost ≡ false
   pub roomy : ¬ IsFull act.outcome.reply
 
 -- the end is asked for the head of a queue: for what it pushes, or by a pull request for a channel of its modes

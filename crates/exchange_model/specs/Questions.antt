@@ -1,5 +1,5 @@
--- What can be asked of an end (AS4 Profile, sections 3.2 and 3.4, on retries and duplicates; ebMS 3.0 Core,
--- section 3.4, on channels).
+-- What can be asked of an end (AS4 Profile, section 3.2, on retries and duplicates; ebMS 3.0 Core, section 3.4, on
+-- channels).
 use Rattle.std.specs.Prelude.{ℕ, ◌+◌, List, Bool, true, false, ◌&&◌, ◌==◌, nat_le, if◌then◌else◌, Option}
 use Rattle.std.specs.List.{filter, find, list_any}
 use Rattle.std.specs.Str.{bytes_eq}
@@ -20,15 +20,15 @@ abbrev pub is_pending_mark : Mark → Bool
 is_pending_mark mark.Pending = true
 is_pending_mark other = false
 
--- neither receipted nor given up
+-- neither receipted, given up nor refused
 abbrev pub is_pending : Sent → Bool
 is_pending s = is_pending_mark s.mark
 
--- when it is to be sent, or given up: at once, or a period after it was sent last
+-- when it is to be sent, or given up: when it was handed in, or a period after it was sent last
 abbrev pub due : Sent → ℕ
 due s = if s.tries == 0 then s.submission.moment else s.last + s.submission.period
 
--- it is sent again, sooner or later: it was sent at most as often as its mode says it is sent again
+-- it may still be sent: it is pending, and was sent at most as often as its mode says that it is sent again
 abbrev pub is_waiting : Sent → Bool
 is_waiting s = is_pending s && nat_le s.tries s.submission.retries
 
@@ -40,7 +40,7 @@ is_ready moment s = is_waiting s && nat_le (due s) moment
 abbrev pub is_spent : ℕ → Sent → Bool
 is_spent moment s = is_pending s && ((s.tries == s.submission.retries + 1) && nat_le (due s) moment)
 
--- where it waits
+-- the queue in which submissions of this route wait
 abbrev pub queue_of : Route → Queue
 queue_of (route.Push address) = queue.Push
 queue_of (route.Pull mpc address) = queue.Channel mpc

@@ -15,6 +15,7 @@ pub record Refusal : Type 0 where
   pub number : ℕ
   pub code : List ℕ
 
+-- the refusal of a submission, where it is pending
 abbrev pub refusal_with : List ℕ → Sent → Option Refusal
 refusal_with code s = if is_pending s then Some (record { number = s.submission.number; code = code }) else None
 
@@ -25,6 +26,7 @@ refusal_by Warning code about sent = None
 refusal_by Failure code about sent =
     option_and_then (refusal_with code) (option_and_then (λ id. sent_of id sent) about)
 
+-- by an error of a signal with this reference
 abbrev pub refusal_of : Option (List ℕ) → List Sent → ErrorItem → Option Refusal
 refusal_of ref_to sent item = refusal_by item.severity item.code (option_or item.about ref_to) sent
 

@@ -1,4 +1,5 @@
--- The signals that answer messages (ebMS 3.0 Core, section 5.2.3; AS4 Profile, section 5.1.8).
+-- The signals that an end makes: receipts, error signals and pull requests (ebMS 3.0 Core, section 5.2.3; AS4
+-- Profile, section 5.1.8).
 use Rattle.std.specs.Prelude.{◌≡◌, ℕ, List, [], ◌∷◌, Option, Some, None, option_map}
 use Rattle.as4_values.specs.Moment.{IsStampOf}
 use Rattle.as4_values.specs.Identifiers.{signal_id}

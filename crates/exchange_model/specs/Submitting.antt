@@ -21,7 +21,8 @@ is_media_text text =
     && (list_all (λ b. not ((b == 10) || (b == 13))) text
     && not (nat_lt 0 (length text) && (is_space (slice_index text 0) || is_space (slice_index text (length text - 1)))))
 
--- more than 64 loads, a media text that no part may have, or more than 15,728,640 bytes together
+-- more than 64 loads, a media text that no part may have, or more than 15,728,640 bytes together: this handler's own
+-- limits
 unfoldable pub are_too_large : List Load → Bool
 are_too_large loads =
     nat_lt 64 (length loads)

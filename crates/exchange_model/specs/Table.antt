@@ -34,8 +34,8 @@
 --     any                   the journal has no room for the effects' record  none         Full
 --
 -- One-Way/Push and One-Way/Pull: ebMS 3.0 Core, section 2.2, and AS4 Profile, section 2; retries and duplicates: AS4
--- Profile, sections 3.2 and 3.3; receipts: ebMS 3.0 Core, section 5.2.3.3, and AS4 Profile, section 5.1.8; errors:
--- ebMS 3.0 Core, section 6; pull requests: ebMS 3.0 Core, sections 3.3 and 5.2.3.1.
+-- Profile, section 3.2; receipts: ebMS 3.0 Core, section 5.2.3.3, and AS4 Profile, section 5.1.8; errors: ebMS 3.0
+-- Core, section 6; pull requests: ebMS 3.0 Core, sections 3.2 and 5.2.3.1. What these leave open is this handler's own.
 use Rattle.std.specs.Prelude.{◌≡◌, ◌≢◌, ℕ, ◌+◌, ◌⊎◌, List, [], ◌∷◌, Bool, ◌||◌, ◌==◌, nat_lt, nat_le, if◌then◌else◌, Option, Some, None, MatchOption, length, slice_get}
 use Rattle.std.specs.Bool.{MatchBool}
 use Rattle.std.specs.List.{count_by}
@@ -95,6 +95,7 @@ Receipts header effects event outcome =
     (signal : Signal) × IsReceiptOf header event.stamp event.nonce signal
     × (outcome ≡ record { effects = effects; reply = reply.Answer (message.Signal signal) })
 
+-- the user message of a submission
 abbrev pub message_of : Submission → Message
 message_of s = message.User s.header s.payloads
 
@@ -161,6 +162,7 @@ Settles s outcome =
     MatchBool (is_pending s) (Gives (effect.Receipted s.submission.number) reply.Quiet outcome)
     (Rests reply.Quiet outcome)
 
+-- a copy is there, and it isn't this header
 abbrev pub IsOther : Option UserHeader → UserHeader → Type 0
 IsOther None header = ⊥
 IsOther (Some copy) header = copy ≢ header
@@ -171,7 +173,7 @@ ReceiptComes end event id ref_to copy outcome =
     (IsOther copy s.submission.header × Errs 302 id event outcome)
     ⊎ ((¬ IsOther copy s.submission.header) × Settles s outcome))
 
--- Came, errors
+-- Came, a signal; the row of errors stands here
 abbrev pub SignalComes : List Mode → End → Event → List ℕ → Option (List ℕ) → SignalBody → Outcome → Type 0
 SignalComes modes end event id ref_to (body.Pull mpc) outcome = PullComes modes end event id mpc outcome
 SignalComes modes end event id ref_to (body.Receipt copy) outcome = ReceiptComes end event id ref_to copy outcome
@@ -220,7 +222,7 @@ RowOf modes end event (what.Read n) outcome = Rests (read_reply end n) outcome
 RowOf modes end event (what.Confirm upto) outcome = Confirms end upto outcome
 RowOf modes end event (what.Status id) outcome = Rests (standing_reply (sent_of id end.sent)) outcome
 
--- how many bytes a journal may have
+-- how many bytes a journal may have (this handler's own)
 abbrev pub journal_limit : ℕ
 journal_limit = 1073741824
 
@@ -228,7 +230,7 @@ journal_limit = 1073741824
 unfoldable pub has_room : End → List Effect → Bool
 has_room end effects = (length effects == 0) || nat_le (end.size + record_len effects) journal_limit
 
--- the row, where its record has room
+-- the row, where the journal has room for its record; else the reply says that it has none
 abbrev pub IsLimited : End → Outcome → Outcome → Type 0
 IsLimited end row outcome =
     MatchBool (has_room end row.effects) (outcome ≡ row)

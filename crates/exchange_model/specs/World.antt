@@ -53,11 +53,12 @@ abbrev pub IsHeard : List Message → What → Type 0
 IsHeard said (what.Came message) = Contains said message
 IsHeard said other = Unit {0}
 
--- an end that hears the other
+-- the act may happen at an end that hears the other
 pub record MayAct (act : Act) (party other : Party) : Type 0 where
   pub heard : IsHeard other.said act.event.what
   pub step : Step act.modes party.end act.event act.outcome
 
+-- what the act leads to at its end
 abbrev pub acted : Act → Party → Party
 acted act party = record {
   end = applied act.outcome.effects party.end;

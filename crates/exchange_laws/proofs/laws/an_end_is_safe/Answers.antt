@@ -6,20 +6,27 @@ use Rattle.exchange_model.specs.World.{Act}
 use Rattle.exchange_model.specs.declared.sent.Sent.{Sent}
 use Rattle.std.specs.List.{Contains}
 use Rattle.exchange_laws.proofs.ListLemmas.{Has, has_contained, contains_had}
-use Rattle.exchange_laws.proofs.SentSteps.{Receipts}
 use Rattle.exchange_laws.proofs.InboxLemmas.{all_apart}
-use Rattle.exchange_laws.proofs.AloneLemmas.{EndHolds, end_holds}
+use Rattle.exchange_laws.proofs.AloneLemmas.{EndHolds, IsSettledBy, end_holds}
 use Rattle.exchange_laws.proofs.laws.an_end_is_safe.Goals as goal
 
 -- one of the acts brings a receipt of it
 abbrev IsBrought : List Act → Submission → Type 0
-IsBrought acts u = (act : Act) × Has acts act × Receipts act.event.what u
+IsBrought acts u = (act : Act) × Has acts act × IsSettledBy u act
 
 brought : (acts : List Act) (s : Sent) → IsBrought acts s.submission → (act : Act) × Contains acts act × BringsReceiptOf s act
 brought acts s b = (
   b.0,
   contains_had acts b.0 b.1,
-  record { signal = b.2.signal; copy = b.2.copy; came = b.2.came; receipt = b.2.receipt; names = b.2.names; same = b.2.same },
+  record {
+    signal = b.2.0.signal;
+    copy = b.2.0.copy;
+    came = b.2.0.came;
+    receipt = b.2.0.receipt;
+    names = b.2.0.names;
+    same = b.2.0.same;
+    settles = b.2.1;
+  },
 )
 
 pub returns : goal.returns
