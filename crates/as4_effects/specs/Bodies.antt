@@ -1,4 +1,4 @@
--- The bytes of effects. Numbers are big endian.
+-- The bytes of effects, in this handler's own format. Numbers are big endian.
 --
 --     body     count of effects, 2 bytes, 1 to 1,024; then the effects
 --     effect   1 byte that says which; then its fields

@@ -1,4 +1,4 @@
--- The bytes of effects, each behind the byte that says which it is, and of a list of them.
+-- The bytes of effects, in this handler's own format: each behind the byte that says which it is; and of a list.
 use Rattle.std.specs.Prelude.{ℕ, List, ◌∷◌, ◌++◌, length}
 use Rattle.std.specs.List.{flat_map}
 use Rattle.as4_effects.specs.Bodies.{number_body, text_body}

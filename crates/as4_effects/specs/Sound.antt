@@ -9,7 +9,7 @@ use Rattle.as4_values.specs.declared.route.Route.{Route}
 use Rattle.as4_values.specs.declared.route.Route.TheVariants.{Push, Pull}
 use Rattle.as4_effects.specs.Bodies.{number_body, list_body, header_body, payload_body, route_body}
 
--- how many bytes an effect may have
+-- how many bytes an effect may have, the byte that says which it is with them
 abbrev pub effect_limit : ℕ
 effect_limit = 536870912
 
@@ -44,5 +44,6 @@ submitted_body number header payloads route retries period moment =
 abbrev pub delivered_body : UserHeader → List Payload → List ℕ
 delivered_body header payloads = 4 ∷ header_body header ++ list_body payload_body payloads
 
+-- these bytes aren't too many for an effect
 unfoldable pub fits_an_effect : List ℕ → Bool
 fits_an_effect body = nat_le (length body) effect_limit

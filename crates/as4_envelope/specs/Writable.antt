@@ -1,4 +1,5 @@
--- Which trees are written: those whose text is a document of XML with the two prefixes alone.
+-- Which trees are written: their names are in the two namespaces, and their texts are of characters of XML. What a
+-- local name may be isn't asked.
 use Rattle.std.specs.Prelude.{ℕ, ◌-◌, List, [], ◌∷◌, Bool, true, not, ◌&&◌, ◌||◌, ◌==◌, nat_le, bytes_eq, length}
 use Rattle.std.specs.List.{list_all, list_any}
 use Rattle.std.specs.Str.{chars, is_utf8}

@@ -1,4 +1,4 @@
--- How a message file is read.
+-- How a message file, a form of this program's own, is read.
 use Rattle.std.specs.Prelude.{ℕ, List, [], ◌++◌, Option, codes, unwrap_or}
 use Rattle.message_model.specs.Package.{crlf}
 use Rattle.as4_message.specs.PlainReading.{◌>>=◌, behind, cut_at}

@@ -7,6 +7,7 @@ use Rattle.message_model.specs.Markup.{end_tag, element}
 use Rattle.message_model.specs.UnitText.{envelope_start, envelope_end}
 use Rattle.as4_message.specs.Plain.{PlainHeader}
 
+-- what the second reads behind the first, where both read something
 infixl 10 ◌>>=◌
 abbrev pub ◌>>=◌ : {A B : Type 0} → Option A → (A → Option B) → Option B
 None >>= f = None

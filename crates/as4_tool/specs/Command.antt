@@ -1,4 +1,4 @@
--- The words of the program.
+-- The words of the program: its own choice.
 use Rattle.std.specs.Prelude.{◌≡◌, ℕ, ◌^◌, ◌<◌, ◌≤◌, List, [], ◌∷◌, codes, decimal}
 use Rattle.as4_values.specs.declared.moment.TheConstants.{MAX_MOMENT}
 use Rattle.as4_tool.specs.declared.command.Command.{Command}

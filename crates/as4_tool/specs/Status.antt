@@ -1,4 +1,4 @@
--- The exit statuses of the program.
+-- The exit statuses of the program, and the lines that tell them: its own choice.
 use Rattle.std.specs.Prelude.{◌≡◌, ℕ, ◌⊎◌, List, [], ◌∷◌, ◌++◌, codes}
 use Rattle.std.specs.Fmt.{decimal}
 use Rattle.drill.specs.declared.script.DrillEnd.{DrillEnd}

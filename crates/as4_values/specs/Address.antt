@@ -40,12 +40,12 @@ host_len rest = position_or_len (λ b. not (is_host_byte b)) rest
 unfoldable pub is_behind_scheme : List ℕ → Bool
 is_behind_scheme rest = nat_le 1 (host_len rest) && is_behind_host (drop (host_len rest) rest)
 
--- an address of any length
+-- the form of an address, of any length
 unfoldable pub has_address_form : List ℕ → Bool
 has_address_form bytes =
     bytes_eq (take 7 bytes) (codes "http://")
     && (list_all is_graphic (drop 7 bytes) && is_behind_scheme (drop 7 bytes))
 
--- an address
+-- an address: at most 255 bytes of this form
 unfoldable pub is_address : List ℕ → Bool
 is_address bytes = nat_le (length bytes) 255 && has_address_form bytes

@@ -1,4 +1,4 @@
--- How many parties, properties, part infos and errors a header or a signal may have.
+-- How many parties, properties and part infos a header may have: this handler's own limits.
 use Rattle.std.specs.Prelude.{◌<◌, ◌≤◌, List, length}
 
 -- the parties of a side

@@ -90,7 +90,7 @@ mode_of modes header = find (λ mode. are_same_terms (mode_terms mode) (header_t
 unfoldable pub mode_named : List Mode → List ℕ → Option Mode
 mode_named modes name = find (λ mode. bytes_eq mode.name name) modes
 
--- whether messages wait in this channel
+-- whether a route pulls from this channel
 abbrev pub is_pulled_from : List ℕ → Route → Bool
 is_pulled_from mpc (Push address) = false
 is_pulled_from mpc (Pull channel address) = bytes_eq channel mpc

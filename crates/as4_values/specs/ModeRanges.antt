@@ -1,4 +1,4 @@
--- What a processing mode may hold (P-Modes, ebMS 3.0 Core, section 4).
+-- What a processing mode may hold (P-Modes, ebMS 3.0 Core, section 4); the limits are this handler's own.
 use Rattle.std.specs.Prelude.{ℕ, ◌≤◌, List, Bool, true, not, ◌&&◌, ◌||◌, ◌==◌, nat_le, Option, Some, None, is_some, length}
 use Rattle.std.specs.List.{list_all}
 use Rattle.as4_values.specs.Address.{is_address}

@@ -1,4 +1,4 @@
--- Moments as texts, by the calendar: the stamps that are written.
+-- Moments as texts, by the calendar: the stamps that are written (XML Schema Part 2, section 3.2.7).
 use Rattle.std.specs.Prelude.{◌≡◌, ℕ, zero, suc, ◌+◌, ◌*◌, ◌/◌, ◌%◌, ◌<◌, ◌≤◌, List, [], ◌∷◌, ◌++◌, pos, codes}
 use Rattle.jiff_core.specs.Calendar.{IsCivilDate, days_from_civil}
 

@@ -1,8 +1,8 @@
--- Texts that stand in a document and in a URL as they are.
+-- Texts that are spelled as they are: in a document (XML 1.0, section 2.4) and behind `cid:` (RFC 3986, section 2.1).
 use Rattle.std.specs.Prelude.{ℕ, ◌+◌, ◌<◌, ◌≤◌, List, Bool, not, ◌&&◌, ◌||◌, ◌==◌, nat_le, IsTrue, length, slice_index}
 use Rattle.as4_values.specs.Texts.{text_limit}
 
--- printable ASCII but for what is escaped in XML or in a URL: `"`, `%`, `&`, `<` and `>`
+-- printable ASCII but for what is escaped in XML, `"`, `&`, `<` and `>`, and for `%`, which begins an escape of a URL
 abbrev pub is_plain : ℕ → Bool
 is_plain b =
     nat_le 32 b && nat_le b 126
@@ -14,7 +14,7 @@ allows_at bytes at =
     is_plain (slice_index bytes at)
     && not ((slice_index bytes at == 32) && ((at == 0) || (at + 1 == length bytes)))
 
--- a text that stands in a document and in a URL as it is
+-- at least one such byte, and no space at either end
 pub record IsPlainText (bytes : List ℕ) : Type 0 where
   pub some : 0 < length bytes
   pub limited : length bytes ≤ text_limit

@@ -1,4 +1,5 @@
--- Stamps: a date and a time of its day as a text (XML Schema Part 2, section 3.2.7, but for its hour 24).
+-- Stamps: a date and a time of its day as a text (XML Schema Part 2, section 3.2.7; here with a year of four digits, at
+-- most nine places behind the second, and no hour 24).
 use Rattle.std.specs.Prelude.{◌≡◌, ℕ, zero, suc, ◌+◌, ◌-◌, ◌*◌, ◌<◌, ◌≤◌, ◌⊎◌, List, [], ◌∷◌, ◌++◌, Bool, ◌&&◌, ◌||◌, ◌==◌, nat_lt, nat_le, if◌then◌else◌, Option, Some, None, IsTrue, length, slice_index, replicate, Contains, pos, codes}
 use Rattle.jiff_core.specs.Calendar.{days_in_month}
 
@@ -11,7 +12,7 @@ abbrev pub fraction_form : ℕ → List ℕ
 fraction_form zero = []
 fraction_form (suc places) = codes "." ++ replicate (suc places) 48
 
--- nothing, UTC, or how far local time is before or behind it
+-- nothing, UTC, or how far local time is from it
 abbrev pub zone_forms : List (List ℕ)
 zone_forms = [] ∷ codes "Z" ∷ codes "+00:00" ∷ codes "-00:00" ∷ []
 

@@ -1,4 +1,4 @@
--- Texts of a header.
+-- Texts of a header; the limit is this handler's own.
 use Rattle.std.specs.Prelude.{◌≡◌, ◌≢◌, ℕ, ◌+◌, ◌-◌, ◌<◌, ◌≤◌, ◌⊎◌, List, ◌++◌, Bool, false, ◌&&◌, ◌||◌, ◌==◌, nat_le, IsTrue, length, take, drop, slice_index, encode_utf8, encode_utf8_all}
 use Rattle.std.specs.List.{AllWithin}
 

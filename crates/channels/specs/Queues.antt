@@ -12,7 +12,7 @@ pub record Queues : Type 0 where
   pub waiting : List Waiting
   pub room : Option Place
 
--- before the first of a greater number
+-- with one more, which stands before the first of a greater number
 unfoldable pub inserted : Waiting → List Waiting → List Waiting
 inserted w [] = w ∷ []
 inserted w (x ∷ xs) = if nat_lt w.number x.number then w ∷ x ∷ xs else x ∷ inserted w xs

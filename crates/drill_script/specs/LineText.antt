@@ -1,4 +1,4 @@
--- The lines of a drill script: words parted by one space.
+-- The lines of a drill script, in this program's own format: words parted by one space.
 --
 --     mode NAME WAY RETRIES PERIOD      WAY is push or pull
 --     submit END MODE LOAD              END is a or b; LOAD is none, hex=DIGITS or size=S

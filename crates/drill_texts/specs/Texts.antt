@@ -1,4 +1,5 @@
--- What a drill writes: a line for each line of the script but those of modes, and two at the end.
+-- What a drill writes, in this program's own format: a line for each line of the script but those of modes, and two at
+-- the end.
 use Rattle.std.specs.Prelude.{ℕ, List, [], ◌∷◌, ◌++◌, Bool, if◌then◌else◌, Option, Some, None, length, codes}
 use Rattle.std.specs.Fmt.{decimal}
 use Rattle.std.specs.List.{count_by, sum_by}
@@ -35,6 +36,7 @@ signal_summary ref_to (body.Pull mpc) = codes "pull " ++ mpc
 signal_summary ref_to (body.Receipt copy) = codes "receipt " ++ reference_text ref_to
 signal_summary ref_to (body.Errors items) = codes "error " ++ first_code items
 
+-- a message in short
 abbrev pub summary : Message → List ℕ
 summary (message.User header payloads) = codes "user " ++ header.id
 summary (message.Signal signal) = signal_summary signal.ref_to signal.body
@@ -52,7 +54,7 @@ entry_text n header payloads =
 abbrev pub status_text : ℕ → List ℕ → List ℕ
 status_text n text = codes "status " ++ decimal n ++ codes " " ++ text
 
--- of the reply to a line that names the number `n`, at an end that has sent so many packages
+-- what is written of the reply to a line that names the number `n`, at an end that has sent so many packages
 unfoldable pub reply_text : ℕ → Bool → ℕ → Reply → List ℕ
 reply_text n lost packages (reply.Submitted number id) = codes "submitted " ++ decimal number ++ codes " " ++ id
 reply_text n lost packages reply.NoMode = codes "no-mode"

@@ -12,7 +12,7 @@ TakeOneRoom [] = Unit {0}
 TakeOneRoom (effect ∷ []) = Unit {0}
 TakeOneRoom (first ∷ second ∷ effects) = AllByRecursion TakesNoRoom (first ∷ second ∷ effects)
 
--- effects of one event: each fits where those before it have led
+-- effects of one event: each fits where those before it have led; no more of them than an error signal has errors
 pub record CanStand (end : End) (effects : List Effect) : Type 0 where
   pub fit : first_unfit effects end ≡ None
   pub few : length effects ≤ 256

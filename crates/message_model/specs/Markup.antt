@@ -3,7 +3,7 @@
 use Rattle.std.specs.Prelude.{ℕ, ◌==◌, if◌then◌else◌, List, [], ◌∷◌, ◌++◌, Option, Some, None, codes}
 use Rattle.std.specs.List.{flat_map}
 
--- what stands for a byte of a text or a value (XML 1.0, section 2.4)
+-- what stands for a byte of a text or a value (XML 1.0, sections 2.4, 4.1 and 4.6)
 abbrev pub escape_of : ℕ → List ℕ
 escape_of b =
     if b == 38 then codes "&amp;"

@@ -7,15 +7,16 @@ use Rattle.as4_values.specs.declared.payload.Payload.{Payload}
 abbrev pub crlf : List ℕ
 crlf = 13 ∷ 10 ∷ []
 
--- so many hexadecimal digits of a number, with leading zeros
+-- 0 to 9, a to f
 abbrev pub hex_digit : ℕ → ℕ
 hex_digit n = if nat_lt n 10 then 48 + n else 87 + n
 
+-- so many hexadecimal digits of a number, with leading zeros
 unfoldable pub hex_digits : ℕ → ℕ → List ℕ
 hex_digits zero n = []
 hex_digits (suc places) n = hex_digits places (n / 16) ++ hex_digit (n % 16) ∷ []
 
--- the boundary of number n, with the two hyphens before it, and the Content-ID of the root
+-- the boundary of number n, with the two hyphens before it, and the Content-ID of the root: this handler's own
 unfoldable pub dash_boundary : ℕ → List ℕ
 dash_boundary n = codes "--as4-" ++ hex_digits 16 n
 

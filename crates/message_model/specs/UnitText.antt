@@ -18,14 +18,14 @@ use Rattle.as4_values.specs.declared.signal.Signal.{Signal}
 use Rattle.as4_values.specs.declared.message.Unit.{Unit as MessageUnit}
 use Rattle.as4_values.specs.declared.message.Unit.TheVariants as unit
 
--- Section 5.2.2.1.
+-- The stamp, the identifier and the reference of a unit: section 5.2.2.1.
 unfoldable pub message_info : List ℕ → List ℕ → Option (List ℕ) → List ℕ
 message_info stamp id ref_to =
     element (codes "eb:MessageInfo") []
     (text_element (codes "eb:Timestamp") stamp ++ text_element (codes "eb:MessageId") id
     ++ optional_element (codes "eb:RefToMessageId") ref_to)
 
--- Sections 5.2.2.2 to 5.2.2.4.
+-- The parties and the role of each side: sections 5.2.2.2 to 5.2.2.4.
 unfoldable pub party_text : Party → List ℕ
 party_text party =
     element (codes "eb:PartyId") (optional_attribute (codes "type") party.kind) (escaped party.id)
@@ -38,7 +38,7 @@ unfoldable pub party_info : Side → Side → List ℕ
 party_info from to =
     element (codes "eb:PartyInfo") [] (side_text (codes "eb:From") from ++ side_text (codes "eb:To") to)
 
--- Sections 5.2.2.5 to 5.2.2.9.
+-- The agreement, the service, the action and the conversation, empty where there is none: sections 5.2.2.5 to 5.2.2.9.
 unfoldable pub agreement_text : Option Agreement → List ℕ
 agreement_text None = []
 agreement_text (Some agreement) =
@@ -56,7 +56,7 @@ collaboration_info agreement service action conversation =
     (agreement_text agreement ++ service_text service ++ text_element (codes "eb:Action") action
     ++ text_element (codes "eb:ConversationId") (unwrap_or conversation []))
 
--- Sections 5.2.2.10 and 5.2.2.11; an empty list is left out.
+-- Properties: sections 5.2.2.10 and 5.2.2.11; an empty list is left out.
 unfoldable pub property_text : Property → List ℕ
 property_text property =
     element (codes "eb:Property")
@@ -66,7 +66,7 @@ property_text property =
 abbrev pub properties_text : List ℕ → List Property → List ℕ
 properties_text name properties = listed name property_text properties
 
--- Sections 5.2.2.12 and 5.2.2.13; an empty list is left out.
+-- Part infos: sections 5.2.2.12 and 5.2.2.13; an empty list is left out.
 unfoldable pub part_info : PartInfo → List ℕ
 part_info part =
     element (codes "eb:PartInfo") (optional_attribute (codes "href") part.href)
@@ -75,7 +75,7 @@ part_info part =
 abbrev pub payload_info : List PartInfo → List ℕ
 payload_info parts = listed (codes "eb:PayloadInfo") part_info parts
 
--- Section 5.2.2.
+-- A user message: section 5.2.2.
 unfoldable pub user_message : UserHeader → List ℕ
 user_message header =
     element (codes "eb:UserMessage") (optional_attribute (codes "mpc") header.mpc)
@@ -84,12 +84,12 @@ user_message header =
     ++ properties_text (codes "eb:MessageProperties") header.properties
     ++ payload_info header.parts)
 
--- Section 6.2.4.
+-- How bad an error is: section 6.2.
 abbrev pub severity_text : Severity → List ℕ
 severity_text Failure = codes "failure"
 severity_text Warning = codes "warning"
 
--- Section 6.2.
+-- An error: section 6.2.
 unfoldable pub error_start : ErrorItem → List ℕ
 error_start item =
     attribute (codes "errorCode") item.code ++ attribute (codes "severity") (severity_text item.severity)
@@ -104,11 +104,11 @@ error_text item =
     (optional_element (codes "eb:Description") item.description
     ++ optional_element (codes "eb:ErrorDetail") item.detail)
 
--- Section 5.2.3.1.
+-- A pull request: section 5.2.3.1.
 unfoldable pub pull_text : List ℕ → List ℕ
 pull_text mpc = element (codes "eb:PullRequest") (attribute (codes "mpc") mpc) []
 
--- Section 5.2.3.3, with the header of the message that came, where it is copied.
+-- A receipt, with the header of the message that came, where it is copied: section 5.2.3.3.
 abbrev pub copy_text : Option UserHeader → List ℕ
 copy_text None = []
 copy_text (Some header) = user_message header
@@ -116,7 +116,7 @@ copy_text (Some header) = user_message header
 unfoldable pub receipt_text : Option UserHeader → List ℕ
 receipt_text copy = element (codes "eb:Receipt") [] (copy_text copy)
 
--- Section 5.2.3.
+-- A signal message: section 5.2.3.
 abbrev pub body_text : SignalBody → List ℕ
 body_text (Pull mpc) = pull_text mpc
 body_text (Receipt copy) = receipt_text copy

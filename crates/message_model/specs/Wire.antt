@@ -19,7 +19,7 @@ abbrev pub HasBoundary : ℕ → Message → Type 0
 HasBoundary n (message.User header payloads) = IsBoundary n (envelope_text (user_message header)) payloads
 HasBoundary n (message.Signal signal) = n ≡ 0
 
--- a message file: the media text as a field, an empty line, and the body
+-- a message file, a form of this program's own: the media text as a field, an empty line, and the body
 abbrev pub message_file : List ℕ → List ℕ → List ℕ
 message_file media body = codes "Content-Type: " ++ media ++ crlf ++ crlf ++ body
 

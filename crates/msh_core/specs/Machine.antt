@@ -21,7 +21,7 @@ pub record Planned : Type 0 where
   pub outcome : Outcome
   pub queues : List Queue
 
--- there is room for the first of these
+-- there is room for the first of these; the others take none
 abbrev pub HaveRoom : Rooms → List Sent → List Effect → Type 0
 HaveRoom rooms sent [] = Unit {0}
 HaveRoom rooms sent (effect ∷ effects) = HasRoom rooms sent effect

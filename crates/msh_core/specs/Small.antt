@@ -22,7 +22,7 @@ StandsFor end (plan.Confirm upto) outcome =
     outcome ≡ record { effects = effect.Confirmed upto ∷ []; reply = reply.Confirmed upto }
 StandsFor end (plan.Rest r) outcome = outcome ≡ record { effects = []; reply = r }
 
--- the plan can be carried out as it is
+-- the plan can be carried out as it is; its record has 16 bytes
 abbrev pub IsSmallReady : End → SmallPlan → Type 0
 IsSmallReady end (plan.Tick moment) =
     (end.moment < moment) × (moment ≤ 253402300799999) × (end.size + 16 ≤ journal_limit)

@@ -1,4 +1,4 @@
--- Modes files: TOML with an array of tables `mode`.
+-- Modes files, a format of this handler's own: TOML with an array of tables `mode`.
 use Rattle.std.specs.Prelude.{ℕ, ◌+◌, List, [], ◌∷◌, if◌then◌else◌, Option, Some, None, Result, Ok, Err, codes}
 use Rattle.std.specs.Str.{is_utf8}
 use Rattle.toml.specs.Data.{Data, Members, as_table, get_member}

@@ -1,4 +1,4 @@
--- Which modes may stand in one list.
+-- Which modes may stand in one list: this handler's own rule.
 use Rattle.std.specs.Prelude.{◌≢◌, ◌≤◌, List, [], ◌∷◌, ◌++◌, Bool, nat_lt, if◌then◌else◌, Option, Some, None, option_map, length}
 use Rattle.std.specs.List.{AllPairs, find}
 use Rattle.std.specs.Option.{option_or}
