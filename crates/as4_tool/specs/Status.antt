@@ -3,6 +3,7 @@ use Rattle.std.specs.Prelude.{◌≡◌, ℕ, ◌⊎◌, List, [], ◌∷◌, �
 use Rattle.std.specs.Fmt.{decimal}
 use Rattle.drill.specs.declared.script.DrillEnd.{DrillEnd}
 use Rattle.drill.specs.declared.script.DrillEnd.TheVariants as ends
+use Rattle.as4_tool.specs.Telling.{wrong_line}
 use Rattle.as4_tool.specs.declared.status.Status.{Status}
 use Rattle.as4_tool.specs.declared.status.Status.TheVariants.{Done, WrongLine, ReadFault, WriteFault, NoMemory, TooManyEvents, TooLong, Unbuilt, BadWords}
 
@@ -26,7 +27,7 @@ IsOneOf (one ∷ others) status = (status ≡ one) ⊎ IsOneOf others status
 -- what is told of it on the errors, as lines
 abbrev pub lines_of : Status → List ℕ
 lines_of Done = []
-lines_of (WrongLine number) = codes "line " ++ decimal number ++ codes "\n"
+lines_of (WrongLine number) = codes "line " ++ decimal number ++ wrong_line
 lines_of ReadFault = codes "read fault\n"
 lines_of WriteFault = codes "write fault\n"
 lines_of NoMemory = codes "no memory\n"

@@ -7,7 +7,7 @@
 //!      5  no memory         64  bad words
 ghost use Rattle.std.specs.Prelude.{◌≡◌, ◌≤◌, ◌++◌, codes};
 ghost use Rattle.std.specs.Fmt.{decimal};
-ghost use Rattle.as4_tool.specs.Telling.{Tells};
+ghost use Rattle.as4_tool.specs.Telling.{Tells, wrong_line};
 
 use as4_flow::{SendFailed, Sink, send_all};
 use drill::DrillEnd;
@@ -91,7 +91,7 @@ impl Status {
 
 // Tells the number of a line. Where the errors fail, nothing is left to tell it to.
 fn tell_line<E: Sink>(errors: &mut E, number: u64)
-    ensures told { Tells (codes "line " ++ decimal number ++ codes "\n") (E.taken errors.old) (E.taken errors.new)
+    ensures told { Tells (codes "line " ++ decimal number ++ wrong_line) (E.taken errors.old) (E.taken errors.new)
         (E.faults errors.old) (E.faults errors.new) }
     ensures counted { E.faults errors.old ≤ E.faults errors.new }
 {
@@ -100,14 +100,17 @@ fn tell_line<E: Sink>(errors: &mut E, number: u64)
 
 // Sends its parts, one after another.
 fn send_line<E: Sink>(errors: &mut E, number: u64) -> Result<(), SendFailed>
-    ensures told { Tells (codes "line " ++ decimal number ++ codes "\n") (E.taken errors.old) (E.taken errors.new)
+    ensures told { Tells (codes "line " ++ decimal number ++ wrong_line) (E.taken errors.old) (E.taken errors.new)
         (E.faults errors.old) (E.faults errors.new) }
     ensures counted { E.faults errors.old ≤ E.faults errors.new }
 {
     let mut buffer = Buffer::new();
     send_all(errors, b"line ")?;
     send_all(errors, buffer.format(number).as_bytes())?;
-    send_all(errors, b"\n")
+    send_all(
+        errors,
+        b"\nas4 --help shows the lines of a script\n",
+    )
 }
 
 // Tells this text. Where the errors fail, nothing is left to tell it to.

@@ -16,16 +16,33 @@ SEED   what the sizes of the generated messages follow from: 0 to 18446744073709
 COUNT  how many messages the generated script submits: 0 to 1000
 All are decimal, without sign and without leading zeros. The input of an answer has at most 16842752 bytes.
 
+A message file is a line of Content-Type: and the media text, an empty line, both ended by CR LF, and then the body.
+
+The lines of a script, each ended by LF, with one space between words. END is a or b; NAME and MODE are 1 to 32 of a to
+z and 0 to 9; PACKAGE and NUMBER count from 0:
+  mode NAME WAY RETRIES PERIOD    both ends have this mode: WAY is push or pull, a period has 1 to 1000000000
+                                  milliseconds, retries are at most 1000; modes come first
+  submit END MODE LOAD            hands a message in: LOAD is none, hex=DIGITS with two of 0 to 9 and a to f for a byte,
+                                  or size=BYTES, at most 16777216
+  tick END MOMENT                 sets the clock of the end, in milliseconds
+  take END                        sends what is to be pushed next
+  ask END MODE                    sends a pull request
+  came END PACKAGE                what the other end sent under this number comes in, and is answered
+  lost END PACKAGE                the same, and the answer is lost
+  read END NUMBER                 shows a message of the inbox
+  confirm END NUMBER              takes over the messages of the inbox up to this one
+  status END NUMBER               shows how it stands with a message that was submitted
+
 exit statuses, each but 0 with a line on the errors:
    0  done
    2  line N, the first being 1, isn't one of a script, or not in its place
-   3  read fault
+   3  read fault: the input can't be read to its end
    4  write fault: the output has only a front of what was to be written
    5  no memory
-   6  more than 100000 events
+   6  more than 100000 events: the next line of the script would make one too many
   11  input too long
-  13  not built yet
-  64  bad words
+  13  not built yet: the input has a media text and is no plain message, the only kind that can be answered so far
+  64  bad words: none of the usages above, or a number out of range
 On all but 0 and 4 nothing is written to the output, except by a drill of a script: it writes what the lines before
 lead to.
 ";
