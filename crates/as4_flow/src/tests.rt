@@ -2,19 +2,37 @@
 ghost use Rattle.std.specs.Prelude.{◌≡◌, IfOk};
 
 use crate::{
-    Got, MemorySink, MemorySource, Put, ReadRefusal, ReaderSource, SendFailed, Sink, Source,
-    WriterSink, read_all, send_all,
+    Got, MemorySink, MemorySource, Put, ReadRefusal, ReaderSource, Sink, Source, WriterSink,
+    read_all, send_all,
 };
+use std::alloc::Global;
 use std::io;
 use std::io::{ErrorKind, Read, Write};
 use std::test::Fail;
 
+/// A source of these bytes in these pieces, of which one call fails.
+fn source_of(
+    alloc: Global,
+    bytes: &[u8],
+    pieces: Vec<usize>,
+    fails: u64,
+) -> Result<MemorySource, Fail> {
+    let bytes = bytes.to_vec(alloc)?;
+    let failing = vec![in alloc; fails]?;
+    Ok(MemorySource::of(bytes, pieces, failing))
+}
+
+/// A sink that takes these pieces, of which one call fails.
+fn sink_of(alloc: Global, pieces: Vec<usize>, fails: u64) -> Result<MemorySink, Fail> {
+    let failing = vec![in alloc; fails]?;
+    Ok(MemorySink::of(alloc, pieces, failing))
+}
+
 #[test]
 fn a_source_gives_its_pieces_and_faults(rt: HostRuntime) -> Result<(), Fail> {
     let alloc = rt.alloc();
-    let bytes = b"0123456789".to_vec(alloc)?;
     let pieces = vec![in alloc; 3, 0, 4]?;
-    let mut source = MemorySource::of(bytes, pieces, vec![in alloc; 2u64]?);
+    let mut source = source_of(alloc, b"0123456789", pieces, 2)?;
     let mut room = *b".....";
     let answers = [
         (Got::Gave(3), *b"012.."),
@@ -31,6 +49,7 @@ fn a_source_gives_its_pieces_and_faults(rt: HostRuntime) -> Result<(), Fail> {
         assert_eq!(rt; room, *after, "at {call}");
     }
     assert!(rt; source.rest().is_empty());
+    drop(source);
     Ok(())
 }
 
@@ -38,7 +57,7 @@ fn a_source_gives_its_pieces_and_faults(rt: HostRuntime) -> Result<(), Fail> {
 fn a_sink_takes_its_pieces_and_faults(rt: HostRuntime) -> Result<(), Fail> {
     let alloc = rt.alloc();
     let pieces = vec![in alloc; 3, 0]?;
-    let mut sink = MemorySink::of(alloc, pieces, vec![in alloc; 2u64]?);
+    let mut sink = sink_of(alloc, pieces, 2)?;
     sink.reserve(9)?;
     let answers = [Put::Took(3), Put::Failed, Put::Took(1), Put::Took(4)];
     for (call, answer) in answers.iter().enumerate() {
@@ -46,14 +65,35 @@ fn a_sink_takes_its_pieces_and_faults(rt: HostRuntime) -> Result<(), Fail> {
         assert_eq!(rt; put, *answer, "at {call}");
     }
     assert_eq!(rt; sink.bytes(), b"01200123".as_slice());
-    assert_eq!(rt; sink.into_bytes().as_slice(), b"01200123".as_slice());
+    let bytes = sink.into_bytes();
+    assert_eq!(rt; bytes.as_slice(), b"01200123".as_slice());
+    drop(bytes);
     Ok(())
+}
+
+/// How many of ten bytes, in pieces of 4, 4 and 2, are read within the limit, where one call fails.
+fn length_read(
+    alloc: Global,
+    limit: usize,
+    fails: u64,
+) -> Result<Result<usize, ReadRefusal>, Fail> {
+    let pieces = vec![in alloc; 4, 4]?;
+    let mut source = source_of(alloc, b"0123456789", pieces, fails)?;
+    let read = read_all(alloc, &mut source, limit);
+    drop(source);
+    match read {
+        Ok(bytes) => {
+            let length = bytes.len();
+            drop(bytes);
+            Ok(Ok(length))
+        }
+        Err(refusal) => Ok(Err(refusal)),
+    }
 }
 
 #[test]
 fn a_source_is_read_to_its_end_within_the_limit(rt: HostRuntime) -> Result<(), Fail> {
-    let alloc = rt.alloc();
-    // The limit, the call that fails and the answer, over ten bytes in pieces of 4, 4 and 2.
+    // The limit, the call that fails and the answer.
     let table = [
         (10, 0, Ok(10)),
         (usize::MAX, 0, Ok(10)),
@@ -65,15 +105,8 @@ fn a_source_is_read_to_its_end_within_the_limit(rt: HostRuntime) -> Result<(), F
         (5, 3, Err(ReadRefusal::TooLong)),
     ];
     for (limit, fails, answer) in table {
-        let bytes = b"0123456789".to_vec(alloc)?;
-        let pieces = vec![in alloc; 4, 4]?;
-        let mut source = MemorySource::of(bytes, pieces, vec![in alloc; fails]?);
-        let read = read_all(alloc, &mut source, limit);
-        assert_eq!(rt;
-            read.map(|bytes| bytes.len()),
-            answer,
-            "at {limit} and {fails}"
-        );
+        let read = length_read(rt.alloc(), limit, fails)?;
+        assert_eq!(rt; read, answer, "at {limit} and {fails}");
     }
     Ok(())
 }
@@ -87,8 +120,11 @@ fn a_long_source_arrives_whole(rt: HostRuntime) -> Result<(), Fail> {
         bytes.extend_from_slice(vec![in alloc; byte; 20_001]?.as_slice())?;
     }
     let mut source = MemorySource::of(bytes.clone()?, Vec::new(alloc), Vec::new(alloc));
-    let read = read_all(alloc, &mut source, 1 << 30);
-    assert_eq!(rt; read, Ok(bytes));
+    let read = read_all(alloc, &mut source, 1 << 30)?;
+    drop(source);
+    assert_eq!(rt; read.as_slice(), bytes.as_slice());
+    drop(read);
+    drop(bytes);
     Ok(())
 }
 
@@ -96,10 +132,11 @@ fn a_long_source_arrives_whole(rt: HostRuntime) -> Result<(), Fail> {
 fn all_is_sent_or_a_front(rt: HostRuntime) -> Result<(), Fail> {
     let alloc = rt.alloc();
     let pieces = vec![in alloc; 3, 3]?;
-    let mut sink = MemorySink::of(alloc, pieces, vec![in alloc; 4u64]?);
-    assert_eq!(rt; send_all(&mut sink, b"0123456789"), Ok(()));
-    assert_eq!(rt; send_all(&mut sink, b"abc"), Err(SendFailed));
+    let mut sink = sink_of(alloc, pieces, 4)?;
+    send_all(&mut sink, b"0123456789")?;
+    assert!(rt; send_all(&mut sink, b"abc").is_err());
     assert_eq!(rt; sink.bytes(), b"0123456789".as_slice());
+    drop(sink);
     Ok(())
 }
 
@@ -107,14 +144,18 @@ fn all_is_sent_or_a_front(rt: HostRuntime) -> Result<(), Fail> {
 fn the_systems_streams_carry_all(rt: HostRuntime) -> Result<(), Fail> {
     let alloc = rt.alloc();
     let mut source = ReaderSource::of(alloc, b"0123456789".as_slice())?;
-    let read = read_all(alloc, &mut source, 10);
-    assert_eq!(rt; read, Ok(b"0123456789".to_vec(alloc)?));
+    let read = read_all(alloc, &mut source, 10)?;
+    drop(source);
+    assert_eq!(rt; read.as_slice(), b"0123456789".as_slice());
+    drop(read);
 
     let mut written = Vec::new(alloc);
     let mut sink = WriterSink::of(&mut written);
-    assert_eq!(rt; send_all(&mut sink, b"0123456789"), Ok(()));
-    assert_eq!(rt; sink.flush(), Ok(()));
+    send_all(&mut sink, b"0123456789")?;
+    sink.flush()?;
+    drop(sink);
     assert_eq!(rt; written.as_slice(), b"0123456789".as_slice());
+    drop(written);
     Ok(())
 }
 
@@ -160,10 +201,12 @@ fn an_interrupted_call_is_made_again_and_a_fault_is_told(rt: HostRuntime) -> Res
     assert_eq!(rt; source.read(&mut room), Got::Gave(1));
     assert_eq!(rt; room, [0, 7, 7, 7]);
     assert_eq!(rt; source.read(&mut room), Got::Failed);
+    drop(source);
 
     let mut sink = WriterSink::of(Halting { calls: 0 });
-    assert_eq!(rt; sink.write(b"0123"), Put::Took(1));
-    assert_eq!(rt; sink.write(b"123"), Put::Failed);
-    assert_eq!(rt; sink.flush(), Err(SendFailed));
+    let puts = [sink.write(b"0123"), sink.write(b"123")];
+    assert_eq!(rt; puts, [Put::Took(1), Put::Failed]);
+    assert!(rt; sink.flush().is_err());
+    drop(sink);
     Ok(())
 }

@@ -1,6 +1,7 @@
 //! What no clause says: that memory suffices. Each line of the grammar, lines that are none, and sources line by line.
 use crate::{EndName, LINE_LIMIT, Line, LineGot, LineReader, ScriptLoad, Way, line_of};
 use as4_flow::MemorySource;
+use std::alloc::Global;
 use std::test::Fail;
 
 /// What a line says, in short.
@@ -60,6 +61,19 @@ fn weight_of(load: &ScriptLoad) -> u64 {
     }
 }
 
+/// What the line of these bytes says, if they are one.
+fn shape_in(alloc: Global, bytes: &[u8]) -> Result<Option<Shape>, Fail> {
+    match line_of(alloc, bytes) {
+        Ok(Some(line)) => {
+            let shape = shape_of(&line);
+            drop(line);
+            Ok(Some(shape))
+        }
+        Ok(None) => Ok(None),
+        Err(error) => Err(Fail::from(error)),
+    }
+}
+
 #[test]
 fn each_line_of_the_grammar_is_read(rt: HostRuntime) -> Result<(), Fail> {
     let table = [
@@ -100,8 +114,7 @@ fn each_line_of_the_grammar_is_read(rt: HostRuntime) -> Result<(), Fail> {
         (b"status a 2".as_slice(), told(b'u', false, 0, 2)),
     ];
     for (bytes, shape) in table {
-        let line = line_of(rt.alloc(), bytes)?;
-        assert_eq!(rt; line.as_ref().map(shape_of), Some(shape));
+        assert_eq!(rt; shape_in(rt.alloc(), bytes)?, Some(shape));
     }
     Ok(())
 }
@@ -134,68 +147,91 @@ fn what_is_no_line_is_refused(rt: HostRuntime) -> Result<(), Fail> {
         b"mode m1 hold 3 5000".as_slice(),
     ];
     for bytes in table {
-        assert!(rt; line_of(rt.alloc(), bytes)?.is_none(), "{bytes:?}");
+        assert!(rt; shape_in(rt.alloc(), bytes)?.is_none(), "{bytes:?}");
     }
     Ok(())
 }
 
-// A letter for each answer, and the line.
-fn told_of(got: &LineGot) -> (u8, &[u8]) {
-    match got {
-        LineGot::Line(line) => (b'l', line.bytes()),
-        LineGot::End => (b'e', b"".as_slice()),
-        LineGot::Unended => (b'u', b"".as_slice()),
-        LineGot::TooLong => (b't', b"".as_slice()),
-        LineGot::Failed => (b'f', b"".as_slice()),
-        LineGot::NoMemory => (b'm', b"".as_slice()),
+/// Adds a letter for the next answer, and the line.
+fn put_next(
+    reader: &mut LineReader,
+    source: &mut MemorySource,
+    told: &mut Vec<u8>,
+) -> Result<(), Fail> {
+    match reader.next(source) {
+        LineGot::Line(line) => {
+            told.push(b'l')?;
+            told.extend_from_slice(line.bytes())?;
+            drop(line);
+        }
+        LineGot::End => told.push(b'e')?,
+        LineGot::Unended => told.push(b'u')?,
+        LineGot::TooLong => told.push(b't')?,
+        LineGot::Failed => told.push(b'f')?,
+        LineGot::NoMemory => told.push(b'm')?,
     }
+    Ok(())
+}
+
+/// The first answers, this many, from a source of these bytes: first in so many pieces of one byte, and then the
+/// rest at once. One call fails.
+fn told_by(
+    alloc: Global,
+    bytes: Vec<u8>,
+    pieces: usize,
+    fails: u64,
+    answers: usize,
+) -> Result<Vec<u8>, Fail> {
+    let sizes = vec![in alloc; 1; pieces]?;
+    let failing = vec![in alloc; fails]?;
+    let mut source = MemorySource::of(bytes, sizes, failing);
+    let mut reader = LineReader::new(alloc);
+    let mut told = Vec::new(alloc);
+    let put = put_answers(&mut reader, &mut source, &mut told, answers);
+    drop(source);
+    drop(reader);
+    put?;
+    Ok(told)
+}
+
+fn put_answers(
+    reader: &mut LineReader,
+    source: &mut MemorySource,
+    told: &mut Vec<u8>,
+    answers: usize,
+) -> Result<(), Fail> {
+    for _ in 0..answers {
+        put_next(reader, source, told)?;
+    }
+    Ok(())
 }
 
 #[test]
 fn a_source_is_read_line_by_line(rt: HostRuntime) -> Result<(), Fail> {
-    let alloc = rt.alloc();
     // Whole, and in pieces of one byte. The second call fails.
-    for pieces in [0, 100] {
-        let bytes = b"take a\n\nask b m1\ntick".to_vec(alloc)?;
-        let failing = vec![in alloc; 2u64]?;
-        let mut source = MemorySource::of(bytes, vec![in alloc; 1; pieces]?, failing);
-        let mut reader = LineReader::new(alloc);
-        let mut lines = Vec::new(alloc);
-        for _ in 0..6 {
-            let got = reader.next(&mut source);
-            let (letter, line) = told_of(&got);
-            lines.push(letter)?;
-            lines.extend_from_slice(line)?;
-        }
-        if pieces == 0 {
-            assert_eq!(rt; lines.as_slice(), b"ltake allask b m1fuu".as_slice());
-        } else {
-            assert_eq!(rt; lines.as_slice(), b"fltake allask b m1uu".as_slice());
-        }
+    let cases: [(usize, &[u8]); 2] = [(0, b"ltake allask b m1fuu"), (100, b"fltake allask b m1uu")];
+    for (pieces, told) in cases {
+        let bytes = b"take a\n\nask b m1\ntick".to_vec(rt.alloc())?;
+        let lines = told_by(rt.alloc(), bytes, pieces, 2, 6)?;
+        assert_eq!(rt; lines.as_slice(), told);
     }
     Ok(())
 }
 
 #[test]
 fn nothing_has_no_line(rt: HostRuntime) -> Result<(), Fail> {
-    let alloc = rt.alloc();
-    let mut source = MemorySource::of(Vec::new(alloc), Vec::new(alloc), Vec::new(alloc));
-    let mut reader = LineReader::new(alloc);
-    assert_eq!(rt; told_of(&reader.next(&mut source)).0, b'e');
-    assert_eq!(rt; told_of(&reader.next(&mut source)).0, b'e');
+    let told = told_by(rt.alloc(), Vec::new(rt.alloc()), 0, 0, 2)?;
+    assert_eq!(rt; told.as_slice(), b"ee".as_slice());
     Ok(())
 }
 
 #[test]
 fn a_line_has_a_longest_length(rt: HostRuntime) -> Result<(), Fail> {
-    let alloc = rt.alloc();
     for (length, letter) in [(LINE_LIMIT, b'l'), (LINE_LIMIT + 1, b't')] {
-        let mut bytes = vec![in alloc; b'x'; length]?;
+        let mut bytes = vec![in rt.alloc(); b'x'; length]?;
         bytes.push(b'\n')?;
-        let mut source = MemorySource::of(bytes, Vec::new(alloc), Vec::new(alloc));
-        let mut reader = LineReader::new(alloc);
-        let got = reader.next(&mut source);
-        assert_eq!(rt; told_of(&got).0, letter);
+        let told = told_by(rt.alloc(), bytes, 0, 0, 1)?;
+        assert_eq!(rt; told.as_slice().first().copied(), Some(letter));
     }
     Ok(())
 }

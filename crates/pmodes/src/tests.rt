@@ -1,5 +1,8 @@
 use crate::{Key, ModeRefusal, Modes};
-use as4_values::{MessageId, Mode, PlainData, Seq, Text, UserHeader, stamp_text};
+use as4_values::{
+    Agreement, MessageId, Mode, PlainData, Seq, Service, Side, StampText, Text, UserHeader,
+    stamp_text,
+};
 use std::alloc::Global;
 use std::test::Fail;
 
@@ -47,12 +50,23 @@ fn count(modes: &Modes) -> u64 {
 
 fn outcome(read: Result<Modes, ModeRefusal>) -> Said {
     match read {
-        Ok(modes) => Said::Modes(count(&modes)),
+        Ok(modes) => {
+            let count = count(&modes);
+            drop(modes);
+            Said::Modes(count)
+        }
         Err(ModeRefusal::Toml) => Said::Toml,
         Err(ModeRefusal::Missing { mode, key }) => Said::Missing(mode, key),
         Err(ModeRefusal::Range { mode, key }) => Said::Range(mode, key),
-        Err(ModeRefusal::Twice { .. }) => Said::Twice,
-        Err(ModeRefusal::Ambiguous { .. }) => Said::Ambiguous,
+        Err(ModeRefusal::Twice { name }) => {
+            drop(name);
+            Said::Twice
+        }
+        Err(ModeRefusal::Ambiguous { a, b }) => {
+            drop(a);
+            drop(b);
+            Said::Ambiguous
+        }
         Err(ModeRefusal::NoMemory) => Said::NoMemory,
     }
 }
@@ -130,28 +144,73 @@ fn a_text_is_trimmed_and_has_255_bytes(rt: HostRuntime) -> Result<(), Fail> {
     Ok(())
 }
 
-/// A header that the mode takes.
-fn header(alloc: Global, mode: &Mode) -> Result<UserHeader, Fail> {
+/// The two sides of the mode.
+fn sides_of(alloc: Global, mode: &Mode) -> Result<(Side, Side), Fail> {
+    let from = mode.from.try_clone(alloc)?;
+    match mode.to.try_clone(alloc) {
+        Ok(to) => Ok((from, to)),
+        Err(error) => {
+            drop(from);
+            Err(Fail::from(error))
+        }
+    }
+}
+
+/// What the mode is for.
+fn business_of(alloc: Global, mode: &Mode) -> Result<(Option<Agreement>, Service, Text), Fail> {
+    let agreement = mode.agreement.try_clone(alloc)?;
+    match (mode.service.try_clone(alloc), mode.action.try_clone(alloc)) {
+        (Ok(service), Ok(action)) => Ok((agreement, service, action)),
+        (service, action) => {
+            drop(agreement);
+            drop(service);
+            drop(action);
+            Err(Fail::from("no memory"))
+        }
+    }
+}
+
+/// A stamp and an identifier.
+fn stamp_and_id(alloc: Global) -> Result<(StampText, MessageId), Fail> {
     let stamp = stamp_text(alloc, 0)?;
     let id = MessageId::read(alloc, b"m1@a")?;
-    let (from, to) = (mode.from.try_clone(alloc)?, mode.to.try_clone(alloc)?);
-    let agreement = mode.agreement.try_clone(alloc)?;
-    let service = mode.service.try_clone(alloc)?;
-    let action = mode.action.try_clone(alloc)?;
-    Ok(UserHeader {
-        mpc: None,
-        stamp,
-        id,
-        ref_to: None,
-        from,
-        to,
-        agreement,
-        service,
-        action,
-        conversation: None,
-        properties: Seq::of(Vec::new(alloc)),
-        parts: Seq::of(Vec::new(alloc)),
-    })
+    Ok((stamp, id))
+}
+
+/// A header that the mode takes.
+fn header(alloc: Global, mode: &Mode) -> Result<UserHeader, Fail> {
+    let (stamp, id) = stamp_and_id(alloc)?;
+    let (from, to) = match sides_of(alloc, mode) {
+        Ok(sides) => sides,
+        Err(error) => {
+            drop(stamp);
+            drop(id);
+            return Err(error);
+        }
+    };
+    match business_of(alloc, mode) {
+        Ok((agreement, service, action)) => Ok(UserHeader {
+            mpc: None,
+            stamp,
+            id,
+            ref_to: None,
+            from,
+            to,
+            agreement,
+            service,
+            action,
+            conversation: None,
+            properties: Seq::of(Vec::new(alloc)),
+            parts: Seq::of(Vec::new(alloc)),
+        }),
+        Err(error) => {
+            drop(stamp);
+            drop(id);
+            drop(from);
+            drop(to);
+            Err(error)
+        }
+    }
 }
 
 /// A push `n` and a pull `m` of another action.
@@ -160,7 +219,10 @@ fn push_and_pull(alloc: Global) -> Result<Modes, Fail> {
     text.push_str(table(alloc, "push", "pull = \"c\"\naddress = \"http://h\"")?.as_str())?;
     match Modes::read(alloc, text.as_bytes()) {
         Ok(modes) => Ok(modes),
-        Err(_) => Err(Fail::from("not read")),
+        Err(refusal) => {
+            drop(refusal);
+            Err(Fail::from("not read"))
+        }
     }
 }
 
@@ -174,34 +236,81 @@ fn is_named(found: Option<&Mode>, name: &[u8]) -> bool {
 
 #[test]
 fn modes_are_found_by_place_and_name(rt: HostRuntime) -> Result<(), Fail> {
-    let modes = push_and_pull(rt.alloc())?;
     let named = Text::read(rt.alloc(), b"n")?;
+    let modes = push_and_pull(rt.alloc())?;
     assert!(rt; is_named(modes.get(0), b"n") && is_named(modes.get(1), b"m"));
     assert!(rt; modes.get(2).is_none());
     assert!(rt; is_named(modes.named(&named), b"n") && modes.channel(&named).is_none());
+    drop(modes);
+    drop(named);
     Ok(())
 }
 
 #[test]
 fn a_mode_is_found_by_its_channel(rt: HostRuntime) -> Result<(), Fail> {
-    let modes = push_and_pull(rt.alloc())?;
     let channel = Text::read(rt.alloc(), b"c")?;
+    let modes = push_and_pull(rt.alloc())?;
     assert!(rt; is_named(modes.channel(&channel), b"m") && modes.named(&channel).is_none());
+    drop(modes);
+    drop(channel);
     Ok(())
 }
 
 /// Whether a message with the terms of the mode at this place finds the mode of this name.
 fn finds(alloc: Global, modes: &Modes, place: u64, name: &[u8]) -> Result<bool, Fail> {
-    let header = header(alloc, modes.get(place).ok_or("no mode")?)?;
-    Ok(is_named(modes.of(&header), name))
+    match header(alloc, modes.get(place).ok_or("no mode")?) {
+        Ok(header) => {
+            let is_found = is_named(modes.of(&header), name);
+            drop(header);
+            Ok(is_found)
+        }
+        Err(error) => Err(error),
+    }
+}
+
+/// Whether a message finds the first mode by its terms, and one the second.
+fn finds_both(alloc: Global, modes: &Modes) -> Result<(bool, bool), Fail> {
+    let first = finds(alloc, modes, 0, b"n")?;
+    let second = finds(alloc, modes, 1, b"m")?;
+    Ok((first, second))
 }
 
 #[test]
 fn a_message_finds_its_mode(rt: HostRuntime) -> Result<(), Fail> {
     let modes = push_and_pull(rt.alloc())?;
-    assert!(rt; finds(rt.alloc(), &modes, 0, b"n")?);
-    assert!(rt; finds(rt.alloc(), &modes, 1, b"m")?);
+    let found = finds_both(rt.alloc(), &modes);
+    drop(modes);
+    assert_eq!(rt; found?, (true, true));
     Ok(())
+}
+
+/// Puts a copy of the first mode behind the list.
+fn put_first(alloc: Global, modes: &Modes, list: &mut Vec<Mode>) -> Result<(), Fail> {
+    match modes.get(0).ok_or("first")?.try_clone(alloc) {
+        Ok(copy) => match list.push(copy) {
+            Ok(()) => Ok(()),
+            Err(error) => {
+                drop(error);
+                Err(Fail::from("no memory"))
+            }
+        },
+        Err(error) => Err(Fail::from(error)),
+    }
+}
+
+/// What is said of a list of two of the first mode.
+fn said_of_two(alloc: Global, modes: &Modes) -> Result<Said, Fail> {
+    let mut list = Vec::new(alloc);
+    for _ in 0..2 {
+        match put_first(alloc, modes, &mut list) {
+            Ok(()) => {}
+            Err(error) => {
+                drop(list);
+                return Err(error);
+            }
+        }
+    }
+    Ok(outcome(Modes::of_list(alloc, Seq::of(list))))
 }
 
 #[test]
@@ -209,13 +318,8 @@ fn a_list_is_taken_over(rt: HostRuntime) -> Result<(), Fail> {
     let none = Modes::of_list(rt.alloc(), Seq::of(Vec::new(rt.alloc())));
     assert_eq!(rt; outcome(none), Said::Modes(0));
     let modes = push_and_pull(rt.alloc())?;
-    let mut list = Vec::new(rt.alloc());
-    for _ in 0..2 {
-        list.push(modes.get(0).ok_or("first")?.try_clone(rt.alloc())?)?;
-    }
-    assert_eq!(rt;
-        outcome(Modes::of_list(rt.alloc(), Seq::of(list))),
-        Said::Twice
-    );
+    let said = said_of_two(rt.alloc(), &modes);
+    drop(modes);
+    assert_eq!(rt; said?, Said::Twice);
     Ok(())
 }
