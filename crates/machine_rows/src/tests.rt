@@ -1,7 +1,7 @@
 use crate::{pull_request, receipt};
 use as4_values::{
-    MessageId, Party, PlainData, Seq, Service, Side, Signal, SignalBody, Text, UserHeader,
-    read_stamp,
+    MessageId, Party, PlainData, Seq, Service, Side, Signal, SignalBody, StampText, Text,
+    UserHeader, read_stamp,
 };
 use std::alloc::Global;
 use std::test::Fail;
@@ -19,37 +19,64 @@ fn text(alloc: Global, word: &[u8]) -> Option<Text> {
 }
 
 fn side(alloc: Global, id: &[u8]) -> Option<Side> {
+    let role = text(alloc, b"r")?;
     let party = Party {
         id: text(alloc, id)?,
         kind: None,
     };
     Some(Side {
         parties: Seq::of(vec![in alloc; party].ok()?),
-        role: text(alloc, b"r")?,
+        role,
     })
 }
 
-fn header(alloc: Global) -> Option<UserHeader> {
+fn sides(alloc: Global) -> Option<(Side, Side)> {
+    match (side(alloc, b"a"), side(alloc, b"b")) {
+        (Some(from), Some(to)) => Some((from, to)),
+        (from, to) => {
+            drop(from);
+            drop(to);
+            None
+        }
+    }
+}
+
+/// What service a message is for, and its action.
+fn service(alloc: Global) -> Option<(Service, Text)> {
+    let action = text(alloc, b"act")?;
+    let value = text(alloc, b"s")?;
+    Some((Service { value, kind: None }, action))
+}
+
+fn named(alloc: Global) -> Option<(StampText, MessageId)> {
     let stamp = read_stamp(alloc, b"2025-01-02T03:04:05Z").ok()?;
     let id = MessageId::of_submission(alloc, 0, 1).ok()?;
-    let from = side(alloc, b"a")?;
-    let to = side(alloc, b"b")?;
-    let value = text(alloc, b"s")?;
-    let action = text(alloc, b"act")?;
-    Some(UserHeader {
-        mpc: None,
-        stamp,
-        id,
-        ref_to: None,
-        from,
-        to,
-        agreement: None,
-        service: Service { value, kind: None },
-        action,
-        conversation: None,
-        properties: Seq::of(Vec::new(alloc)),
-        parts: Seq::of(Vec::new(alloc)),
-    })
+    Some((stamp, id))
+}
+
+fn header(alloc: Global) -> Option<UserHeader> {
+    match (named(alloc), service(alloc), sides(alloc)) {
+        (Some((stamp, id)), Some((service, action)), Some((from, to))) => Some(UserHeader {
+            mpc: None,
+            stamp,
+            id,
+            ref_to: None,
+            from,
+            to,
+            agreement: None,
+            service,
+            action,
+            conversation: None,
+            properties: Seq::of(Vec::new(alloc)),
+            parts: Seq::of(Vec::new(alloc)),
+        }),
+        (named, service, sides) => {
+            drop(named);
+            drop(service);
+            drop(sides);
+            None
+        }
+    }
 }
 
 /// Whether the signal is made at the moment, by the nonce 1.
@@ -68,11 +95,20 @@ fn asks_for(body: &SignalBody, channel: &[u8]) -> bool {
 #[test]
 fn a_receipt_refers_to_its_message_and_copies_the_header(rt: HostRuntime) -> Result<(), Fail> {
     let header = header(rt.alloc()).ok_or("no header")?;
-    let signal = receipt(rt.alloc(), &header, MOMENT, 1)?;
-    assert!(rt; is_made(&signal));
-    assert!(rt; matches!(&signal.ref_to, Some(id) if id.same(&header.id)));
-    assert!(rt; is_copy(&signal.body, &header));
-    Ok(())
+    match receipt(rt.alloc(), &header, MOMENT, 1) {
+        Ok(signal) => {
+            assert!(rt; is_made(&signal));
+            assert!(rt; matches!(&signal.ref_to, Some(id) if id.same(&header.id)));
+            assert!(rt; is_copy(&signal.body, &header));
+            drop(signal);
+            drop(header);
+            Ok(())
+        }
+        Err(error) => {
+            drop(header);
+            Err(error.into())
+        }
+    }
 }
 
 #[test]
@@ -82,5 +118,6 @@ fn a_pull_request_names_its_channel(rt: HostRuntime) -> Result<(), Fail> {
     assert!(rt; is_made(&signal));
     assert!(rt; signal.ref_to.is_none());
     assert!(rt; asks_for(&signal.body, b"c"));
+    drop(signal);
     Ok(())
 }

@@ -1,4 +1,4 @@
-ghost use Rattle.std.specs.Prelude.{◌≡◌, ◌≢◌, ◌≤◌, [], IfOk, IfSome, None, false, length, option_copied, option_map, true};
+ghost use Rattle.std.specs.Prelude.{◌≡◌, ◌≤◌, IfOk, IfSome, None, false, length, option_copied, option_map, true};
 ghost use Rattle.as4_effects.specs.Effects.{effects_limit};
 ghost use Rattle.end_tables.specs.Rooms.{new_tables};
 ghost use Rattle.end_tables.specs.Standing.{CanStand};
@@ -77,8 +77,12 @@ impl Core {
         ensures reply { result ≡ plan.outcome.reply }
     {
         let (effects, queues, reply) = plan.into_parts();
+        if effects.items().is_empty() {
+            drop(effects);
+            drop(queues);
+            return reply;
+        }
         let len = record_len(&effects);
-        let _limited = self.tables.size();
         apply_all(&mut self.tables, effects, &queues);
         self.tables.grow(len);
         reply
@@ -149,16 +153,12 @@ fn lacking(tables: &EndTables, effects: &Seq<Effect>) -> Option<u64>
     Some(need)
 }
 
-/// How many bytes the record of the effects takes; where there are none there is no record.
+/// How many bytes the record of the effects takes.
 #[tactic(auto, unfolding(exchange_model::specs::Apply::record_len))]
 pub(crate) fn record_len(effects: &Seq<Effect>) -> u64
     requires { length effects.now ≤ effects_limit }
-    ensures none { effects.now ≡ [] → result ≡ 0 }
-    ensures some { effects.now ≢ [] → result ≡ record_len effects.now }
+    ensures value { result ≡ record_len effects.now }
     ensures few { result ≤ 549755813895 }
 {
-    if effects.items().is_empty() {
-        return 0;
-    }
     body_len(effects) + 5
 }

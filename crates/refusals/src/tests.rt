@@ -29,17 +29,36 @@ fn ready(tables: &mut EndTables, effect: &Effect) -> Option<Queue>
 
 /// Makes the effect's change, where it fits.
 fn act(tables: &mut EndTables, effect: Effect) -> Option<()> {
-    let queue = ready(tables, &effect)?;
-    tables.apply(effect, &queue);
-    Some(())
+    match ready(tables, &effect) {
+        Some(queue) => {
+            tables.apply(effect, &queue);
+            drop(queue);
+            Some(())
+        }
+        None => {
+            drop(effect);
+            None
+        }
+    }
 }
 
-/// The tables with two submissions that are pending.
-fn two_pending(alloc: Global) -> Option<EndTables> {
-    let mut tables = EndTables::new(alloc);
-    act(&mut tables, submitted(alloc, 0)?)?;
-    act(&mut tables, submitted(alloc, 1)?)?;
-    Some(tables)
+/// Takes in the submission of this number.
+fn takes_in(alloc: Global, tables: &mut EndTables, number: u64) -> Option<()> {
+    match submitted(alloc, number) {
+        Some(effect) => act(tables, effect),
+        None => None,
+    }
+}
+
+/// Takes in two submissions, of which the first is receipted where that is asked for.
+fn takes_in_two(alloc: Global, tables: &mut EndTables, receipted: bool) -> Option<()> {
+    takes_in(alloc, tables, 0)?;
+    takes_in(alloc, tables, 1)?;
+    if receipted {
+        act(tables, Effect::Receipted { number: 0 })
+    } else {
+        Some(())
+    }
 }
 
 /// An item of an error signal: how bad it is, its code, and the number of the submission that it names.
@@ -48,14 +67,6 @@ struct Row<'a> {
     severity: Severity,
     code: &'a [u8],
     about: Option<u64>,
-}
-
-fn failure(code: &[u8], about: Option<u64>) -> Row<'_> {
-    Row {
-        severity: Severity::Failure,
-        code,
-        about,
-    }
 }
 
 /// The identifier of the submission of this number.
@@ -81,10 +92,21 @@ fn item(alloc: Global, row: &Row<'_>) -> Option<ErrorItem> {
     })
 }
 
+/// Adds the item of this row.
+fn adds(alloc: Global, items: &mut Vec<ErrorItem>, row: &Row<'_>) -> bool {
+    match item(alloc, row) {
+        Some(item) => items.push(item).is_ok(),
+        None => false,
+    }
+}
+
 fn items(alloc: Global, rows: &[Row<'_>]) -> Option<Vec<ErrorItem>> {
     let mut items = Vec::new(alloc);
     for row in rows {
-        items.push(item(alloc, row)?).ok()?;
+        if !adds(alloc, &mut items, row) {
+            drop(items);
+            return None;
+        }
     }
     Some(items)
 }
@@ -112,100 +134,156 @@ fn are_refusals(effects: &[Effect], wanted: &[(u64, &[u8])]) -> bool {
     true
 }
 
-/// What a signal that refers to the submission of this number, with these items, changes.
-fn effects_of(
+/// Whether a signal that refers to this message, with these items, refuses these.
+fn refuses_by(
     alloc: Global,
     tables: &EndTables,
-    ref_to: Option<u64>,
+    ref_to: &Option<MessageId>,
     items: &[ErrorItem],
-) -> Option<Seq<Effect>> {
+    wanted: &[(u64, &[u8])],
+) -> Option<bool> {
     if items.len() > 256 {
         return None;
     }
-    let ref_to = id_of(alloc, ref_to)?;
-    refusals_of(alloc, tables, &ref_to, items).ok()
+    match refusals_of(alloc, tables, ref_to, items) {
+        Ok(effects) => {
+            let are = are_refusals(effects.items(), wanted);
+            drop(effects);
+            Some(are)
+        }
+        Err(error) => {
+            drop(error);
+            None
+        }
+    }
 }
 
-/// Whether a signal that refers to the submission of this number, with these items, refuses these.
-fn refuses(
-    alloc: Global,
-    tables: &EndTables,
+/// An error signal of the other end that finds two submissions.
+#[derive(Clone, Copy)]
+struct Case<'a> {
+    name: &'a str,
+    /// Whether the first is receipted; the others are pending.
+    receipted: bool,
+    /// The number of the submission that the signal refers to.
     ref_to: Option<u64>,
-    rows: &[Row<'_>],
-    wanted: &[(u64, &[u8])],
-) -> Option<bool> {
-    let items = items(alloc, rows)?;
-    let effects = effects_of(alloc, tables, ref_to, items.as_slice())?;
-    Some(are_refusals(effects.items(), wanted))
+    rows: &'a [Row<'a>],
+    /// The numbers and codes of the refusals, in order.
+    wanted: &'a [(u64, &'a [u8])],
 }
 
-#[test]
-fn a_failure_refuses_the_submission_that_it_names(rt: HostRuntime) -> Result<(), Fail> {
-    let tables = two_pending(rt.alloc()).ok_or("no tables")?;
-    let rows = [failure(b"EBMS:0004", Some(1))];
-    assert_eq!(rt;
-        refuses(rt.alloc(), &tables, None, &rows, &[(1, b"EBMS:0004")]),
-        Some(true)
-    );
-    Ok(())
+/// Whether the signal refuses in these tables what it should.
+fn refuses_in(alloc: Global, tables: &EndTables, case: &Case<'_>) -> Option<bool> {
+    let ref_to = id_of(alloc, case.ref_to)?;
+    let items = items(alloc, case.rows)?;
+    let refuses = refuses_by(alloc, tables, &ref_to, items.as_slice(), case.wanted);
+    drop(items);
+    refuses
 }
 
-#[test]
-fn a_warning_refuses_none(rt: HostRuntime) -> Result<(), Fail> {
-    let tables = two_pending(rt.alloc()).ok_or("no tables")?;
-    let rows = [Row {
-        severity: Severity::Warning,
-        code: b"EBMS:0004",
-        about: Some(1),
-    }];
-    assert_eq!(rt;
-        refuses(rt.alloc(), &tables, Some(0), &rows, &[]),
-        Some(true)
-    );
-    Ok(())
+/// Whether the signal refuses what it should.
+fn refuses(alloc: Global, case: &Case<'_>) -> Option<bool> {
+    let mut tables = EndTables::new(alloc);
+    let refuses = match takes_in_two(alloc, &mut tables, case.receipted) {
+        Some(()) => refuses_in(alloc, &tables, case),
+        None => None,
+    };
+    drop(tables);
+    refuses
 }
 
-#[test]
-fn of_two_failures_the_first_refuses(rt: HostRuntime) -> Result<(), Fail> {
-    let tables = two_pending(rt.alloc()).ok_or("no tables")?;
-    let rows = [
-        failure(b"EBMS:0102", Some(1)),
-        failure(b"EBMS:0004", Some(0)),
-        failure(b"EBMS:0001", Some(1)),
-    ];
-    let wanted = [(1, b"EBMS:0102".as_slice()), (0, b"EBMS:0004".as_slice())];
-    assert_eq!(rt;
-        refuses(rt.alloc(), &tables, None, &rows, &wanted),
-        Some(true)
-    );
-    Ok(())
-}
+/// Signals that come, and what each refuses.
+const CASES: [Case<'static>; 6] = [
+    Case {
+        name: "a failure refuses the submission that it names",
+        receipted: false,
+        ref_to: None,
+        rows: &[Row {
+            severity: Severity::Failure,
+            code: b"EBMS:0004",
+            about: Some(1),
+        }],
+        wanted: &[(1, b"EBMS:0004")],
+    },
+    Case {
+        name: "a warning refuses none",
+        receipted: false,
+        ref_to: Some(0),
+        rows: &[Row {
+            severity: Severity::Warning,
+            code: b"EBMS:0004",
+            about: Some(1),
+        }],
+        wanted: &[],
+    },
+    Case {
+        name: "of two failures the first refuses",
+        receipted: false,
+        ref_to: None,
+        rows: &[
+            Row {
+                severity: Severity::Failure,
+                code: b"EBMS:0102",
+                about: Some(1),
+            },
+            Row {
+                severity: Severity::Failure,
+                code: b"EBMS:0004",
+                about: Some(0),
+            },
+            Row {
+                severity: Severity::Failure,
+                code: b"EBMS:0001",
+                about: Some(1),
+            },
+        ],
+        wanted: &[(1, b"EBMS:0102"), (0, b"EBMS:0004")],
+    },
+    Case {
+        name: "a failure that names none refuses what its signal refers to",
+        receipted: false,
+        ref_to: Some(1),
+        rows: &[Row {
+            severity: Severity::Failure,
+            code: b"EBMS:0004",
+            about: None,
+        }],
+        wanted: &[(1, b"EBMS:0004")],
+    },
+    Case {
+        name: "a failure that names none, in a signal that refers to none",
+        receipted: false,
+        ref_to: None,
+        rows: &[Row {
+            severity: Severity::Failure,
+            code: b"EBMS:0004",
+            about: None,
+        }],
+        wanted: &[],
+    },
+    Case {
+        name: "what is unknown or settled is not refused",
+        receipted: true,
+        ref_to: Some(1),
+        rows: &[
+            Row {
+                severity: Severity::Failure,
+                code: b"EBMS:0004",
+                about: Some(2),
+            },
+            Row {
+                severity: Severity::Failure,
+                code: b"EBMS:0004",
+                about: Some(0),
+            },
+        ],
+        wanted: &[],
+    },
+];
 
 #[test]
-fn a_failure_that_names_none_refuses_what_its_signal_refers_to(
-    rt: HostRuntime,
-) -> Result<(), Fail> {
-    let tables = two_pending(rt.alloc()).ok_or("no tables")?;
-    let rows = [failure(b"EBMS:0004", None)];
-    assert_eq!(rt;
-        refuses(rt.alloc(), &tables, Some(1), &rows, &[(1, b"EBMS:0004")]),
-        Some(true)
-    );
-    assert_eq!(rt; refuses(rt.alloc(), &tables, None, &rows, &[]), Some(true));
-    Ok(())
-}
-
-#[test]
-fn what_is_unknown_or_settled_is_not_refused(rt: HostRuntime) -> Result<(), Fail> {
-    let mut tables = two_pending(rt.alloc()).ok_or("no tables")?;
-    act(&mut tables, Effect::Receipted { number: 0 }).ok_or("no receipt")?;
-    let rows = [
-        failure(b"EBMS:0004", Some(2)),
-        failure(b"EBMS:0004", Some(0)),
-    ];
-    assert_eq!(rt;
-        refuses(rt.alloc(), &tables, Some(1), &rows, &[]),
-        Some(true)
-    );
+fn an_error_signal_refuses_what_its_failures_are_about(rt: HostRuntime) -> Result<(), Fail> {
+    for case in &CASES {
+        assert_eq!(rt; refuses(rt.alloc(), case), Some(true), "{}", case.name);
+    }
     Ok(())
 }

@@ -16,7 +16,7 @@ use pmodes::Modes;
 use std::alloc::Global;
 
 /// What an end said, without its texts.
-#[derive(Clone, Copy, Debug, PartialEq, Eq)]
+#[derive(Clone, Copy, PartialEq, Eq)]
 pub enum Said {
     Submitted(u64),
     Ticked(u64),
@@ -37,7 +37,52 @@ pub enum Said {
     Receipted,
     Failed,
     Refused,
+    /// So many messages in the inbox, submissions with a receipt, or bytes in the journal.
+    Count(u64),
     Other,
+}
+
+/// What happens at an end.
+#[derive(Clone, Copy)]
+pub enum Step<'a> {
+    /// The bytes `hello` are handed in by this mode.
+    Submit(&'a str),
+    Tick(u64),
+    Take,
+    /// A pull request by this mode is asked for.
+    Ask(&'a str),
+    /// The message comes that the other end pushed last.
+    Hear,
+    /// A pull request for this channel comes.
+    Pull(&'a str),
+    /// A receipt comes of the message that it pushed last.
+    Receipt,
+    /// The same, without a copy of the header.
+    BareReceipt,
+    /// The same, with a copy that has another action.
+    OtherReceipt,
+    /// A receipt comes of the message of this identifier.
+    ReceiptOf(&'a str),
+    /// The error 0006, a warning, comes about the message that it pushed last.
+    Warning,
+    /// The error 0301, a failure, comes about it.
+    Failure,
+    Read(u64),
+    /// How the message that it pushed last stands is asked.
+    Status,
+    /// How many messages its inbox has.
+    Inbox,
+    /// How many submissions have their receipts.
+    Receipts,
+    /// How many bytes its journal has.
+    Size,
+}
+
+/// One of two ends.
+#[derive(Clone, Copy)]
+pub enum End {
+    A,
+    B,
 }
 
 const MODES: &[u8] = b"[[mode]]
@@ -84,39 +129,84 @@ period = 1000
 
 /// An end, and how many events it has met.
 #[derive(Drop)]
-pub struct Rig {
-    pub core: Core,
+struct Rig {
+    core: Core,
     alloc: Global,
     nonce: u128,
     /// The message that it pushed last.
     pushed: Option<Message>,
 }
 
-/// Two of them.
-pub fn two_ends(alloc: Global) -> Option<(Rig, Rig)> {
-    match (Rig::new(alloc), Rig::new(alloc)) {
-        (Some(one), Some(other)) => Some((one, other)),
-        (one, other) => {
-            drop(one);
-            drop(other);
-            None
+/// How many steps two new ends answer as they should, up to the first that they don't.
+pub fn right_steps(alloc: Global, steps: &[(End, Step<'_>, Said)]) -> usize {
+    match (new_end(alloc), new_end(alloc)) {
+        (Some(mut a), Some(mut b)) => {
+            let right = right_steps_of(&mut a, &mut b, steps);
+            drop(a);
+            drop(b);
+            right
+        }
+        (a, b) => {
+            drop(a);
+            drop(b);
+            0
         }
     }
 }
 
+/// How many steps these two answer as they should, up to the first that they don't.
+fn right_steps_of(a: &mut Rig, b: &mut Rig, steps: &[(End, Step<'_>, Said)]) -> usize {
+    for place in 0..steps.len() {
+        let (end, step, said) = steps[place];
+        let answer = match end {
+            End::A => a.does(step, b),
+            End::B => b.does(step, a),
+        };
+        if answer != Some(said) {
+            return place;
+        }
+    }
+    steps.len()
+}
+
+/// An end to which nothing has happened.
+fn new_end(alloc: Global) -> Option<Rig> {
+    let modes = Modes::read(alloc, MODES).ok()?;
+    Some(Rig {
+        core: Core::new(alloc, modes),
+        alloc,
+        nonce: 0,
+        pushed: None,
+    })
+}
+
 impl Rig {
-    pub fn new(alloc: Global) -> Option<Rig> {
-        let modes = Modes::read(alloc, MODES).ok()?;
-        Some(Rig {
-            core: Core::new(alloc, modes),
-            alloc,
-            nonce: 0,
-            pushed: None,
-        })
+    /// What it says to a step.
+    #[tactic(auto, unfolding(exchange_model::specs::Coming::may_come, exchange_model::specs::ErrorCodes::error_row, exchange_model::specs::ErrorCodes::error_table))]
+    fn does(&mut self, step: Step<'_>, other: &Rig) -> Option<Said> {
+        match step {
+            Step::Submit(mode) => self.submits(mode),
+            Step::Tick(moment) => self.ticks(moment),
+            Step::Take => self.says(What::Take),
+            Step::Ask(mode) => self.asks(mode),
+            Step::Hear => self.hears(other),
+            Step::Pull(channel) => self.is_pulled(channel),
+            Step::Receipt => self.is_answered(true),
+            Step::BareReceipt => self.is_answered(false),
+            Step::OtherReceipt => self.is_answered_for_another_action(),
+            Step::ReceiptOf(id) => self.is_answered_for(id),
+            Step::Warning => self.is_refused(6),
+            Step::Failure => self.is_refused(301),
+            Step::Read(n) => self.says(What::Read { n }),
+            Step::Status => self.status(),
+            Step::Inbox => Some(Said::Count(self.core.totals().inbox)),
+            Step::Receipts => Some(Said::Count(self.core.totals().receipted)),
+            Step::Size => Some(Said::Count(self.core.size())),
+        }
     }
 
     /// What it says to an event.
-    pub fn says(&mut self, what: What) -> Option<Said>
+    fn says(&mut self, what: What) -> Option<Said>
         requires { IsTrue (may_come what) }
     {
         let stamp = self.core.moment();
@@ -171,7 +261,7 @@ impl Rig {
     }
 
     #[tactic(auto, unfolding(exchange_model::specs::Coming::may_come))]
-    pub fn ticks(&mut self, moment: u64) -> Option<Said> {
+    fn ticks(&mut self, moment: u64) -> Option<Said> {
         if moment > 1_000_000 {
             return None;
         }
@@ -179,24 +269,16 @@ impl Rig {
     }
 
     #[tactic(auto, unfolding(exchange_model::specs::Coming::may_come))]
-    pub fn takes(&mut self) -> Option<Said> {
-        self.says(What::Take)
-    }
-
-    #[tactic(auto, unfolding(exchange_model::specs::Coming::may_come))]
-    pub fn asks(&mut self, mode: &str) -> Option<Said> {
+    fn asks(&mut self, mode: &str) -> Option<Said> {
         let mode = Text::read(self.alloc, mode.as_bytes()).ok()?;
         self.says(What::Ask { mode })
     }
 
     /// The bytes `hello` are handed in by this mode.
     #[tactic(auto, unfolding(exchange_model::specs::Coming::may_come))]
-    pub fn submits(&mut self, mode: &str) -> Option<Said> {
-        let alloc = self.alloc;
-        let mode = Text::read(alloc, mode.as_bytes()).ok()?;
-        let media = Octets::of(Vec::from_slice(alloc, b"text/plain").ok()?);
-        let content = Octets::of(Vec::from_slice(alloc, b"hello").ok()?);
-        let loads = Seq::of(vec![in alloc; Load { media, content }].ok()?);
+    fn submits(&mut self, mode: &str) -> Option<Said> {
+        let mode = Text::read(self.alloc, mode.as_bytes()).ok()?;
+        let loads = hello(self.alloc)?;
         self.says(What::Submit {
             mode,
             conversation: None,
@@ -215,69 +297,85 @@ impl Rig {
     }
 
     /// The message that the other end pushed last comes.
-    pub fn hears(&mut self, sender: &Rig) -> Option<Said> {
+    fn hears(&mut self, sender: &Rig) -> Option<Said> {
         let message = sender.pushed.as_ref()?;
         if !may_come(self.alloc, message) {
             return None;
         }
-        let message = message.try_clone(self.alloc).ok()?;
-        self.says(What::Came(message))
+        match message.try_clone(self.alloc) {
+            Ok(message) => self.says(What::Came(message)),
+            Err(error) => {
+                drop(error);
+                None
+            }
+        }
     }
 
+    /// The signal comes, where it was made.
     #[tactic(auto, unfolding(exchange_model::specs::Coming::may_come))]
-    fn hears_signal(&mut self, signal: Signal) -> Option<Said> {
-        self.says(What::Came(Message::Signal(signal)))
+    fn hears_signal(&mut self, made: Result<Signal, NoMemory>) -> Option<Said> {
+        match made {
+            Ok(signal) => self.says(What::Came(Message::Signal(signal))),
+            Err(error) => {
+                drop(error);
+                None
+            }
+        }
     }
 
-    pub fn is_pulled(&mut self, channel: &str) -> Option<Said> {
+    fn is_pulled(&mut self, channel: &str) -> Option<Said> {
         let mpc = Text::read(self.alloc, channel.as_bytes()).ok()?;
-        let signal = pull_request(self.alloc, &mpc, 0, 1000).ok()?;
+        let signal = pull_request(self.alloc, &mpc, 0, 1000);
         self.hears_signal(signal)
     }
 
     /// A receipt comes of the message that it pushed last, with a copy of its header or without.
-    pub fn is_answered(&mut self, with_copy: bool) -> Option<Said> {
+    fn is_answered(&mut self, with_copy: bool) -> Option<Said> {
         let header = self.header()?;
         let signal = if with_copy {
             receipt(self.alloc, header, 0, 1000)
         } else {
             bare_receipt(self.alloc, &header.id)
         };
-        self.hears_signal(signal.ok()?)
+        self.hears_signal(signal)
     }
 
     /// A receipt comes whose copy has another action.
-    pub fn is_answered_for_another_action(&mut self) -> Option<Said> {
-        let action = Text::read(self.alloc, b"order").ok()?;
-        let mut header = self.header()?.try_clone(self.alloc).ok()?;
-        header.action = action;
-        let signal = receipt(self.alloc, &header, 0, 1000);
-        drop(header);
-        self.hears_signal(signal.ok()?)
+    fn is_answered_for_another_action(&mut self) -> Option<Said> {
+        let header = self.header()?;
+        let signal = receipt_for_another_action(self.alloc, header);
+        self.hears_signal(signal)
     }
 
     /// A receipt comes of a message of this identifier.
-    pub fn is_answered_for(&mut self, id: &str) -> Option<Said> {
+    fn is_answered_for(&mut self, id: &str) -> Option<Said> {
         let id = MessageId::read(self.alloc, id.as_bytes()).ok()?;
         let signal = bare_receipt(self.alloc, &id);
-        self.hears_signal(signal.ok()?)
+        self.hears_signal(signal)
     }
 
     /// An error with this code comes, about the message that it pushed last.
-    pub fn is_refused(&mut self, code: u16) -> Option<Said>
+    fn is_refused(&mut self, code: u16) -> Option<Said>
         requires { IsSome (error_row code) }
     {
         let header = self.header()?;
         let signal = error_signal(self.alloc, code, Some(&header.id), 0, 1000);
-        self.hears_signal(signal.ok()?)
+        self.hears_signal(signal)
     }
 
     /// How the message that it pushed last stands.
     #[tactic(auto, unfolding(exchange_model::specs::Coming::may_come))]
-    pub fn status(&mut self) -> Option<Said> {
+    fn status(&mut self) -> Option<Said> {
         let id = self.header()?.id.try_clone(self.alloc).ok()?;
         self.says(What::Status { id })
     }
+}
+
+/// The bytes `hello`.
+fn hello(alloc: Global) -> Option<Seq<Load>> {
+    let media = Octets::of(Vec::from_slice(alloc, b"text/plain").ok()?);
+    let content = Octets::of(Vec::from_slice(alloc, b"hello").ok()?);
+    Some(Seq::of(vec![in alloc; Load { media, content }].ok()?))
 }
 
 /// A receipt of the message of this identifier, without a copy of its header.
@@ -291,6 +389,26 @@ fn bare_receipt(alloc: Global, id: &MessageId) -> Result<Signal, NoMemory> {
         ref_to,
         body: SignalBody::Receipt { copy: None },
     })
+}
+
+/// A receipt of the message of this header, with a copy that has another action.
+fn receipt_for_another_action(alloc: Global, header: &UserHeader) -> Result<Signal, NoMemory> {
+    let Ok(action) = Text::read(alloc, b"order") else {
+        return Err(NoMemory);
+    };
+    match header.try_clone(alloc) {
+        Ok(copy) => {
+            let mut other = copy;
+            other.action = action;
+            let signal = receipt(alloc, &other, 0, 1000);
+            drop(other);
+            signal
+        }
+        Err(error) => {
+            drop(action);
+            Err(error)
+        }
+    }
 }
 
 /// Whether an end takes the message as an event.

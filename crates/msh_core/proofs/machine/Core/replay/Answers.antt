@@ -2,20 +2,20 @@ use Rattle.std.proofs.Common.{◌≡◌, ap, ◌∙◌}
 use Rattle.exchange_model.specs.Apply.{applied}
 use Rattle.exchange_model.specs.End.{End}
 use Rattle.msh_core.specs.Machine.{Machine}
-use Rattle.msh_core.proofs.RecordLemmas.{grown, room_for_record}
+use Rattle.msh_core.proofs.RecordLemmas.{are_some, grown, room_for_record}
 use Rattle.msh_core.proofs.machine.Core.replay.Goals as goal
 
 pub grow-requires : goal.grow-requires
 grow-requires c =
     let same : c.self.inside.tables.end ≡ c.args.self.now.end = ap (λ (m : Machine). m.end) c.self.view_is in
-    room_for_record c.args.effects c.self.inside.tables.end c.replay_all.new.tables.end c.record_len-len.result
-    (record { none = c.record_len-len.ensures.none; some = c.record_len-len.ensures.some })
-    c.requires.some (rw same c.requires.limited) c.in_ok-replay_all.ensures.ok
+    rw c.record_len-len.ensures.value
+    (room_for_record c.args.effects c.self.inside.tables.end c.replay_all.new.tables.end (rw same c.requires.limited)
+    c.in_ok-replay_all.ensures.ok)
 
 pub returns-clause-ok : goal.returns-clause-ok
 returns-clause-ok c =
     let same : c.self.inside.tables.end ≡ c.args.self.now.end = ap (λ (m : Machine). m.end) c.self.view_is in
-    grown c.args.effects c.self.inside.tables.end c.replay_all.new.tables.end c.grow.new.self.end c.record_len-len.result
-    (record { none = c.record_len-len.ensures.none; some = c.record_len-len.ensures.some })
-    c.in_ok-replay_all.ensures.ok c.grow.ensures.end
+    grown c.args.effects c.self.inside.tables.end c.replay_all.new.tables.end c.grow.new.self.end
+    (are_some c.args.effects c.requires.some)
+    c.in_ok-replay_all.ensures.ok (rw c.record_len-len.ensures.value at c.grow.ensures.end)
     ∙ ap (λ (e : End). applied c.args.effects e) same
