@@ -1,14 +1,15 @@
 -- How the generated world is led on, line by line.
-use Rattle.std.proofs.Common.{◌≡◌, ◌≢◌, ℕ, zero, suc, ◌+◌, ◌*◌, ◌^◌, ◌%◌, ◌==◌, ◌<◌, ◌≤◌, List, [], ◌∷◌, ◌++◌, Bool, true, false, ◌&&◌, nat_le, if◌then◌else◌, length, get_or, Option, None, Some, refl, sym, ◌∙◌, ap, subst, ◌⊎◌, inl, inr, arith, append_assoc, length-append, codes}
-use Rattle.std.specs.Prelude.{IfOk, IsTrue, IsSome, Ok, Err, Result}
+use Rattle.std.proofs.Common.{◌≡◌, ◌≢◌, ℕ, zero, suc, ◌+◌, ◌-◌, ◌*◌, ◌^◌, ◌%◌, ◌==◌, ◌<◌, ◌≤◌, List, [], ◌∷◌, ◌++◌, Bool, true, false, ◌&&◌, nat_le, if◌then◌else◌, length, get_or, Option, None, Some, refl, sym, ◌∙◌, ap, subst, ◌⊎◌, inl, inr, arith, append_assoc, length-append, codes}
+use Rattle.std.specs.Prelude.{IfOk, IsErrAnd, IsTrue, IsSome, Ok, Err, Result}
 use Rattle.std.specs.Fmt.{decimal}
 use Rattle.std.proofs.lemmas.Bool.{and_from, eq-eqb, ne_eqb, le-leb, lt-ltb, leb-false}
 use Rattle.std.proofs.lemmas.Fmt.{length-decimal-le}
+use Rattle.std.proofs.lemmas.List.{append-nil}
 use Rattle.std.proofs.Math.Nat.{mod-add-mod}
 use Rattle.as4_effects.specs.declared.queue.Queue.TheVariants as queue
 use Rattle.drill.specs.Events.{Doing, Sets, Does, Says}
-use Rattle.drill.specs.Generated.{IsTooLong, Leads, Rounds, TakesAll, leg, carried, counted, submissions, invoice, next_number, size_by, ticks_a}
-use Rattle.drill.specs.Generating.{Goes, IsHead, IsReached, IsRound, Legs, Turns, carried_both, nothing_line}
+use Rattle.drill.specs.Generated.{IsRound, Leads, LegStops, RoundStops, Rounds, RoundsStop, Stops, Taken, leg, carried, counted, submissions, invoice, next_number, size_by}
+use Rattle.drill.specs.Generating.{Goes, IsHead, Legs, Runs, Turns, carried_both, nothing_line}
 use Rattle.drill.specs.Stages.{IsAtEnd}
 use Rattle.drill.specs.declared.refused.Refused.{Refused}
 use Rattle.drill.specs.declared.refused.Refused.TheVariants as refused
@@ -61,11 +62,46 @@ pub leads_one : (l : Line) (text : List ℕ) (old new : Stage) → is_right l ol
     → Plays l (doing_of old.world l) old text new → Leads (l ∷ []) old new
 leads_one l text old new right one_more plays = (text ++ [], (new, text, [], right, one_more, plays, (refl, refl), refl))
 
-pub reached_on : (lines : List Line) (old new : Stage) → Leads lines old new → IsReached old → IsReached new
-reached_on lines old new leads reached = (reached.0 ++ lines, leads_append reached.0 lines new_stage old new reached.1 leads)
+-- lines of which one is one event too many
 
-pub too_long : (l : Line) (stage : Stage) → is_too_many l stage ≡ true → IsReached stage → IsTooLong
-too_long l stage many reached = (reached.0, reached.1.0, stage, l, reached.1.1, many)
+stops_one : (l : Line) (old : Stage) → is_right l old ≡ true → is_too_many l old ≡ true → Stops (l ∷ []) old
+stops_one l old right many = record {
+  front = [];
+  next = l;
+  more = [];
+  text = [];
+  stage = old;
+  cut = refl;
+  plays = (refl, refl);
+  right = right;
+  too_many = many;
+}
+
+pub stops_front : (xs ys : List Line) (old : Stage) → Stops xs old → Stops (xs ++ ys) old
+stops_front xs ys old stops = record {
+  front = stops.front;
+  next = stops.next;
+  more = stops.more ++ ys;
+  text = stops.text;
+  stage = stops.stage;
+  cut = ap (λ (l : List Line). l ++ ys) stops.cut ∙ append_assoc stops.front (stops.next ∷ stops.more) ys;
+  plays = stops.plays;
+  right = stops.right;
+  too_many = stops.too_many;
+}
+
+pub stops_behind : (xs ys : List Line) (old mid : Stage) → Leads xs old mid → Stops ys mid → Stops (xs ++ ys) old
+stops_behind xs ys old mid leads stops = record {
+  front = xs ++ stops.front;
+  next = stops.next;
+  more = stops.more;
+  text = leads.0 ++ stops.text;
+  stage = stops.stage;
+  cut = ap (λ (l : List Line). xs ++ l) stops.cut ∙ sym (append_assoc xs stops.front (stops.next ∷ stops.more));
+  plays = plays_append xs stops.front old mid stops.stage leads.0 stops.text leads.1 stops.plays;
+  right = stops.right;
+  too_many = stops.too_many;
+}
 
 -- a line that is played, or isn't
 pub goes_played : (l : Line) (old new : Stage) (result : Result (List ℕ) Refused) → is_right l old ≡ true
@@ -73,19 +109,38 @@ pub goes_played : (l : Line) (old new : Stage) (result : Result (List ℕ) Refus
     → IfOk result (λ text. Plays l (doing_of old.world l) old text new)
     → (result ≡ Err refused.Wrong → is_right l old ≡ false)
     → (result ≡ Err refused.TooMany → (is_right l old ≡ true) × (is_too_many l old ≡ true))
-    → Goes result old (λ text. Turns l old text new)
+    → Goes result (λ text. Turns l old text new) (Stops (l ∷ []) old)
 goes_played l old new (Ok text) right placed plays wrong many = (leads_one l text old new placed.0 placed.1 plays, plays)
-goes_played l old new (Err refused.TooMany) right placed plays wrong many = too_long l old (many refl).1
+goes_played l old new (Err refused.TooMany) right placed plays wrong many = stops_one l old right (many refl).1
 goes_played l old new (Err refused.Wrong) right placed plays wrong many = let never = wrong refl in absurd (cc (right, never))
 goes_played l old new (Err refused.NoMemory) right placed plays wrong many = tt
 
--- where some lines were played before
-pub goes_on : {X : Type 0} (result : Result X Refused) (xs : List Line) (old mid : Stage) (P Q : X → Type 0) → Leads xs old mid
-    → ((x : X) → P x → Q x) → Goes result mid P → Goes result old Q
-goes_on (Ok x) xs old mid P Q leads so goes = so x goes
-goes_on (Err refused.TooMany) xs old mid P Q leads so goes = λ reached. goes (reached_on xs old mid leads reached)
-goes_on (Err refused.Wrong) xs old mid P Q leads so goes = absurd goes
-goes_on (Err refused.NoMemory) xs old mid P Q leads so goes = tt
+-- what is said of a call is said of the whole
+pub goes_on : {X : Type 0} (result : Result X Refused) (P Q : X → Type 0) (S T : Type 0) → ((x : X) → P x → Q x) → (S → T)
+    → Goes result P S → Goes result Q T
+goes_on (Ok x) P Q S T so stops goes = so x goes
+goes_on (Err refused.TooMany) P Q S T so stops goes = stops goes
+goes_on (Err refused.Wrong) P Q S T so stops goes = absurd goes
+goes_on (Err refused.NoMemory) P Q S T so stops goes = tt
+
+err_goes : {X Y : Type 0} (e : Refused) (P : X → Type 0) (Q : Y → Type 0) (S T : Type 0) → (S → T) → Goes (Err e) P S → Goes (Err e) Q T
+err_goes refused.TooMany P Q S T stops goes = stops goes
+err_goes refused.Wrong P Q S T stops goes = absurd goes
+err_goes refused.NoMemory P Q S T stops goes = tt
+
+-- and where a call's error is that of the whole
+pub goes_out : {X Y : Type 0} (result : Result Y Refused) (e : Refused) (P : X → Type 0) (Q : Y → Type 0) (S T : Type 0)
+    → IsErrAnd result (λ y. y ≡ e) → (S → T) → Goes (Err e) P S → Goes result Q T
+goes_out (Ok x) e P Q S T is stops goes = absurd is
+goes_out (Err y) e P Q S T is stops goes =
+    err_goes y P Q S T stops (subst (λ (d : Refused). Goes (Err d) P S) (sym is) goes)
+
+-- more lines behind those that were played
+pub runs_more : {X : Type 0} (result : Result X Refused) (xs ys : List Line) (old mid new : Stage) → Leads xs old mid
+    → Runs result ys mid new → Runs result (xs ++ ys) old new
+runs_more result xs ys old mid new leads runs =
+    goes_on result (λ _. Leads ys mid new) (λ _. Leads (xs ++ ys) old new) (Stops ys mid) (Stops (xs ++ ys) old)
+    (λ _ more. leads_append xs ys old mid new leads more) (stops_behind xs ys old mid leads) runs
 
 pub right_at_end : (l : Line) (stage : Stage) → IsAtEnd l → IsTrue (is_line l) → length (line_text l) ≤ line_limit → is_right l stage ≡ true
 right_at_end l stage at said short =
@@ -98,20 +153,44 @@ right_at_end l stage at said short =
 
 -- a package that is carried
 
-pub carried_once : (c : ℕ) (end : EndName) (place : ℕ) (old new : Stage) → c % 3 ≢ 2 → c % 5 ≢ 4 → Leads (line.Came end place ∷ []) old new
-    → Leads (carried c end place) old new
-carried_once c end place old new first last leads = rw (ne_eqb (c % 3) 2 first, ne_eqb (c % 5) 4 last) leads
+-- the rule, at this number of the counter
+carries_twice : (c : ℕ) (end : EndName) (place : ℕ) → c % 3 ≢ 2 → c % 5 ≡ 4
+    → line.Came end place ∷ line.Lost end place ∷ [] ≡ carried c end place
+carries_twice c end place first last = rw (ne_eqb (c % 3) 2 first, eq-eqb (c % 5) 4 last) refl
 
-pub carried_twice : (c : ℕ) (end : EndName) (place : ℕ) (old mid new : Stage) → c % 3 ≢ 2 → c % 5 ≡ 4 → Leads (line.Came end place ∷ []) old mid
-    → Leads (line.Lost end place ∷ []) mid new → Leads (carried c end place) old new
-carried_twice c end place old mid new first last came lost =
-    rw (ne_eqb (c % 3) 2 first, eq-eqb (c % 5) 4 last) (leads_append (line.Came end place ∷ []) (line.Lost end place ∷ []) old mid new came lost)
+carries_some : (c : ℕ) (end : EndName) (place : ℕ) → c % 3 ≢ 2
+    → (rest : List Line) × (line.Came end place ∷ rest ≡ carried c end place)
+carries_some c end place first =
+    (if c % 5 == 4 then line.Lost end place ∷ [] else [], rw (ne_eqb (c % 3) 2 first) refl)
 
-pub carries_both : (c place answer : ℕ) (old mid new : Stage) → c % 3 ≢ 2 → Leads (carried c name.B place) old mid
-    → Leads (carried (c + 1) name.A answer) mid new → Leads (carried_both c place answer) old new
-carries_both c place answer old mid new first there back =
-    subst (λ (b : Bool). Leads (if b then [] else carried c name.B place ++ carried (c + 1) name.A answer) old new) (sym (ne_eqb (c % 3) 2 first))
-    (leads_append (carried c name.B place) (carried (c + 1) name.A answer) old mid new there back)
+carries_both : (c place answer : ℕ) → c % 3 ≢ 2
+    → carried c name.B place ++ carried (c + 1) name.A answer ≡ carried_both c place answer
+carries_both c place answer first =
+    ap (λ (b : Bool). if b then [] else carried c name.B place ++ carried (c + 1) name.A answer) (sym (ne_eqb (c % 3) 2 first))
+
+pub carried_stops : (c : ℕ) (end : EndName) (place : ℕ) (old : Stage) → c % 3 ≢ 2 → Stops (line.Came end place ∷ []) old
+    → Stops (carried c end place) old
+carried_stops c end place old first stops =
+    let is = carries_some c end place first in
+    subst (λ (l : List Line). Stops l old) is.1 (stops_front (line.Came end place ∷ []) is.0 old stops)
+
+pub carried_twice : {X : Type 0} (result : Result X Refused) (c : ℕ) (end : EndName) (place : ℕ) (old mid new : Stage) → c % 3 ≢ 2 → c % 5 ≡ 4
+    → Leads (line.Came end place ∷ []) old mid → Runs result (line.Lost end place ∷ []) mid new → Runs result (carried c end place) old new
+carried_twice result c end place old mid new first last came lost =
+    subst (λ (l : List Line). Runs result l old new) (carries_twice c end place first last)
+    (runs_more result (line.Came end place ∷ []) (line.Lost end place ∷ []) old mid new came lost)
+
+pub both_stop : (c place answer : ℕ) (old : Stage) → c % 3 ≢ 2 → Stops (carried c name.B place) old → Stops (carried_both c place answer) old
+both_stop c place answer old first stops =
+    subst (λ (l : List Line). Stops l old) (carries_both c place answer first)
+    (stops_front (carried c name.B place) (carried (c + 1) name.A answer) old stops)
+
+pub both_carried : {X : Type 0} (result : Result X Refused) (c place answer : ℕ) (old mid new : Stage) → c % 3 ≢ 2
+    → Leads (carried c name.B place) old mid → Runs result (carried (c + 1) name.A answer) mid new
+    → Runs result (carried_both c place answer) old new
+both_carried result c place answer old mid new first there back =
+    subst (λ (l : List Line). Runs result l old new) (carries_both c place answer first)
+    (runs_more result (carried c name.B place) (carried (c + 1) name.A answer) old mid new there back)
 
 -- events don't fall
 
@@ -262,19 +341,43 @@ leg_played c place answer old mid new next here there some took rest =
           (leads_append (line.Take name.A ∷ []) (carried_both c place answer) old mid new took rest.1)),
     )
 
--- what was taken so far, and what is to be taken
-abbrev pub TakesOn : ℕ → Stage → ℕ → Stage → Type 0
-TakesOn c old now mid =
-    (takes later : ℕ) (new : Stage) → TakesAll takes now mid later new → (all : ℕ) × TakesAll all c old later new
+-- where the message that is taken is one event too many
+pub take_stops : (c : ℕ) (old : Stage) (head : Option Sent) → Stops (line.Take name.A ∷ []) old → LegStops c old head
+take_stops c old None stops = stops
+take_stops c old (Some sent) stops =
+    stops_front (line.Take name.A ∷ []) (carried_both c (length old.world.left.said) (length old.world.right.said)) old stops
 
-pub takes_more : (c : ℕ) (old : Stage) (now next : ℕ) (mid new : Stage) → TakesOn c old now mid → Legs now mid new (Some next)
-    → TakesOn c old next new
-takes_more c old now next mid new on leg takes later last takes_all =
-    on (suc takes) later last (new, leg.1, leg.2, subst (λ (n : ℕ). TakesAll takes n new later last) leg.0 takes_all)
+-- where a package that is carried is
+pub leg_stops : (c place answer : ℕ) (old mid : Stage) (head : Option Sent) → place ≡ length old.world.left.said
+    → answer ≡ length old.world.right.said → IsSome head → Leads (line.Take name.A ∷ []) old mid → Stops (carried_both c place answer) mid
+    → LegStops c old head
+leg_stops c place answer old mid None here there some took stops = absurd (cc some)
+leg_stops c place answer old mid (Some sent) here there some took stops =
+    subst (λ (n : ℕ). Stops (leg c n (length old.world.right.said)) old) here
+    (subst (λ (n : ℕ). Stops (leg c place n) old) there
+    (stops_behind (line.Take name.A ∷ []) (carried_both c place answer) old mid took stops))
 
-pub takes_done : (c : ℕ) (old : Stage) (now : ℕ) (mid new : Stage) → TakesOn c old now mid → Legs now mid new None
-    → (all : ℕ) × TakesAll all c old now new
-takes_done c old now mid new on leg = on zero now new (leg.0, leg.1, refl)
+-- one more is taken
+taken_more : (takes c : ℕ) (old : Stage) (now : ℕ) (mid new : Stage) → Taken takes c old now mid → IsSome (head_of queue.Push mid.world.left.end)
+    → Leads (leg now (length mid.world.left.said) (length mid.world.right.said)) mid new → Taken (suc takes) c old (counted now) new
+taken_more zero c old now mid new taken some played =
+    subst (λ (n : ℕ). Taken (suc zero) c old (counted n) new) (sym taken.0)
+    (subst (λ (s : Stage). Taken (suc zero) c s (counted c) new) taken.1
+    (new, some, subst (λ (n : ℕ). Leads (leg n (length mid.world.left.said) (length mid.world.right.said)) mid new) taken.0 played, (refl, refl)))
+taken_more (suc takes) c old now mid new taken some played =
+    (taken.0, taken.1, taken.2, taken_more takes (counted c) taken.0 now mid new taken.3 some played)
+
+-- end a has taken some packages
+abbrev pub TakenSome : ℕ → Stage → ℕ → Stage → Type 0
+TakenSome c old later new = (takes : ℕ) × Taken takes c old later new
+
+pub taken_on : (c : ℕ) (old : Stage) (now next : ℕ) (mid new : Stage) → TakenSome c old now mid → Legs now mid new (Some next)
+    → TakenSome c old next new
+taken_on c old now next mid new taken played = (
+  suc taken.0,
+  subst (λ (n : ℕ). Taken (suc taken.0) c old n new) (sym played.0)
+      (taken_more taken.0 c old now mid new taken.1 played.1 played.2),
+)
 
 counted_most : (c : ℕ) (b : Bool) → (c % 3 == 2) ≡ b → counted c ≤ c + 2
 counted_most c true is = rw is (omega arith)
@@ -288,9 +391,6 @@ leg_few c later old new few leg =
     let more : old.events + 1 ≤ new.events = rises.0 in
     let is : later ≡ counted c = leg.0 in
     (omega arith, rises)
-
-pub leg_reached : (c later : ℕ) (old new : Stage) → Legs c old new (Some later) → IsReached old → IsReached new
-leg_reached c later old new played = reached_on (leg c (length old.world.left.said) (length old.world.right.said)) old new played.2
 
 -- the lines of the generated world are short
 
@@ -382,30 +482,15 @@ mode_right stage is =
 
 -- rounds
 
-pub takes_reached : (takes c : ℕ) (old : Stage) (later : ℕ) (new : Stage) → TakesAll takes c old later new → IsReached old → IsReached new
-takes_reached zero c old later new all reached = reached_on (line.Take name.A ∷ []) old new all.1 reached
-takes_reached (suc takes) c old later new all reached =
-    takes_reached takes (counted c) all.0 later new all.3
-    (reached_on (leg c (length old.world.left.said) (length old.world.right.said)) old all.0 all.2 reached)
-
-pub round_reached : (round c : ℕ) (old : Stage) (later : ℕ) (new : Stage) → IsRound round c old later new → IsReached old → IsReached new
-round_reached round c old later new played reached =
-    takes_reached played.1 c played.0 later new played.3 (reached_on (ticks_a (3000 * round)) old played.0 played.2 reached)
-
-pub rounds_reached : (rounds round c : ℕ) (old new : Stage) → Rounds rounds round c old new → IsReached old → IsReached new
-rounds_reached zero round c old new same reached = subst IsReached (sym same) reached
-rounds_reached (suc rounds) round c old new r reached =
-    rounds_reached rounds (suc round) r.3 r.1 new r.6 (round_reached round c old r.3 r.1 (r.0, r.2, r.4, r.5) reached)
-
 -- the rounds so far, and those to come
 abbrev pub RoundsOn : Stage → ℕ → ℕ → Stage → Type 0
 RoundsOn old round c mid = (more : ℕ) (new : Stage) → Rounds more round c mid new → Rounds (round + more) 0 0 old new
 
+none_more : (n : ℕ) → n ≡ 0 + n
+none_more n = omega arith
+
 pub rounds_none : (old : Stage) → RoundsOn old 0 0 old
 rounds_none old more new rounds = subst (λ (n : ℕ). Rounds n 0 0 old new) (none_more more) rounds
-  where
-    none_more : (n : ℕ) → n ≡ 0 + n
-    none_more n = omega arith
 
 one_later : (round more : ℕ) → round + suc more ≡ (round + 1) + more
 one_later round more = omega arith
@@ -418,59 +503,91 @@ pub rounds_more : (old : Stage) (round c later : ℕ) (mid new : Stage) → Roun
 rounds_more old round c later mid new on played more last rounds =
     let rest : Rounds more (suc round) later new last = subst (λ (n : ℕ). Rounds more n later new last) (next_round round) rounds in
     subst (λ (n : ℕ). Rounds n 0 0 old last) (one_later round more)
-    (on (suc more) last (played.0, new, played.1, later, played.2, played.3, rest))
+    (on (suc more) last (later, new, played, rest))
 
 pub rounds_done : (old : Stage) (c : ℕ) (mid : Stage) → RoundsOn old 11 c mid → Rounds 11 0 0 old mid
 rounds_done old c mid on = on 0 mid refl
 
--- the submissions so far, and those to come
-abbrev pub SubmitsOn : ℕ → Stage → ℕ → ℕ → Stage → Type 0
-SubmitsOn seed old done number mid =
-    (more : ℕ) (new : Stage) → Leads (submissions seed number more) mid new → Leads (submissions seed seed (done + more)) old new
+-- where a line of those to come is one event too many
+abbrev pub RoundsStopOn : Stage → ℕ → ℕ → Stage → Type 0
+RoundsStopOn old round c mid = (more : ℕ) → RoundsStop more round c mid → RoundsStop (round + more) 0 0 old
 
-pub submits_none : (seed : ℕ) (old : Stage) → SubmitsOn seed old 0 seed old
-submits_none seed old more new leads = subst (λ (n : ℕ). Leads (submissions seed seed n) old new) (none_more more) leads
-  where
-    none_more : (n : ℕ) → n ≡ 0 + n
-    none_more n = omega arith
+pub stops_none : (old : Stage) → RoundsStopOn old 0 0 old
+stops_none old more stops = subst (λ (n : ℕ). RoundsStop n 0 0 old) (none_more more) stops
+
+pub stops_more : (old : Stage) (round c later : ℕ) (mid new : Stage) → RoundsStopOn old round c mid → IsRound round c mid later new
+    → RoundsStopOn old (round + 1) later new
+stops_more old round c later mid new on played more stops =
+    let rest : RoundsStop more (suc round) later new = subst (λ (n : ℕ). RoundsStop more n later new) (next_round round) stops in
+    subst (λ (n : ℕ). RoundsStop n 0 0 old) (one_later round more) (on (suc more) (inr (later, new, played, rest)))
+
+pub round_stops : (old : Stage) (round c : ℕ) (mid : Stage) → round < 11 → RoundsStopOn old round c mid → RoundStops round c mid
+    → RoundsStop 11 0 0 old
+round_stops old round c mid before on stops =
+    let all : round + suc (10 - round) ≡ 11 = omega arith in
+    subst (λ (n : ℕ). RoundsStop n 0 0 old) all (on (suc (10 - round)) (inl stops))
+
+-- the submissions so far are the first of all
+pub record SubmitsSoFar (seed : ℕ) (old : Stage) (done number : ℕ) (mid : Stage) : Type 0 where
+  pub front : List Line
+  pub cut : (more : ℕ) → submissions seed seed (done + more) ≡ front ++ submissions seed number more
+  pub leads : Leads front old mid
+
+pub submits_none : (seed : ℕ) (old : Stage) → SubmitsSoFar seed old 0 seed old
+submits_none seed old = record {
+  front = [];
+  cut = λ more. ap (submissions seed seed) (sym (none_more more));
+  leads = leads_none old old refl;
+}
 
 pub submits_more : (seed : ℕ) (old : Stage) (done number next size : ℕ) (mid new : Stage) → next ≡ next_number number → size ≡ size_by seed next
-    → SubmitsOn seed old done number mid → Leads (line.Submit name.A invoice (Size size) ∷ []) mid new → SubmitsOn seed old (done + 1) next new
-submits_more seed old done number next size mid new is sized on one more last leads =
-    let first : Leads (line.Submit name.A invoice (Size (size_by seed (next_number number))) ∷ []) mid new =
-    subst (λ (n : ℕ). Leads (line.Submit name.A invoice (Size (size_by seed n)) ∷ []) mid new) is
-    (subst (λ (n : ℕ). Leads (line.Submit name.A invoice (Size n) ∷ []) mid new) sized one) in
-    let rest : Leads (submissions seed (next_number number) more) new last =
-    subst (λ (n : ℕ). Leads (submissions seed n more) new last) is leads in
-    subst (λ (n : ℕ). Leads (submissions seed seed n) old last) (one_later done more)
-    (on (suc more) last
-    (leads_append (line.Submit name.A invoice (Size (size_by seed (next_number number))) ∷ []) (submissions seed (next_number number) more)
-    mid new last first rest))
+    → SubmitsSoFar seed old done number mid → Leads (line.Submit name.A invoice (Size size) ∷ []) mid new
+    → SubmitsSoFar seed old (done + 1) next new
+submits_more seed old done number next size mid new is sized on one = record {
+  front = on.front ++ line.Submit name.A invoice (Size size) ∷ [];
+  cut = λ more. cuts more;
+  leads = leads_append on.front (line.Submit name.A invoice (Size size) ∷ []) old mid new on.leads one;
+}
+  where
+    cuts : (more : ℕ) → submissions seed seed ((done + 1) + more)
+        ≡ (on.front ++ line.Submit name.A invoice (Size size) ∷ []) ++ submissions seed next more
+    cuts more =
+        let first : size_by seed (next_number number) ≡ size = ap (size_by seed) (sym is) ∙ sym sized in
+        ap (submissions seed seed) (sym (one_later done more)) ∙ on.cut (suc more)
+        ∙ ap (λ (n : ℕ). on.front ++ line.Submit name.A invoice (Size n) ∷ submissions seed (next_number number) more) first
+        ∙ ap (λ (n : ℕ). on.front ++ line.Submit name.A invoice (Size size) ∷ submissions seed n more) (sym is)
+        ∙ sym (append_assoc on.front (line.Submit name.A invoice (Size size) ∷ []) (submissions seed next more))
 
-pub submits_done : (seed : ℕ) (old : Stage) (count number : ℕ) (mid : Stage) → SubmitsOn seed old count number mid
+pub submits_done : (seed : ℕ) (old : Stage) (count number : ℕ) (mid : Stage) → SubmitsSoFar seed old count number mid
     → Leads (submissions seed seed count) old mid
 submits_done seed old count number mid on =
-    subst (λ (n : ℕ). Leads (submissions seed seed n) old mid) (no_more count) (on 0 mid (leads_none mid mid refl))
+    let all : on.front ≡ submissions seed seed count = sym (append-nil on.front) ∙ sym (on.cut 0) ∙ ap (submissions seed seed) (no_more count) in
+    subst (λ (l : List Line). Leads l old mid) all on.leads
   where
     no_more : (n : ℕ) → n + 0 ≡ n
     no_more n = omega arith
+
+pub submit_stops : (seed : ℕ) (old : Stage) (done number next size count : ℕ) (mid : Stage) → next ≡ next_number number
+    → size ≡ size_by seed next → done < count → SubmitsSoFar seed old done number mid
+    → Stops (line.Submit name.A invoice (Size size) ∷ []) mid → Stops (submissions seed seed count) old
+submit_stops seed old done number next size count mid is sized few on stops =
+    let first : size ≡ size_by seed (next_number number) = sized ∙ ap (size_by seed) is in
+    let here : Stops (line.Submit name.A invoice (Size (size_by seed (next_number number))) ∷ []) mid =
+    subst (λ (n : ℕ). Stops (line.Submit name.A invoice (Size n) ∷ []) mid) first stops in
+    let all : done + suc (count - (done + 1)) ≡ count = omega arith in
+    subst (λ (l : List Line). Stops l old) (sym (on.cut (suc (count - (done + 1)))) ∙ ap (submissions seed seed) all)
+    (stops_behind on.front (submissions seed number (suc (count - (done + 1)))) old mid on.leads
+    (stops_front (line.Submit name.A invoice (Size (size_by seed (next_number number))) ∷ [])
+    (submissions seed (next_number number) (count - (done + 1))) mid here))
 
 -- the number behind another
 pub next_is : (x : ℕ) → ((x * 6364136223846793005) % 2 ^ 64 + 1442695040888963407) % 2 ^ 64 ≡ next_number x
 unfolding next_number
 next_is x = mod-add-mod (x * 6364136223846793005) (2 ^ 64) 1442695040888963407
 
-pub submit_named : (mode : List ℕ) (n : ℕ) (old new : Stage) → mode ≡ invoice → Leads (line.Submit name.A mode (Size n) ∷ []) old new
-    → Leads (line.Submit name.A invoice (Size n) ∷ []) old new
-submit_named mode n old new is leads = subst (λ (m : List ℕ). Leads (line.Submit name.A m (Size n) ∷ []) old new) is leads
-
--- what is said of a line holds of the mode's name too
-pub goes_as : {X : Type 0} (result : Result X Refused) (old : Stage) (P Q : X → Type 0) → ((x : X) → P x → Q x) → Goes result old P → Goes result old Q
-goes_as result old P Q so goes = goes_on result [] old old P Q (leads_none old old refl) so goes
-
--- the ends
-pub new_reached : (stage : Stage) → stage ≡ new_stage → IsReached stage
-new_reached stage is = ([], leads_none new_stage stage is)
+pub submit_named : {X : Type 0} (result : Result X Refused) (mode : List ℕ) (n : ℕ) (old new : Stage) → mode ≡ invoice
+    → Runs result (line.Submit name.A mode (Size n) ∷ []) old new → Runs result (line.Submit name.A invoice (Size n) ∷ []) old new
+submit_named result mode n old new is runs = subst (λ (m : List ℕ). Runs result (line.Submit name.A m (Size n) ∷ []) old new) is runs
 
 -- the mode's line, where the name is built
 
@@ -484,14 +601,6 @@ pub mode_right_named : (mode : List ℕ) (stage : Stage) → mode ≡ invoice �
 mode_right_named mode stage is new =
     subst (λ (m : List ℕ). is_right (line.Mode m Push 10 3000) stage ≡ true) (sym is) (mode_right stage new)
 
-pub mode_named : (mode : List ℕ) (old new : Stage) → mode ≡ invoice → Leads (line.Mode mode Push 10 3000 ∷ []) old new
-    → Leads (line.Mode invoice Push 10 3000 ∷ []) old new
-mode_named mode old new is leads = subst (λ (m : List ℕ). Leads (line.Mode m Push 10 3000 ∷ []) old new) is leads
-
--- where what led here is known only to have been reached
-pub goes_from : {X : Type 0} (result : Result X Refused) (old mid : Stage) (P Q : X → Type 0) → (IsReached old → IsReached mid)
-    → ((x : X) → P x → Q x) → Goes result mid P → Goes result old Q
-goes_from (Ok x) old mid P Q on so goes = so x goes
-goes_from (Err refused.TooMany) old mid P Q on so goes = λ reached. goes (on reached)
-goes_from (Err refused.Wrong) old mid P Q on so goes = absurd goes
-goes_from (Err refused.NoMemory) old mid P Q on so goes = tt
+pub mode_named : {X : Type 0} (result : Result X Refused) (mode : List ℕ) (old new : Stage) → mode ≡ invoice
+    → Runs result (line.Mode mode Push 10 3000 ∷ []) old new → Runs result (line.Mode invoice Push 10 3000 ∷ []) old new
+mode_named result mode old new is runs = subst (λ (m : List ℕ). Runs result (line.Mode m Push 10 3000 ∷ []) old new) is runs

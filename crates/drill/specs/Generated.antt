@@ -5,12 +5,12 @@
 -- nothing to be pushed. A counter begins at 0, and each package that is carried takes its number c and raises it by one:
 -- the package is lost where c mod 3 is 2; else it comes, and where c mod 5 is 4 it comes once more, with the reply lost.
 -- What is answered to a message that came is carried next, by the same rule. Last, a's clock is set to 33,000.
-use Rattle.std.specs.Prelude.{◌≡◌, ℕ, zero, suc, ◌+◌, ◌*◌, ◌/◌, ◌%◌, ◌^◌, ◌==◌, List, [], ◌∷◌, ◌++◌, true, if◌then◌else◌, None, IsSome, length, codes}
+use Rattle.std.specs.Prelude.{◌≡◌, ℕ, zero, suc, ◌+◌, ◌*◌, ◌/◌, ◌%◌, ◌^◌, ◌==◌, ◌⊎◌, List, [], ◌∷◌, ◌++◌, true, if◌then◌else◌, Option, None, Some, IsSome, length, codes}
 use Rattle.as4_effects.specs.declared.queue.Queue.TheVariants as queue
 use Rattle.as4_flow.specs.Faults.{Rose}
 use Rattle.as4_flow.specs.Told.{behind, TakesFront}
 use Rattle.drill.specs.Ends.{Streams}
-use Rattle.drill.specs.Transcript.{Stage, PlaysAll, new_stage, end_lines, is_too_many}
+use Rattle.drill.specs.Transcript.{Stage, PlaysAll, new_stage, end_lines, is_right, is_too_many}
 use Rattle.drill.specs.declared.script.DrillEnd.{DrillEnd}
 use Rattle.drill.specs.declared.script.DrillEnd.TheVariants as ends
 use Rattle.drill_script.specs.declared.line.EndName.{EndName}
@@ -20,6 +20,7 @@ use Rattle.drill_script.specs.declared.line.Line.TheVariants as line
 use Rattle.drill_script.specs.declared.line.ScriptLoad.TheVariants.{Size}
 use Rattle.drill_script.specs.declared.line.Way.TheVariants.{Push}
 use Rattle.exchange_model.specs.Questions.{head_of}
+use Rattle.exchange_model.specs.declared.sent.Sent.{Sent}
 
 abbrev pub invoice : List ℕ
 invoice = codes "invoice"
@@ -56,24 +57,45 @@ counted c = if c % 3 == 2 then c + 1 else c + 2
 abbrev pub Leads : List Line → Stage → Stage → Type 0
 Leads lines old new = (text : List ℕ) × PlaysAll lines old text new
 
--- end a takes so many packages, and then there is nothing
-abbrev pub TakesAll : ℕ → ℕ → Stage → ℕ → Stage → Type 0
-TakesAll zero c old later new =
-    (head_of queue.Push old.world.left.end ≡ None) × Leads (line.Take name.A ∷ []) old new × (later ≡ c)
-TakesAll (suc takes) c old later new =
+-- one of the lines is one event too many, once those before it are played
+pub record Stops (lines : List Line) (old : Stage) : Type 0 where
+  pub front : List Line
+  pub next : Line
+  pub more : List Line
+  pub text : List ℕ
+  pub stage : Stage
+  pub cut : lines ≡ front ++ next ∷ more
+  pub plays : PlaysAll front old text stage
+  pub right : is_right next stage ≡ true
+  pub too_many : is_too_many next stage ≡ true
+
+-- end a takes so many packages, and there is one each time
+abbrev pub Taken : ℕ → ℕ → Stage → ℕ → Stage → Type 0
+Taken zero c old later new = (later ≡ c) × (new ≡ old)
+Taken (suc takes) c old later new =
     (mid : Stage) × IsSome (head_of queue.Push old.world.left.end)
     × Leads (leg c (length old.world.left.said) (length old.world.right.said)) old mid
-    × TakesAll takes (counted c) mid later new
+    × Taken takes (counted c) mid later new
+
+-- and then there is nothing
+abbrev pub TakesAll : ℕ → ℕ → Stage → ℕ → Stage → Type 0
+TakesAll takes c old later new =
+    (mid : Stage) × Taken takes c old later mid × (head_of queue.Push mid.world.left.end ≡ None)
+    × Leads (line.Take name.A ∷ []) mid new
 
 abbrev pub ticks_a : ℕ → List Line
 ticks_a moment = line.Tick name.A moment ∷ []
+
+-- one round
+abbrev pub IsRound : ℕ → ℕ → Stage → ℕ → Stage → Type 0
+IsRound round c old later new =
+    (begun : Stage) × (takes : ℕ) × Leads (ticks_a (3000 * round)) old begun × TakesAll takes c begun later new
 
 -- so many rounds from this one on
 abbrev pub Rounds : ℕ → ℕ → ℕ → Stage → Stage → Type 0
 Rounds zero round c old new = new ≡ old
 Rounds (suc rounds) round c old new =
-    (begun : Stage) × (done : Stage) × (takes : ℕ) × (later : ℕ) × Leads (ticks_a (3000 * round)) old begun
-    × TakesAll takes c begun later done × Rounds rounds (suc round) later done new
+    (later : ℕ) × (done : Stage) × IsRound round c old later done × Rounds rounds (suc round) later done new
 
 -- what the seed and the count lead to
 abbrev pub IsGenerated : ℕ → ℕ → Stage → Type 0
@@ -82,11 +104,42 @@ IsGenerated seed count stage =
     × Leads (line.Mode invoice Push 10 3000 ∷ submissions seed seed count) new_stage begun
     × Rounds 11 0 0 begun done × Leads (ticks_a 33000) done stage
 
--- some script comes to a line that makes one event too many
-abbrev pub IsTooLong : Type 0
-IsTooLong =
-    (lines : List Line) × (text : List ℕ) × (stage : Stage) × (l : Line) × PlaysAll lines new_stage text stage
-    × (is_too_many l stage ≡ true)
+-- where this is the head that end a takes, a line of its leg is one event too many; where there is none, the line that
+-- takes
+abbrev pub LegStops : ℕ → Stage → Option Sent → Type 0
+LegStops c stage (Some sent) = Stops (leg c (length stage.world.left.said) (length stage.world.right.said)) stage
+LegStops c stage None = Stops (line.Take name.A ∷ []) stage
+
+-- a line is one event too many, once end a has taken some packages
+abbrev pub TakesStop : ℕ → Stage → Type 0
+TakesStop c old =
+    (takes : ℕ) × (later : ℕ) × (mid : Stage) × Taken takes c old later mid
+    × LegStops later mid (head_of queue.Push mid.world.left.end)
+
+-- a line of the round is one event too many
+abbrev pub RoundStops : ℕ → ℕ → Stage → Type 0
+RoundStops round c old =
+    Stops (ticks_a (3000 * round)) old
+    ⊎ ((begun : Stage) × Leads (ticks_a (3000 * round)) old begun × TakesStop c begun)
+
+-- a line of so many rounds from this one on
+abbrev pub RoundsStop : ℕ → ℕ → ℕ → Stage → Type 0
+RoundsStop zero round c old = ⊥
+RoundsStop (suc rounds) round c old =
+    RoundStops round c old
+    ⊎ ((later : ℕ) × (done : Stage) × IsRound round c old later done × RoundsStop rounds (suc round) later done)
+
+-- a line behind the submissions
+abbrev pub RestStops : Stage → Type 0
+RestStops begun =
+    RoundsStop 11 0 0 begun ⊎ ((done : Stage) × Rounds 11 0 0 begun done × Stops (ticks_a 33000) done)
+
+-- a line of the generated script is one event too many
+abbrev pub IsTooLong : ℕ → ℕ → Type 0
+IsTooLong seed count =
+    Stops (line.Mode invoice Push 10 3000 ∷ submissions seed seed count) new_stage
+    ⊎ ((begun : Stage) × Leads (line.Mode invoice Push 10 3000 ∷ submissions seed seed count) new_stage begun
+    × RestStops begun)
 
 -- how the generated world ends: the numbers of both ends are written
 abbrev pub GeneratedEnds : ℕ → ℕ → DrillEnd → Streams → Type 0
@@ -95,7 +148,7 @@ GeneratedEnds seed count ends.Read streams =
 GeneratedEnds seed count ends.WriteFault streams =
     (stage : Stage) × IsGenerated seed count stage × Rose streams.write_faults streams.later_write_faults
     × TakesFront (end_lines stage.world) streams.taken streams.later
-GeneratedEnds seed count ends.TooMany streams = IsTooLong × (streams.later ≡ streams.taken)
+GeneratedEnds seed count ends.TooMany streams = IsTooLong seed count × (streams.later ≡ streams.taken)
 GeneratedEnds seed count ends.NoMemory streams = streams.later ≡ streams.taken
 GeneratedEnds seed count ends.ReadFault streams = ⊥
 GeneratedEnds seed count (ends.Line number) streams = ⊥

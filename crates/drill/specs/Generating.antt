@@ -1,8 +1,8 @@
 -- On the way to the world that a seed and a count generate.
-use Rattle.std.specs.Prelude.{◌≡◌, ℕ, ◌+◌, ◌*◌, List, [], ◌∷◌, ◌++◌, ◌%◌, ◌==◌, Bool, true, false, if◌then◌else◌, None, Option, Some, IsSome, Ok, Err, Result, codes, length}
+use Rattle.std.specs.Prelude.{◌≡◌, ℕ, ◌+◌, List, [], ◌∷◌, ◌++◌, ◌%◌, ◌==◌, Bool, true, false, if◌then◌else◌, None, Option, Some, IsSome, Ok, Err, Result, codes, length}
 use Rattle.as4_effects.specs.declared.queue.Queue.TheVariants as queue
-use Rattle.drill.specs.Generated.{IsTooLong, Leads, TakesAll, carried, counted, leg, ticks_a}
-use Rattle.drill.specs.Transcript.{Plays, Stage, doing_of, new_stage}
+use Rattle.drill.specs.Generated.{Leads, Stops, carried, counted, leg}
+use Rattle.drill.specs.Transcript.{Plays, Stage, doing_of}
 use Rattle.drill.specs.declared.refused.Refused.{Refused}
 use Rattle.drill.specs.declared.refused.Refused.TheVariants as refused
 use Rattle.drill_script.specs.declared.line.EndName.TheVariants as name
@@ -11,16 +11,16 @@ use Rattle.drill_script.specs.declared.line.Line.TheVariants as line
 use Rattle.exchange_model.specs.Questions.{head_of}
 use Rattle.exchange_model.specs.declared.sent.Sent.{Sent}
 
--- some lines lead here
-abbrev pub IsReached : Stage → Type 0
-IsReached stage = (lines : List Line) × Leads lines new_stage stage
+-- it goes on so, or memory ran out, or a line makes one event too many, which is said so
+abbrev pub Goes : {X : Type 0} → Result X Refused → (X → Type 0) → Type 0 → Type 0
+Goes (Ok x) P S = P x
+Goes (Err refused.TooMany) P S = S
+Goes (Err refused.Wrong) P S = ⊥
+Goes (Err refused.NoMemory) P S = Unit {0}
 
--- the stage goes on so, or memory ran out, or a line made one event too many
-abbrev pub Goes : {X : Type 0} → Result X Refused → Stage → (X → Type 0) → Type 0
-Goes (Ok x) old P = P x
-Goes (Err refused.TooMany) old P = IsReached old → IsTooLong
-Goes (Err refused.Wrong) old P = ⊥
-Goes (Err refused.NoMemory) old P = Unit {0}
+-- the lines are played, or memory ran out, or one of them is one event too many
+abbrev pub Runs : {X : Type 0} → Result X Refused → List Line → Stage → Stage → Type 0
+Runs result lines old new = Goes result (λ _. Leads lines old new) (Stops lines old)
 
 -- what a package and what is answered to it lead to
 abbrev pub carried_both : ℕ → ℕ → ℕ → List Line
@@ -38,11 +38,6 @@ Legs c old new (Some later) =
 abbrev pub IsHead : Bool → Option Sent → Type 0
 IsHead true head = IsSome head
 IsHead false head = head ≡ None
-
--- one round
-abbrev pub IsRound : ℕ → ℕ → Stage → ℕ → Stage → Type 0
-IsRound round c old later new =
-    (begun : Stage) × (takes : ℕ) × Leads (ticks_a (3000 * round)) old begun × TakesAll takes c begun later new
 
 -- a line is played, and this is its text
 abbrev pub Turns : Line → Stage → List ℕ → Stage → Type 0

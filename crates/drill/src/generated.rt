@@ -1,10 +1,9 @@
 //! A world that a seed and a count generate, run.
 ghost use Rattle.std.specs.Prelude.{◌≡◌, ◌≢◌, ℕ, ◌+◌, ◌*◌, ◌%◌, ◌≤◌, ◌<◌, ◌∷◌, [], IfOk, IsTrue, None, Some, length, true, false};
 ghost use Rattle.as4_effects.specs.declared.queue.Queue.TheVariants as queue;
-ghost use Rattle.as4_flow.specs.Told.{behind};
-ghost use Rattle.drill.specs.Generated.{GeneratedEnds, IsGenerated, Leads, Rounds, TakesAll, carried, counted, invoice, next_number, size_by, submissions, ticks_a};
-ghost use Rattle.drill.specs.Generating.{Goes, IsHead, IsRound, Legs, Turns, carried_both, nothing_line};
-ghost use Rattle.drill.specs.Transcript.{Stage as StageValue, end_lines, is_right, new_stage};
+ghost use Rattle.drill.specs.Generated.{GeneratedEnds, IsGenerated, IsRound, IsTooLong, Leads, LegStops, RestStops, RoundStops, Rounds, RoundsStop, Stops, TakesAll, TakesStop, carried, counted, invoice, next_number, size_by, submissions, ticks_a};
+ghost use Rattle.drill.specs.Generating.{Goes, IsHead, Legs, Runs, Turns, carried_both, nothing_line};
+ghost use Rattle.drill.specs.Transcript.{Stage as StageValue, is_right, new_stage};
 ghost use Rattle.drill_script.specs.LineText.{is_line, line_limit, line_text};
 ghost use Rattle.drill_script.specs.declared.line.EndName.TheVariants as name;
 ghost use Rattle.drill_script.specs.declared.line.Line.TheVariants as line;
@@ -25,7 +24,7 @@ fn play_text(stage: &mut Stage, line: &Line) -> Result<Octets, Refused>
     requires spelled { IsTrue (is_line line.now) }
     requires short { length (line_text line.now) ≤ line_limit }
     requires right { is_right line.now stage.old ≡ true }
-    ensures { Goes result stage.old (λ text. Turns line.now stage.old text stage.new) }
+    ensures { Goes result (λ text. Turns line.now stage.old text stage.new) (Stops (line.now ∷ []) stage.old) }
 {
     stage.play(line)
 }
@@ -35,7 +34,7 @@ fn play_one(stage: &mut Stage, line: Line) -> Result<(), Refused>
     requires spelled { IsTrue (is_line line) }
     requires short { length (line_text line) ≤ line_limit }
     requires right { is_right line stage.old ≡ true }
-    ensures { Goes result stage.old (λ _. Leads (line ∷ []) stage.old stage.new) }
+    ensures { Runs result (line ∷ []) stage.old stage.new }
 {
     let played = play_text(stage, &line);
     drop(line);
@@ -50,7 +49,7 @@ fn play_one(stage: &mut Stage, line: Line) -> Result<(), Refused>
 
 // The package of this place is carried to the end, by the rule of the counter.
 fn carry(stage: &mut Stage, counter: u64, end: EndName, place: u64) -> Result<(), Refused>
-    ensures { Goes result stage.old (λ _. Leads (carried counter end place) stage.old stage.new) }
+    ensures { Runs result (carried counter end place) stage.old stage.new }
 {
     if counter % 3 == 2 {
         return Ok(());
@@ -78,7 +77,7 @@ fn carry(stage: &mut Stage, counter: u64, end: EndName, place: u64) -> Result<()
 // A package is carried, and what is answered to it.
 fn carry_both(stage: &mut Stage, counter: u64, place: u64, answer: u64) -> Result<(), Refused>
     requires { counter < 1000000 }
-    ensures { Goes result stage.old (λ _. Leads (carried_both counter place answer) stage.old stage.new) }
+    ensures { Runs result (carried_both counter place answer) stage.old stage.new }
 {
     if counter % 3 == 2 {
         return Ok(());
@@ -109,8 +108,8 @@ fn is_of_some(text: &Octets) -> bool
 
 // End a takes what it has to push. It answers whether there was something.
 fn take_one(stage: &mut Stage) -> Result<bool, Refused>
-    ensures { Goes result stage.old (λ some. Leads (line.Take name.A ∷ []) stage.old stage.new
-        × IsHead some (head_of queue.Push stage.old.world.left.end)) }
+    ensures { Goes result (λ some. Leads (line.Take name.A ∷ []) stage.old stage.new
+        × IsHead some (head_of queue.Push stage.old.world.left.end)) (Stops (line.Take name.A ∷ []) stage.old) }
 {
     let line = Line::Take { end: EndName::A };
     let played = play_text(stage, &line);
@@ -129,8 +128,8 @@ fn carry_on(
     answer: u64,
 ) -> Result<Option<u64>, Refused>
     requires { counter < 1000000 }
-    ensures { Goes result stage.old (λ next. (next ≡ Some (counted counter))
-        × Leads (carried_both counter place answer) stage.old stage.new) }
+    ensures { Goes result (λ next. (next ≡ Some (counted counter))
+        × Leads (carried_both counter place answer) stage.old stage.new) (Stops (carried_both counter place answer) stage.old) }
 {
     carry_both(stage, counter, place, answer)?;
     Ok(Some(next_counter(counter)))
@@ -139,7 +138,8 @@ fn carry_on(
 // A leg of the counter is played, if there is something to take. It answers the counter behind it.
 fn play_leg(stage: &mut Stage, counter: u64) -> Result<Option<u64>, Refused>
     requires { counter ≤ 2 * stage.old.events }
-    ensures { Goes result stage.old (Legs counter stage.old stage.new) }
+    ensures { Goes result (Legs counter stage.old stage.new)
+        (LegStops counter stage.old (head_of queue.Push stage.old.world.left.end)) }
 {
     let place = stage.said(EndName::A);
     let answer = stage.said(EndName::B);
@@ -153,8 +153,8 @@ fn play_leg(stage: &mut Stage, counter: u64) -> Result<Option<u64>, Refused>
 // End a takes until there is nothing. It answers the counter behind the last.
 fn take_all(stage: &mut Stage, counter: u64) -> Result<u64, Refused>
     requires { counter ≤ 2 * stage.old.events }
-    ensures { Goes result stage.old (λ later. (later ≤ 2 * stage.new.events)
-        × ((takes : ℕ) × TakesAll takes counter stage.old later stage.new)) }
+    ensures { Goes result (λ later. (later ≤ 2 * stage.new.events)
+        × ((takes : ℕ) × TakesAll takes counter stage.old later stage.new)) (TakesStop counter stage.old) }
 {
     let mut now = counter;
     'takes: loop {
@@ -168,7 +168,7 @@ fn take_all(stage: &mut Stage, counter: u64) -> Result<u64, Refused>
 // The clock of end a is set.
 fn tick(stage: &mut Stage, moment: u64) -> Result<(), Refused>
     requires { moment ≤ 33000 }
-    ensures { Goes result stage.old (λ _. Leads (ticks_a moment) stage.old stage.new) }
+    ensures { Runs result (ticks_a moment) stage.old stage.new }
 {
     play_one(
         stage,
@@ -183,8 +183,8 @@ fn tick(stage: &mut Stage, moment: u64) -> Result<(), Refused>
 fn play_round(stage: &mut Stage, round: u64, counter: u64) -> Result<u64, Refused>
     requires rounds { round ≤ 11 }
     requires few { counter ≤ 2 * stage.old.events }
-    ensures { Goes result stage.old (λ later. (later ≤ 2 * stage.new.events)
-        × IsRound round counter stage.old later stage.new) }
+    ensures { Goes result (λ later. (later ≤ 2 * stage.new.events)
+        × IsRound round counter stage.old later stage.new) (RoundStops round counter stage.old) }
 {
     tick(stage, 3000 * round)?;
     take_all(stage, counter)
@@ -192,7 +192,7 @@ fn play_round(stage: &mut Stage, round: u64, counter: u64) -> Result<u64, Refuse
 
 // All rounds, the first at 0.
 fn play_rounds(stage: &mut Stage) -> Result<(), Refused>
-    ensures { Goes result stage.old (λ _. Rounds 11 0 0 stage.old stage.new) }
+    ensures { Goes result (λ _. Rounds 11 0 0 stage.old stage.new) (RoundsStop 11 0 0 stage.old) }
 {
     let mut counter = 0;
     let mut round = 0;
@@ -234,7 +234,7 @@ fn invoice_name(alloc: Global) -> Result<Octets, NoMemory>
 // Both ends get the mode.
 fn name_mode(alloc: Global, stage: &mut Stage) -> Result<(), Refused>
     requires { stage.old ≡ new_stage }
-    ensures { Goes result stage.old (λ _. Leads (line.Mode invoice Pushes 10 3000 ∷ []) stage.old stage.new) }
+    ensures { Runs result (line.Mode invoice Pushes 10 3000 ∷ []) stage.old stage.new }
 {
     let name = invoice_name(alloc)?;
     let line = Line::Mode {
@@ -249,7 +249,7 @@ fn name_mode(alloc: Global, stage: &mut Stage) -> Result<(), Refused>
 // End a submits a message of so many bytes.
 fn submit_one(alloc: Global, stage: &mut Stage, size: u32) -> Result<(), Refused>
     requires { size ≤ 40960 }
-    ensures { Goes result stage.old (λ _. Leads (line.Submit name.A invoice (Sized size) ∷ []) stage.old stage.new) }
+    ensures { Runs result (line.Submit name.A invoice (Sized size) ∷ []) stage.old stage.new }
 {
     let mode = invoice_name(alloc)?;
     play_one(
@@ -264,7 +264,7 @@ fn submit_one(alloc: Global, stage: &mut Stage, size: u32) -> Result<(), Refused
 
 // End a submits so many messages.
 fn submit_all(alloc: Global, stage: &mut Stage, seed: u64, count: u64) -> Result<(), Refused>
-    ensures { Goes result stage.old (λ _. Leads (submissions seed seed count) stage.old stage.new) }
+    ensures { Runs result (submissions seed seed count) stage.old stage.new }
 {
     let mut number = seed;
     let mut sent = 0;
@@ -281,8 +281,7 @@ fn submit_all(alloc: Global, stage: &mut Stage, seed: u64, count: u64) -> Result
 // The mode is named and all is submitted.
 fn prepare(alloc: Global, stage: &mut Stage, seed: u64, count: u64) -> Result<(), Refused>
     requires { stage.old ≡ new_stage }
-    ensures { Goes result stage.old (λ _.
-        Leads (line.Mode invoice Pushes 10 3000 ∷ submissions seed seed count) stage.old stage.new) }
+    ensures { Runs result (line.Mode invoice Pushes 10 3000 ∷ submissions seed seed count) stage.old stage.new }
 {
     name_mode(alloc, stage)?;
     submit_all(alloc, stage, seed, count)
@@ -291,7 +290,7 @@ fn prepare(alloc: Global, stage: &mut Stage, seed: u64, count: u64) -> Result<()
 // All lines of the generated world are played.
 fn run(alloc: Global, stage: &mut Stage, seed: u64, count: u64) -> Result<(), Refused>
     requires { stage.old ≡ new_stage }
-    ensures { Goes result stage.old (λ _. IsGenerated seed count stage.new) }
+    ensures { Goes result (λ _. IsGenerated seed count stage.new) (IsTooLong seed count) }
 {
     prepare(alloc, stage, seed, count)?;
     run_on(stage)
@@ -299,8 +298,8 @@ fn run(alloc: Global, stage: &mut Stage, seed: u64, count: u64) -> Result<(), Re
 
 // All rounds are played, and the last tick.
 fn run_on(stage: &mut Stage) -> Result<(), Refused>
-    ensures { Goes result stage.old (λ _. (done : StageValue) × Rounds 11 0 0 stage.old done
-        × Leads (ticks_a 33000) done stage.new) }
+    ensures { Goes result (λ _. (done : StageValue) × Rounds 11 0 0 stage.old done × Leads (ticks_a 33000) done stage.new)
+        (RestStops stage.old) }
 {
     play_rounds(stage)?;
     tick(stage, 33000)

@@ -1,9 +1,4 @@
-use Rattle.std.proofs.Common.{[], ◌∷◌}
-use Rattle.drill.specs.Generated.{Leads, invoice}
-use Rattle.drill_script.specs.declared.line.EndName.TheVariants as name
-use Rattle.drill_script.specs.declared.line.Line.TheVariants as line
-use Rattle.drill_script.specs.declared.line.ScriptLoad.TheVariants.{Size}
-use Rattle.drill.proofs.GeneratedLemmas.{goes_as, submit_named, submit_right, submit_said, submit_short}
+use Rattle.drill.proofs.GeneratedLemmas.{submit_named, submit_right, submit_said, submit_short}
 use Rattle.drill.proofs.generated.submit_one.Goals as goal
 
 pub play_one-requires-clause-spelled : goal.play_one-requires-clause-spelled
@@ -16,9 +11,4 @@ pub play_one-requires-clause-right : goal.play_one-requires-clause-right
 play_one-requires-clause-right c = submit_right c.in_ok-mode.mode c.args.size c.args.stage.now c.in_ok-mode.ensures c.requires
 
 pub returns : goal.returns
-returns c =
-    goes_as c.play_one.result c.args.stage.now
-    (λ _. Leads (line.Submit name.A c.in_ok-mode.mode (Size c.args.size) ∷ []) c.args.stage.now c.play_one.new.stage)
-    (λ _. Leads (line.Submit name.A invoice (Size c.args.size) ∷ []) c.args.stage.now c.play_one.new.stage)
-    (λ _ leads. submit_named c.in_ok-mode.mode c.args.size c.args.stage.now c.play_one.new.stage c.in_ok-mode.ensures leads)
-    c.play_one.ensures
+returns c = submit_named c.play_one.result c.in_ok-mode.mode c.args.size c.args.stage.now c.play_one.new.stage c.in_ok-mode.ensures c.play_one.ensures
