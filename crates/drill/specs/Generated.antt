@@ -135,7 +135,7 @@ RestStops begun =
     RoundsStop 11 0 0 begun ⊎ ((done : Stage) × Rounds 11 0 0 begun done × Stops (ticks_a 33000) done)
 
 -- a line of the generated script is one event too many
-abbrev pub IsTooLong : ℕ → ℕ → Type 0
+unfoldable pub IsTooLong : ℕ → ℕ → Type 0
 IsTooLong seed count =
     Stops (line.Mode invoice Push 10 3000 ∷ submissions seed seed count) new_stage
     ⊎ ((begun : Stage) × Leads (line.Mode invoice Push 10 3000 ∷ submissions seed seed count) new_stage begun

@@ -7,6 +7,7 @@ use Rattle.drill.proofs.GeneratedLemmas.{goes_on, goes_out}
 use Rattle.drill.proofs.generated.run.Goals as goal
 
 pub returns-in_err-prepare : goal.returns-in_err-prepare
+unfolding IsTooLong
 returns-in_err-prepare c =
     goes_out c.from_residual.result c.in_err-prepare.field-0.0
     (λ _. Leads (line.Mode invoice Push 10 3000 ∷ submissions c.args.seed c.args.seed c.args.count) c.args.stage.now c.prepare.new.stage)
@@ -18,6 +19,7 @@ returns-in_err-prepare c =
     c.in_err-prepare.ensures
 
 pub returns : goal.returns
+unfolding IsTooLong
 returns c =
     let begun : Leads (line.Mode invoice Push 10 3000 ∷ submissions c.args.seed c.args.seed c.args.count) new_stage c.prepare.new.stage =
     subst (λ (s : Stage). Leads (line.Mode invoice Push 10 3000 ∷ submissions c.args.seed c.args.seed c.args.count) s c.prepare.new.stage)
