@@ -1,4 +1,4 @@
-ghost use Rattle.std.specs.Prelude.{◌<◌, ◌≤◌, IfSome, length};
+ghost use Rattle.std.specs.Prelude.{◌<◌, ◌≤◌, IfSome, length, vec_len};
 
 use crate::write_envelope;
 use as4_values::{
@@ -40,6 +40,14 @@ fn is_written(alloc: Global, unit: &Unit, pieces: &[&[u8]]) -> Result<bool, NoMe
     Ok(text.bytes() == wanted.as_slice())
 }
 
+/// The same of a unit that may be missing.
+fn is_text_of(alloc: Global, unit: Option<Unit>, pieces: &[&[u8]]) -> Option<bool> {
+    let unit = unit?;
+    let is_written = is_written(alloc, &unit, pieces);
+    drop(unit);
+    is_written.ok()
+}
+
 fn text(alloc: Global, word: &[u8]) -> Option<Text> {
     Text::read(alloc, word).ok()
 }
@@ -65,19 +73,27 @@ fn reference(alloc: Global, full: bool) -> Option<Option<MessageId>> {
 }
 
 fn party(alloc: Global, full: bool, id: &[u8]) -> Option<Party> {
-    Some(Party {
-        id: text(alloc, id)?,
-        kind: optional(alloc, full, b"urn:kind")?,
-    })
+    let (id, kind) = text(alloc, id).zip(optional(alloc, full, b"urn:kind"))?;
+    Some(Party { id, kind })
 }
 
 /// Two parties where it is full, else one.
-fn side(alloc: Global, full: bool, id: &[u8], role: &[u8]) -> Option<Side> {
-    let role = text(alloc, role)?;
-    let mut parties = vec![in alloc; party(alloc, full, id)?].ok()?;
-    if full {
-        parties.push(party(alloc, false, id)?).ok()?;
+fn parties(alloc: Global, full: bool, id: &[u8]) -> Option<Vec<Party>>
+    ensures { IfSome result (λ parties. (0 < vec_len parties) × (vec_len parties ≤ 2)) }
+{
+    if !full {
+        return vec![in alloc; party(alloc, full, id)?].ok();
     }
+    let (one, two) = party(alloc, true, id).zip(party(alloc, false, id))?;
+    vec![in alloc; one, two].ok()
+}
+
+fn side(alloc: Global, full: bool, id: &[u8], role: &[u8]) -> Option<Side> {
+    let parties = parties(alloc, full, id)?;
+    let Some(role) = text(alloc, role) else {
+        drop(parties);
+        return None;
+    };
     Some(Side {
         parties: Seq::of(parties),
         role,
@@ -88,26 +104,20 @@ fn agreement(alloc: Global, full: bool) -> Option<Option<Agreement>> {
     if !full {
         return Some(None);
     }
-    Some(Some(Agreement {
-        value: text(alloc, b"agreed")?,
-        kind: optional(alloc, true, b"urn:kind")?,
-        pmode: optional(alloc, true, b"urn:mode")?,
-    }))
+    let kinds = optional(alloc, true, b"urn:kind").zip(optional(alloc, true, b"urn:mode"));
+    let (value, (kind, pmode)) = text(alloc, b"agreed").zip(kinds)?;
+    Some(Some(Agreement { value, kind, pmode }))
 }
 
 fn service(alloc: Global, full: bool) -> Option<Service> {
-    Some(Service {
-        value: text(alloc, b"orders")?,
-        kind: optional(alloc, full, b"urn:kind")?,
-    })
+    let (value, kind) = text(alloc, b"orders").zip(optional(alloc, full, b"urn:kind"))?;
+    Some(Service { value, kind })
 }
 
 fn property(alloc: Global, full: bool, name: &[u8]) -> Option<Property> {
-    Some(Property {
-        name: text(alloc, name)?,
-        kind: optional(alloc, full, b"urn:kind")?,
-        value: optional(alloc, full, b"value")?,
-    })
+    let said = optional(alloc, full, b"urn:kind").zip(optional(alloc, full, b"value"));
+    let (name, (kind, value)) = text(alloc, name).zip(said)?;
+    Some(Property { name, kind, value })
 }
 
 /// A full property and a bare one, or none.
@@ -117,16 +127,17 @@ fn properties(alloc: Global, full: bool) -> Option<Seq<Property>>
     if !full {
         return Some(Seq::of(Vec::new(alloc)));
     }
-    let one = property(alloc, true, b"one")?;
-    let two = property(alloc, false, b"two")?;
+    let (one, two) = property(alloc, true, b"one").zip(property(alloc, false, b"two"))?;
     Some(Seq::of(vec![in alloc; one, two].ok()?))
 }
 
 fn part(alloc: Global, full: bool) -> Option<PartInfo> {
-    Some(PartInfo {
-        href: optional(alloc, full, b"cid:p1@a")?,
-        properties: properties(alloc, full)?,
-    })
+    let properties = properties(alloc, full)?;
+    let Some(href) = optional(alloc, full, b"cid:p1@a") else {
+        drop(properties);
+        return None;
+    };
+    Some(PartInfo { href, properties })
 }
 
 /// A full part info and a bare one, or none.
@@ -136,40 +147,54 @@ fn parts(alloc: Global, full: bool) -> Option<Seq<PartInfo>>
     if !full {
         return Some(Seq::of(Vec::new(alloc)));
     }
-    let one = part(alloc, true)?;
-    let two = part(alloc, false)?;
+    let (one, two) = part(alloc, true).zip(part(alloc, false))?;
     Some(Seq::of(vec![in alloc; one, two].ok()?))
 }
 
 fn sides(alloc: Global, full: bool) -> Option<(Side, Side)> {
-    let from = side(alloc, full, b"acme", b"seller")?;
-    let to = side(alloc, full, b"bolt", b"buyer")?;
-    Some((from, to))
+    let from = side(alloc, full, b"acme", b"seller");
+    from.zip(side(alloc, full, b"bolt", b"buyer"))
 }
 
 fn names(alloc: Global, full: bool) -> Option<(StampText, MessageId, Option<MessageId>)> {
-    let stamp = stamp(alloc)?;
-    let id = MessageId::read(alloc, b"m1@a").ok()?;
-    Some((stamp, id, reference(alloc, full)?))
+    let id = MessageId::read(alloc, b"m1@a").ok();
+    let ((stamp, id), ref_to) = stamp(alloc).zip(id).zip(reference(alloc, full))?;
+    Some((stamp, id, ref_to))
 }
 
 fn collaboration(
     alloc: Global,
     full: bool,
 ) -> Option<(Option<Agreement>, Service, Text, Option<Text>)> {
-    let service = service(alloc, full)?;
-    let action = text(alloc, b"invoice")?;
-    let conversation = optional(alloc, full, CONVERSATION.as_bytes())?;
-    Some((agreement(alloc, full)?, service, action, conversation))
+    let work = agreement(alloc, full).zip(service(alloc, full));
+    let conversation = optional(alloc, full, CONVERSATION.as_bytes());
+    let talk = text(alloc, b"invoice").zip(conversation);
+    let ((agreement, service), (action, conversation)) = work.zip(talk)?;
+    Some((agreement, service, action, conversation))
+}
+
+/// The properties and the parts.
+fn lists(alloc: Global, full: bool) -> Option<(Seq<Property>, Seq<PartInfo>)>
+    ensures { IfSome result (λ lists. (length lists.0 ≤ 2) × (length lists.1 ≤ 2)) }
+{
+    let properties = properties(alloc, full)?;
+    let Some(parts) = parts(alloc, full) else {
+        drop(properties);
+        return None;
+    };
+    Some((properties, parts))
 }
 
 fn header(alloc: Global, full: bool) -> Option<UserHeader> {
-    let (stamp, id, ref_to) = names(alloc, full)?;
-    let (from, to) = sides(alloc, full)?;
-    let (agreement, service, action, conversation) = collaboration(alloc, full)?;
-    let mpc = optional(alloc, full, b"urn:mpc")?;
-    let properties = properties(alloc, full)?;
-    let parts = parts(alloc, full)?;
+    let start = optional(alloc, full, b"urn:mpc").zip(names(alloc, full));
+    let who = start.zip(sides(alloc, full));
+    let said = who.zip(collaboration(alloc, full))?;
+    let Some((properties, parts)) = lists(alloc, full) else {
+        drop(said);
+        return None;
+    };
+    let (((mpc, (stamp, id, ref_to)), (from, to)), work) = said;
+    let (agreement, service, action, conversation) = work;
     Some(UserHeader {
         mpc,
         stamp,
@@ -188,8 +213,7 @@ fn header(alloc: Global, full: bool) -> Option<UserHeader> {
 
 /// Whether the header, full or bare, is written so.
 fn is_header(alloc: Global, full: bool, wanted: &[u8]) -> Option<bool> {
-    let unit = Unit::User(header(alloc, full)?);
-    is_written(alloc, &unit, &[wanted]).ok()
+    is_text_of(alloc, header(alloc, full).map(Unit::User), &[wanted])
 }
 
 #[test]
@@ -201,8 +225,7 @@ fn each_part_of_a_header_is_written_or_left_out(rt: HostRuntime) -> Result<(), F
 }
 
 fn pull(alloc: Global) -> Option<Unit> {
-    let (stamp, id, ref_to) = names(alloc, false)?;
-    let mpc = text(alloc, b"urn:mpc")?;
+    let ((stamp, id, ref_to), mpc) = names(alloc, false).zip(text(alloc, b"urn:mpc"))?;
     Some(Unit::Signal(Signal {
         stamp,
         id,
@@ -212,8 +235,7 @@ fn pull(alloc: Global) -> Option<Unit> {
 }
 
 fn is_pull(alloc: Global, wanted: &[u8]) -> Option<bool> {
-    let unit = pull(alloc)?;
-    is_written(alloc, &unit, &[SIGNAL_START, wanted]).ok()
+    is_text_of(alloc, pull(alloc), &[SIGNAL_START, wanted])
 }
 
 #[test]
@@ -234,23 +256,23 @@ fn copy(alloc: Global, has_copy: bool) -> Option<Option<UserHeader>> {
 }
 
 fn receipt(alloc: Global, has_copy: bool) -> Option<Unit> {
-    let stamp = stamp(alloc)?;
-    let id = MessageId::read(alloc, b"m1@a").ok()?;
-    let ref_to = Some(MessageId::read(alloc, b"m0@a").ok()?);
-    let copy = copy(alloc, has_copy)?;
+    let id = MessageId::read(alloc, b"m1@a").ok();
+    let names = stamp(alloc).zip(id);
+    let ref_to = MessageId::read(alloc, b"m0@a").ok();
+    let ((stamp, id), (ref_to, copy)) = names.zip(ref_to.zip(copy(alloc, has_copy)))?;
     Some(Unit::Signal(Signal {
         stamp,
         id,
-        ref_to,
+        ref_to: Some(ref_to),
         body: SignalBody::Receipt { copy },
     }))
 }
 
 fn is_receipt(alloc: Global, has_copy: bool, wanted: &[u8]) -> Option<bool> {
-    let unit = receipt(alloc, has_copy)?;
     let start = b"</eb:MessageInfo><eb:Receipt>";
     let end = b"</eb:Receipt></eb:SignalMessage>";
-    is_written(alloc, &unit, &[SIGNAL_START, REFERENCE, start, wanted, end]).ok()
+    let pieces = [SIGNAL_START, REFERENCE, start, wanted, end];
+    is_text_of(alloc, receipt(alloc, has_copy), &pieces)
 }
 
 #[test]
@@ -267,17 +289,17 @@ fn a_receipt_has_a_copy_or_none(rt: HostRuntime) -> Result<(), Fail> {
 
 /// What an error says by attributes, or nothing of it.
 fn attributes(alloc: Global, full: bool) -> Option<(Option<Text>, Option<Text>, Option<Text>)> {
-    let origin = optional(alloc, full, b"ebMS")?;
-    let category = optional(alloc, full, b"Content")?;
-    let short = optional(alloc, full, b"Other")?;
+    let origin = optional(alloc, full, b"ebMS");
+    let category = optional(alloc, full, b"Content");
+    let short = optional(alloc, full, b"Other");
+    let ((origin, category), short) = origin.zip(category).zip(short)?;
     Some((origin, category, short))
 }
 
 /// What it says by elements, or nothing of it.
 fn elements(alloc: Global, full: bool) -> Option<(Option<Text>, Option<Text>)> {
-    let description = optional(alloc, full, b"described")?;
-    let detail = optional(alloc, full, b"detailed")?;
-    Some((description, detail))
+    let description = optional(alloc, full, b"described");
+    description.zip(optional(alloc, full, b"detailed"))
 }
 
 fn severity(full: bool) -> Severity {
@@ -289,10 +311,10 @@ fn severity(full: bool) -> Severity {
 }
 
 fn error(alloc: Global, full: bool) -> Option<ErrorItem> {
-    let code = Code::read(alloc, b"EBMS:0004").ok()?;
-    let about = reference(alloc, full)?;
-    let (origin, category, short) = attributes(alloc, full)?;
-    let (description, detail) = elements(alloc, full)?;
+    let code = Code::read(alloc, b"EBMS:0004").ok();
+    let start = code.zip(reference(alloc, full));
+    let rest = attributes(alloc, full).zip(elements(alloc, full));
+    let ((code, about), ((origin, category, short), (description, detail))) = start.zip(rest)?;
     Some(ErrorItem {
         code,
         severity: severity(full),
@@ -306,8 +328,11 @@ fn error(alloc: Global, full: bool) -> Option<ErrorItem> {
 }
 
 fn errors(alloc: Global, full: bool) -> Option<Unit> {
-    let (stamp, id, ref_to) = names(alloc, false)?;
     let items = Seq::of(vec![in alloc; error(alloc, full)?].ok()?);
+    let Some((stamp, id, ref_to)) = names(alloc, false) else {
+        drop(items);
+        return None;
+    };
     Some(Unit::Signal(Signal {
         stamp,
         id,
@@ -317,10 +342,10 @@ fn errors(alloc: Global, full: bool) -> Option<Unit> {
 }
 
 fn is_error(alloc: Global, full: bool, wanted: &[u8]) -> Option<bool> {
-    let unit = errors(alloc, full)?;
     let start = b"</eb:MessageInfo>";
     let end = b"</eb:Error></eb:SignalMessage>";
-    is_written(alloc, &unit, &[SIGNAL_START, start, wanted, end]).ok()
+    let pieces = [SIGNAL_START, start, wanted, end];
+    is_text_of(alloc, errors(alloc, full), &pieces)
 }
 
 #[test]

@@ -10,9 +10,10 @@
 //!
 //! N is the number of the boundary in 16 hexadecimal digits. Each line ends in CRLF.
 
-ghost use Rattle.std.specs.Prelude.{◌≡◌, ◌<◌, ◌++◌, OnOk, IfOk};
-ghost use Rattle.std.specs.List.{flat_map};
+ghost use Rattle.std.specs.Prelude.{◌≡◌, ◌+◌, ◌*◌, ◌<◌, ◌++◌, OnOk, IfOk, length, min};
+ghost use Rattle.std.specs.List.{flat_map, sum_by};
 ghost use Rattle.message_model.specs.Package.{crlf, hex_digit, hex_digits, dash_boundary, root_id, envelope_media, package_media, media_field, part_head, part_text, payload_text, package_body};
+ghost use Rattle.mime_package.specs.Room.{part_room};
 
 use as4_values::{NoMemory, Octets, Payload, Seq};
 use std::alloc::Global;
@@ -163,7 +164,9 @@ fn push_payloads(out: &mut Vec<u8>, number: u64, payloads: &[Payload]) -> Result
 }
 
 /// At least as many bytes as the body of the package has, so that no content is moved while it grows.
-fn room_for(root: &[u8], payloads: &[Payload]) -> usize {
+fn room_for(root: &[u8], payloads: &[Payload]) -> usize
+    ensures { result ≡ min (length root.now + 2 * PART_ROOM + sum_by part_room payloads.now) usize.MAX }
+{
     let mut room = root.len().saturating_add(2 * PART_ROOM);
     for payload in payloads {
         let named = payload
