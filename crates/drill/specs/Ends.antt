@@ -18,11 +18,11 @@ pub record Streams : Type 0 where
   pub write_faults : ℕ
   pub later_write_faults : ℕ
 
--- these lines were played, and this is behind them
+-- the script is these lines, and this behind them
 abbrev pub Reads : List Line → List ℕ → Streams → Type 0
 Reads lines rest streams = Told streams.left (λ script. script ≡ script_text lines ++ rest)
 
--- these lines, and what they wrote
+-- these lines were played from the start, and this is what they wrote
 pub record Played (lines : List Line) (text : List ℕ) (stage : Stage) : Type 0 where
   pub plays : PlaysAll lines new_stage text stage
   pub few : length lines ≤ lines_limit

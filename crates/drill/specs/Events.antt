@@ -31,10 +31,12 @@ pub data Doing : Type 0 where
   Does : Asked → Doing
   Says : EndName → List ℕ → Doing
 
+-- this message comes, or there is no such package
 abbrev pub comes : EndName → Bool → Option Message → Doing
 comes end lost None = Says end (codes "no-package")
 comes end lost (Some message) = Does (record { end = end; what = what.Came message; moment = None; lost = lost; number = 0 })
 
+-- what became of this submission is asked, or there is no such one
 abbrev pub tells : EndName → ℕ → List ℕ → Option (List ℕ) → Doing
 tells end number unknown None = Says end unknown
 tells end number unknown (Some id) = Does (asked end number (what.Status id))
@@ -43,6 +45,7 @@ tells end number unknown (Some id) = Does (asked end number (what.Status id))
 abbrev pub package_for : EndName → ℕ → World → Option Message
 package_for end number world = slice_get (party_at (across (side_of end)) world).said number
 
+-- the identifier of the end's submission of this number
 abbrev pub id_at : EndName → ℕ → World → Option (List ℕ)
 id_at end number world =
     option_map (λ s. s.submission.header.id) (sent_at number (party_at (side_of end) world).end.sent)

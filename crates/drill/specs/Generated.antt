@@ -1,10 +1,11 @@
--- The world that a seed and a count generate: a script that writes itself, by what the ends have sent so far.
+-- The world that a seed and a count generate, by this program's own rules: a script that writes itself, by what the
+-- ends have sent so far.
 --
 -- Both ends have the mode `invoice`, which pushes with 10 retries and a period of 3,000 milliseconds. End a submits so
 -- many messages. In each of eleven rounds its clock is set to 3,000 times the round, from 0, and it takes until there is
 -- nothing to be pushed. A counter begins at 0, and each package that is carried takes its number c and raises it by one:
 -- the package is lost where c mod 3 is 2; else it comes, and where c mod 5 is 4 it comes once more, with the reply lost.
--- What is answered to a message that came is carried next, by the same rule. Last, a's clock is set to 33,000.
+-- The first answer to a message that came is carried next, by the same rule. Last, a's clock is set to 33,000.
 use Rattle.std.specs.Prelude.{◌≡◌, ℕ, zero, suc, ◌+◌, ◌*◌, ◌/◌, ◌%◌, ◌^◌, ◌==◌, ◌⊎◌, List, [], ◌∷◌, ◌++◌, true, if◌then◌else◌, Option, None, Some, IsSome, length, codes}
 use Rattle.as4_effects.specs.declared.queue.Queue.TheVariants as queue
 use Rattle.as4_flow.specs.Faults.{Rose}
@@ -39,17 +40,18 @@ submissions seed x zero = []
 submissions seed x (suc count) =
     line.Submit name.A invoice (Size (size_by seed (next_number x))) ∷ submissions seed (next_number x) count
 
--- a package is carried to an end with this number of the counter
+-- the other end's package of this place is carried to an end, with this number of the counter
 abbrev pub carried : ℕ → EndName → ℕ → List Line
 carried c end place =
     if c % 3 == 2 then [] else line.Came end place ∷ (if c % 5 == 4 then line.Lost end place ∷ [] else [])
 
--- end a takes its package of the first place, and it is carried; what end b answers has the second place
+-- end a takes a package, which gets the first place among a's, and it is carried; what end b answers to it gets the
+-- second place, among b's
 abbrev pub leg : ℕ → ℕ → ℕ → List Line
 leg c place answer =
     line.Take name.A ∷ (if c % 3 == 2 then [] else carried c name.B place ++ carried (c + 1) name.A answer)
 
--- the counter behind it
+-- the counter behind such a leg
 abbrev pub counted : ℕ → ℕ
 counted c = if c % 3 == 2 then c + 1 else c + 2
 

@@ -27,7 +27,7 @@ abbrev pub carried_both : ℕ → ℕ → ℕ → List Line
 carried_both c place answer =
     if c % 3 == 2 then [] else carried c name.B place ++ carried (c + 1) name.A answer
 
--- a leg was played, or there was nothing to take
+-- a leg was played, with the counter behind it, or there was nothing to take
 abbrev pub Legs : ℕ → Stage → Stage → Option ℕ → Type 0
 Legs c old new None = (head_of queue.Push old.world.left.end ≡ None) × Leads (line.Take name.A ∷ []) old new
 Legs c old new (Some later) =

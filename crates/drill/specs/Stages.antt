@@ -15,7 +15,7 @@ use Rattle.exchange_model.specs.LosslessRound.{party_at}
 use Rattle.exchange_model.specs.World.{Act, MayHappenAt, new_party, world_at}
 use Rattle.exchange_model.specs.declared.event.Event.{Event}
 
--- the modes are those of a script, and both ends have them once it is more than modes
+-- the modes are those of a script, and both ends have them once a line was more than a mode
 pub record IsSound (modes : List Mode) (left right : Seat) (events : ℕ) (begun : Bool) : Type 0 where
   pub made : AreDrillModes modes
   pub few : events ≤ events_limit

@@ -1,4 +1,5 @@
--- What a drill writes for a script: each line makes an event at one of two ends, whose steps are the machine's.
+-- What a drill writes for a script, by this program's own rules: each line makes an event at one of two ends, whose
+-- steps are the machine's.
 use Rattle.std.specs.Prelude.{◌≡◌, ℕ, ◌+◌, List, [], ◌∷◌, ◌++◌, Bool, true, false, not, ◌&&◌, nat_lt, nat_le, IsTrue, Some, length, codes}
 use Rattle.std.specs.List.{flat_map, list_any}
 use Rattle.std.specs.Option.{unwrap_or}
@@ -56,6 +57,7 @@ pub record Makes (ask : Asked) (old : Stage) (text : List ℕ) (new : Stage) : T
       (reply_text ask.number ask.lost (length (party_at (side_of ask.end) old.world).said) act.outcome.reply)
   pub leads : new ≡ record old { world = world_at (side_of ask.end) act old.world; events = old.events + 1; begun = true }
 
+-- what a line leads to, and what it writes
 abbrev pub Plays : Line → Doing → Stage → List ℕ → Stage → Type 0
 Plays (line.Mode name way retries period) doing old text new =
     (mode : Mode) × IsDrillMode name way retries period mode × (text ≡ [])
@@ -78,11 +80,11 @@ is_event other = false
 abbrev pub events_limit : ℕ
 events_limit = 100000
 
--- the line is in the grammar, in its place
+-- the line is in the grammar, within the limit and in its place
 abbrev pub is_right : Line → Stage → Bool
 is_right l stage = is_line l && (nat_le (length (line_text l)) line_limit && is_placed l stage)
 
--- one line too many
+-- the line would make one event too many
 abbrev pub is_too_many : Line → Stage → Bool
 is_too_many l stage = is_event (doing_of stage.world l) && nat_le events_limit stage.events
 
