@@ -4,6 +4,7 @@
 mod delivery;
 mod effect;
 mod measured;
+mod media;
 mod named;
 mod pairing;
 mod queue;
@@ -15,6 +16,7 @@ mod tests;
 pub use delivery::Delivery;
 pub use effect::{Effect, Tick};
 pub use measured::Measured;
+pub use media::is_media_text;
 pub use pairing::pairs;
 pub use queue::Queue;
 pub use sound::{delivery_fits, is_id_of, is_route, submission_fits};

@@ -2,7 +2,6 @@
 #![tactic(auto)]
 
 mod body;
-mod media;
 mod read_effect;
 mod read_header;
 mod read_payload;

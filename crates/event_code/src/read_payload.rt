@@ -6,10 +6,10 @@ ghost use Rattle.as4_effects.specs.Bodies.{payload_body, route_body};
 ghost use Rattle.as4_values.specs.Payload.{IsContentId, IsMediaText};
 ghost use Rattle.event_code.specs.Spelled.{IsSpelledPayload, IsSpelledRoute};
 
-use crate::media::is_media_text;
 use crate::reading::Readable;
 use crate::refusal::BodyRefusal;
 use crate::rest::Rest;
+use as4_effects::is_media_text;
 use as4_values::{Octets, Payload, Route, Text, Word};
 use std::alloc::Global;
 

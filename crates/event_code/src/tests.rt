@@ -1,4 +1,4 @@
-ghost use Rattle.std.specs.Prelude.{◌≤◌, IfSome, IsTrue, length};
+ghost use Rattle.std.specs.Prelude.{◌≡◌, ◌≤◌, IfSome, IsTrue, length};
 ghost use Rattle.as4_effects.specs.Pairing.{pair};
 ghost use Rattle.as4_effects.specs.Sound.{is_id_of, is_route, fits_an_effect, submitted_body, delivered_body};
 
@@ -8,13 +8,13 @@ use as4_effects::{
 };
 use as4_values::{
     Agreement, Code, MessageId, Octets, PartInfo, Party, Payload, PlainData, Property, Route, Seq,
-    Service, Side, StampText, Text, UserHeader, read_stamp,
+    Service, Side, Text, UserHeader, read_stamp,
 };
 use std::alloc::Global;
-use std::test::Fail;
+use std::process::Abort;
 
 #[test]
-fn a_tick_and_a_confirmation_are_their_numbers(rt: HostRuntime) -> Result<(), Fail> {
+fn a_tick_and_a_confirmation_are_their_numbers(rt: HostRuntime) {
     assert_eq!(rt;
         tick_body(1000).as_slice(),
         b"\x00\x01\x02\x00\x00\x00\x00\x00\x00\x03\xe8".as_slice()
@@ -27,149 +27,115 @@ fn a_tick_and_a_confirmation_are_their_numbers(rt: HostRuntime) -> Result<(), Fa
         confirm_body(0x0102030405060708).as_slice(),
         b"\x00\x01\x07\x01\x02\x03\x04\x05\x06\x07\x08".as_slice()
     );
-    Ok(())
 }
 
-fn text(alloc: Global, word: &[u8]) -> Option<Text> {
-    Text::read(alloc, word).ok()
+fn text(rt: &(impl Abort + AllocGlobal), word: &[u8]) -> Text {
+    Text::read(rt.alloc(), word).expect(rt, "a text")
 }
 
-fn optional(alloc: Global, full: bool, word: &[u8]) -> Option<Option<Text>> {
-    if full {
-        Some(Some(text(alloc, word)?))
-    } else {
-        Some(None)
-    }
+fn optional(rt: &(impl Abort + AllocGlobal), full: bool, word: &[u8]) -> Option<Text> {
+    if full { Some(text(rt, word)) } else { None }
 }
 
-fn side(alloc: Global, full: bool, id: &[u8]) -> Option<Side> {
-    let role = text(alloc, b"r")?;
+fn octets(rt: &(impl Abort + AllocGlobal), bytes: &[u8]) -> Octets
+    ensures { result ≡ bytes.now }
+{
+    Octets::of(Vec::from_slice(rt.alloc(), bytes).expect(rt, "memory"))
+}
+
+fn message_id(rt: &(impl Abort + AllocGlobal), id: &[u8]) -> MessageId {
+    MessageId::read(rt.alloc(), id).expect(rt, "an identifier")
+}
+
+fn side(rt: &(impl Abort + AllocGlobal), full: bool, id: &[u8]) -> Side {
     let party = Party {
-        id: text(alloc, id)?,
-        kind: optional(alloc, full, b"k")?,
+        id: text(rt, id),
+        kind: optional(rt, full, b"k"),
     };
-    Some(Side {
-        parties: Seq::of(vec![in alloc; party].ok()?),
-        role,
-    })
-}
-
-fn reference(alloc: Global, full: bool) -> Option<Option<MessageId>> {
-    if full {
-        Some(Some(MessageId::read(alloc, b"m0").ok()?))
-    } else {
-        Some(None)
+    Side {
+        parties: Seq::of(vec![in rt.alloc(); party].expect(rt, "memory")),
+        role: text(rt, b"r"),
     }
 }
 
-fn agreement(alloc: Global, full: bool) -> Option<Option<Agreement>> {
+fn agreement(rt: &(impl Abort + AllocGlobal), full: bool) -> Option<Agreement> {
     if !full {
-        return Some(None);
+        return None;
     }
-    Some(Some(Agreement {
-        value: text(alloc, b"v")?,
+    Some(Agreement {
+        value: text(rt, b"v"),
         kind: None,
-        pmode: Some(text(alloc, b"pm")?),
-    }))
+        pmode: Some(text(rt, b"pm")),
+    })
 }
 
 /// One property where it is full, and one without its value.
-fn properties(alloc: Global, full: bool) -> Option<Seq<Property>>
-    ensures { IfSome result (λ properties. length properties ≤ 1) }
+fn properties(rt: &(impl Abort + AllocGlobal), full: bool) -> Seq<Property>
+    ensures { length result ≤ 1 }
 {
-    let name = text(alloc, b"n")?;
-    let value = optional(alloc, full, b"w")?;
     let property = Property {
-        name,
+        name: text(rt, b"n"),
         kind: None,
-        value,
+        value: optional(rt, full, b"w"),
     };
-    Some(Seq::of(vec![in alloc; property].ok()?))
+    Seq::of(vec![in rt.alloc(); property].expect(rt, "memory"))
 }
 
 /// One part info where it is full.
-fn parts(alloc: Global, full: bool) -> Option<Seq<PartInfo>>
-    ensures { IfSome result (λ parts. length parts ≤ 1) }
+fn parts(rt: &(impl Abort + AllocGlobal), full: bool) -> Seq<PartInfo>
+    ensures { length result ≤ 1 }
 {
     if !full {
-        return Some(Seq::of(Vec::new(alloc)));
+        return Seq::of(Vec::new(rt.alloc()));
     }
     let part = PartInfo {
-        href: optional(alloc, true, b"cid:p")?,
-        properties: properties(alloc, true)?,
+        href: Some(text(rt, b"cid:p")),
+        properties: properties(rt, true),
     };
-    Some(Seq::of(vec![in alloc; part].ok()?))
+    Seq::of(vec![in rt.alloc(); part].expect(rt, "memory"))
 }
 
-fn names(
-    alloc: Global,
-    full: bool,
-    id: &[u8],
-) -> Option<(StampText, MessageId, Option<MessageId>)> {
-    let stamp = read_stamp(alloc, b"2025-01-02T03:04:05Z").ok()?;
-    let id = MessageId::read(alloc, id).ok()?;
-    Some((stamp, id, reference(alloc, full)?))
+fn service(rt: &(impl Abort + AllocGlobal), full: bool) -> Service {
+    Service {
+        value: text(rt, b"s"),
+        kind: optional(rt, full, b"t"),
+    }
 }
 
-fn sides(alloc: Global, full: bool) -> Option<(Side, Side)> {
-    let from = side(alloc, full, b"a")?;
-    let to = side(alloc, full, b"b")?;
-    Some((from, to))
-}
-
-fn service(alloc: Global, full: bool) -> Option<Service> {
-    Some(Service {
-        value: text(alloc, b"s")?,
-        kind: optional(alloc, full, b"t")?,
-    })
-}
-
-fn collaboration(
-    alloc: Global,
-    full: bool,
-) -> Option<(Option<Agreement>, Service, Text, Option<Text>)> {
-    let service = service(alloc, full)?;
-    let action = text(alloc, b"act")?;
-    let conversation = optional(alloc, full, b"c")?;
-    Some((agreement(alloc, full)?, service, action, conversation))
-}
-
-fn header(alloc: Global, full: bool, id: &[u8]) -> Option<UserHeader> {
-    let (stamp, id, ref_to) = names(alloc, full, id)?;
-    let (from, to) = sides(alloc, full)?;
-    let (agreement, service, action, conversation) = collaboration(alloc, full)?;
-    let mpc = optional(alloc, full, b"q")?;
-    let properties = properties(alloc, false)?;
-    let parts = parts(alloc, full)?;
-    Some(UserHeader {
-        mpc,
-        stamp,
-        id,
+fn header(rt: &(impl Abort + AllocGlobal), full: bool, id: &[u8]) -> UserHeader {
+    let ref_to = if full {
+        Some(message_id(rt, b"m0"))
+    } else {
+        None
+    };
+    UserHeader {
+        mpc: optional(rt, full, b"q"),
+        stamp: read_stamp(rt.alloc(), b"2025-01-02T03:04:05Z").expect(rt, "a stamp"),
+        id: message_id(rt, id),
         ref_to,
-        from,
-        to,
-        agreement,
-        service,
-        action,
-        conversation,
-        properties,
-        parts,
-    })
+        from: side(rt, full, b"a"),
+        to: side(rt, full, b"b"),
+        agreement: agreement(rt, full),
+        service: service(rt, full),
+        action: text(rt, b"act"),
+        conversation: optional(rt, full, b"c"),
+        properties: properties(rt, false),
+        parts: parts(rt, full),
+    }
 }
 
 /// The one payload that a full header names.
-fn payloads(alloc: Global, full: bool) -> Option<Seq<Payload>> {
+fn payloads(rt: &(impl Abort + AllocGlobal), full: bool) -> Seq<Payload> {
     if !full {
-        return Some(Seq::of(Vec::new(alloc)));
+        return Seq::of(Vec::new(rt.alloc()));
     }
-    let name = MessageId::read(alloc, b"p").ok()?;
-    let cid = Octets::of(Vec::from_slice(alloc, name.bytes()).ok()?);
+    let name = message_id(rt, b"p");
     let payload = Payload {
-        cid,
-        media: Octets::of(Vec::new(alloc)),
-        content: Octets::of(Vec::from_slice(alloc, b"order").ok()?),
+        cid: octets(rt, name.bytes()),
+        media: Octets::of(Vec::new(rt.alloc())),
+        content: octets(rt, b"order"),
     };
-    Some(Seq::of(vec![in alloc; payload].ok()?))
+    Seq::of(vec![in rt.alloc(); payload].expect(rt, "memory"))
 }
 
 /// Whether a submission of these is a submission.
@@ -188,22 +154,25 @@ fn is_submission(
     Some(paired && named && is_route(route) && submission_fits(header, payloads, route))
 }
 
-fn route(alloc: Global, full: bool) -> Option<Route> {
-    let address = text(alloc, b"http://h/")?;
-    match optional(alloc, full, b"q")? {
-        None => Some(Route::Push { address }),
-        Some(mpc) => Some(Route::Pull { mpc, address }),
+fn route(rt: &(impl Abort + AllocGlobal), full: bool) -> Route {
+    let address = text(rt, b"http://h/");
+    if full {
+        Route::Pull {
+            mpc: text(rt, b"q"),
+            address,
+        }
+    } else {
+        Route::Push { address }
     }
 }
 
-fn submitted(alloc: Global, full: bool) -> Option<Effect> {
-    let route = route(alloc, full)?;
-    let payloads = payloads(alloc, full)?;
-    let header = header(alloc, full, b"7.00000000-0000-0000-0000-000000000001@as4")?;
-    if !is_submission(alloc, &header, &payloads, &route)? {
-        return None;
-    }
-    Some(Effect::Submitted(Submission {
+fn submitted(rt: &(impl Abort + AllocGlobal), full: bool) -> Effect {
+    let route = route(rt, full);
+    let payloads = payloads(rt, full);
+    let header = header(rt, full, b"7.00000000-0000-0000-0000-000000000001@as4");
+    let whole = is_submission(rt.alloc(), &header, &payloads, &route).expect(rt, "memory");
+    assert!(rt; whole);
+    Effect::Submitted(Submission {
         number: 7,
         header,
         payloads,
@@ -211,7 +180,7 @@ fn submitted(alloc: Global, full: bool) -> Option<Effect> {
         retries: 3,
         period: 60000,
         moment: 1000,
-    }))
+    })
 }
 
 fn is_delivery(alloc: Global, header: &UserHeader, payloads: &Seq<Payload>) -> Option<bool>
@@ -222,68 +191,69 @@ fn is_delivery(alloc: Global, header: &UserHeader, payloads: &Seq<Payload>) -> O
     Some(paired && delivery_fits(header, payloads))
 }
 
-fn delivered(alloc: Global, full: bool) -> Option<Effect> {
-    let payloads = payloads(alloc, full)?;
-    let header = header(alloc, full, b"m1")?;
-    if !is_delivery(alloc, &header, &payloads)? {
-        return None;
-    }
-    Some(Effect::Delivered(Delivery { header, payloads }))
+fn delivered(rt: &(impl Abort + AllocGlobal), full: bool) -> Effect {
+    let payloads = payloads(rt, full);
+    let header = header(rt, full, b"m1");
+    let whole = is_delivery(rt.alloc(), &header, &payloads).expect(rt, "memory");
+    assert!(rt; whole);
+    Effect::Delivered(Delivery { header, payloads })
 }
 
-fn refused(alloc: Global) -> Option<Effect> {
-    Some(Effect::Refused {
+fn refused(rt: &(impl Abort + AllocGlobal)) -> Effect {
+    Effect::Refused {
         number: 300,
-        code: Code::read(alloc, b"EBMS:0004").ok()?,
-    })
+        code: Code::read(rt.alloc(), b"EBMS:0004").expect(rt, "a code"),
+    }
 }
 
 /// Whether the body of the effects is the pieces one after another, and as long, and is read back.
-fn is_body(alloc: Global, effects: Vec<Effect>, pieces: &[&[u8]]) -> Option<bool> {
-    if effects.is_empty() || effects.len() > 3 {
-        return None;
-    }
+fn is_body(rt: &(impl Abort + AllocGlobal), effects: Vec<Effect>, pieces: &[&[u8]]) -> bool {
+    assert!(rt; !effects.is_empty() && effects.len() <= 3);
     let effects = Seq::of(effects);
     let len = body_len(&effects);
-    if len > 1000 {
-        return None;
-    }
-    let wanted = joined(alloc, pieces)?;
-    let body = write_body(alloc, &effects).ok()?;
+    assert!(rt; len <= 1000);
+    let wanted = joined(rt, pieces);
+    let body = write_body(rt.alloc(), &effects).expect(rt, "memory");
     let same = body.bytes() == wanted.as_slice() && len == wanted.len() as u64;
-    Some(same && is_read_back(alloc, &effects, wanted.as_slice())?)
+    let back = is_read_back(rt, &effects, wanted.as_slice());
+    drop(effects);
+    same && back
 }
 
-fn joined(alloc: Global, pieces: &[&[u8]]) -> Option<Vec<u8>> {
-    let mut bytes = Vec::new(alloc);
+fn joined(rt: &(impl Abort + AllocGlobal), pieces: &[&[u8]]) -> Vec<u8> {
+    let mut bytes = Vec::new(rt.alloc());
     for piece in pieces {
-        bytes.extend_from_slice(piece).ok()?;
+        bytes.extend_from_slice(piece).expect(rt, "memory");
     }
-    Some(bytes)
+    bytes
 }
 
 /// Whether the bytes are read as the effects, and written as they stood.
-fn is_read_back(alloc: Global, effects: &Seq<Effect>, bytes: &[u8]) -> Option<bool> {
-    if bytes.len() > 1000 {
-        return None;
-    }
-    let read = read_body(alloc, bytes).ok()?;
-    let again = write_body(alloc, &read).ok()?;
-    Some(read.same(effects) && again.bytes() == bytes)
+fn is_read_back(rt: &(impl Abort + AllocGlobal), effects: &Seq<Effect>, bytes: &[u8]) -> bool {
+    assert!(rt; bytes.len() <= 1000);
+    let read = read_body(rt.alloc(), bytes).expect(rt, "a body");
+    let again = write_body(rt.alloc(), &read).expect(rt, "memory");
+    let same = read.same(effects) && again.bytes() == bytes;
+    drop(read);
+    same
 }
+
+const SUBMITTED: &[u8] = b"\0\x01\x01";
+
+const DELIVERED: &[u8] = b"\0\x01\x04";
 
 const START: &[u8] = b"\0\0\0\x142025-01-02T03:04:05Z";
 
-/// An effect of no header.
-fn are_small(alloc: Global) -> Option<bool> {
-    let effects = vec![in alloc;
+/// Effects of no header.
+fn are_small(rt: &(impl Abort + AllocGlobal)) -> bool {
+    let effects = vec![in rt.alloc();
         Effect::Tried { number: 258 },
-        refused(alloc)?,
+        refused(rt),
         Effect::Receipted { number: 1 },
     ];
     is_body(
-        alloc,
-        effects.ok()?,
+        rt,
+        effects.expect(rt, "memory"),
         &[
             b"\0\x03",
             b"\x03\0\0\0\0\0\0\x01\x02",
@@ -293,16 +263,16 @@ fn are_small(alloc: Global) -> Option<bool> {
     )
 }
 
-fn are_numbers(alloc: Global) -> Option<bool> {
-    let effects = vec![in alloc;
+fn are_numbers(rt: &(impl Abort + AllocGlobal)) -> bool {
+    let effects = vec![in rt.alloc();
         Effect::Ticked(Tick { moment: 1000 }),
         Effect::Confirmed {
             upto: 0xffff_ffff_ffff_ffff
         },
     ];
     is_body(
-        alloc,
-        effects.ok()?,
+        rt,
+        effects.expect(rt, "memory"),
         &[
             b"\0\x02",
             b"\x02\0\0\0\0\0\0\x03\xe8",
@@ -321,76 +291,81 @@ const FULL: &[u8] =
 
 const PAYLOAD: &[u8] = b"\0\0\0\x01\0\0\0\x01p\0\0\0\0\0\0\0\x05order";
 
+/// No payloads.
+const NO_PAYLOADS: &[u8] = b"\0\0\0\0";
+
 const FULL_MPC: &[u8] = b"\x01\0\0\0\x01q";
+
+const M1: &[u8] = b"\0\0\0\x02m1";
 
 const ID: &[u8] = b"\0\0\0\x2a7.00000000-0000-0000-0000-000000000001@as4";
 
 const SEVEN: &[u8] = b"\0\0\0\0\0\0\0\x07";
 
+const PUSH: &[u8] = b"\0\0\0\0\x09http://h/";
+
 /// Retries, period and moment.
 const TERMS: &[u8] = b"\0\0\0\x03\0\0\0\0\0\0\xea\x60\0\0\0\0\0\0\x03\xe8";
 
-fn is_delivered(alloc: Global, full: bool) -> Option<bool> {
-    let effects = vec![in alloc; delivered(alloc, full)?].ok()?;
-    let id = b"\0\0\0\x02m1";
+fn is_delivered(rt: &(impl Abort + AllocGlobal), full: bool) -> bool {
+    let effects = vec![in rt.alloc(); delivered(rt, full)].expect(rt, "memory");
     if full {
         is_body(
-            alloc,
+            rt,
             effects,
-            &[b"\0\x01\x04", FULL_MPC, START, id, FULL, PAYLOAD],
+            &[DELIVERED, FULL_MPC, START, M1, FULL, PAYLOAD],
         )
     } else {
         is_body(
-            alloc,
+            rt,
             effects,
-            &[b"\0\x01\x04\0", START, id, BARE, b"\0\0\0\0"],
+            &[DELIVERED, b"\0", START, M1, BARE, NO_PAYLOADS],
         )
     }
 }
 
-fn is_submitted(alloc: Global, full: bool) -> Option<bool> {
-    let effects = vec![in alloc; submitted(alloc, full)?].ok()?;
+fn is_submitted(rt: &(impl Abort + AllocGlobal), full: bool) -> bool {
+    let effects = vec![in rt.alloc(); submitted(rt, full)].expect(rt, "memory");
     if full {
         let pull = b"\x01\0\0\0\x01q\0\0\0\x09http://h/";
         is_body(
-            alloc,
+            rt,
             effects,
             &[
-                b"\0\x01\x01",
-                SEVEN,
-                FULL_MPC,
-                START,
-                ID,
-                FULL,
-                PAYLOAD,
-                pull,
-                TERMS,
+                SUBMITTED, SEVEN, FULL_MPC, START, ID, FULL, PAYLOAD, pull, TERMS,
             ],
         )
     } else {
-        let push = b"\0\0\0\0\0\0\0\0\x09http://h/";
         is_body(
-            alloc,
+            rt,
             effects,
-            &[b"\0\x01\x01", SEVEN, b"\0", START, ID, BARE, push, TERMS],
+            &[
+                SUBMITTED,
+                SEVEN,
+                b"\0",
+                START,
+                ID,
+                BARE,
+                NO_PAYLOADS,
+                PUSH,
+                TERMS,
+            ],
         )
     }
 }
 
 #[test]
-fn effects_of_numbers_and_codes_are_written(rt: HostRuntime) -> Result<(), Fail> {
-    assert_eq!(rt; are_small(rt.alloc()), Some(true));
-    assert_eq!(rt; are_numbers(rt.alloc()), Some(true));
-    Ok(())
+fn effects_of_numbers_and_codes_are_written(rt: HostRuntime) {
+    assert!(rt; are_small(&rt));
+    assert!(rt; are_numbers(&rt));
 }
 
 #[test]
-fn messages_are_written_full_and_bare(rt: HostRuntime) -> Result<(), Fail> {
+fn messages_are_written_full_and_bare(rt: HostRuntime) {
     for full in [false, true] {
-        assert_eq!(rt; is_delivered(rt.alloc(), full), Some(true), "{full}");
-        assert_eq!(rt; is_submitted(rt.alloc(), full), Some(true), "{full}");
+        assert!(rt; is_delivered(&rt, full), "{full}");
+        assert!(rt; is_submitted(&rt, full), "{full}");
     }
-    Ok(())
 }
 
 const TICK: &[u8] = b"\0\x01\x02\0\0\0\0\0\0\x03\xe8";
@@ -400,38 +375,177 @@ const BLANK: &[u8] =
     b"\0\0\0\0\x01\0\0\0\x01a\0\0\0\0\x01r\0\0\0\x01\0\0\0\x01b\0\0\0\0\x01r\0\0\0\0\x01s\0\0\0\0\x04act \0\0\0\0\x01\0\0\0\x01n\0\0\0\0\0\0";
 
 #[test]
-fn a_tick_is_read(rt: HostRuntime) -> Result<(), Fail> {
-    let effects = read_body(rt.alloc(), TICK)?;
+fn a_tick_is_read(rt: HostRuntime) {
+    let effects = read_body(rt.alloc(), TICK).expect(&rt, "a body");
     assert_eq!(rt; effects.items().len(), 1);
     assert!(rt; matches!(&effects.items()[0], Effect::Ticked(tick) if tick.moment == 1000));
-    Ok(())
+    drop(effects);
+}
+
+/// Whether the pieces, one after another, are refused as no body.
+fn are_no_body(rt: &(impl Abort + AllocGlobal), pieces: &[&[u8]]) -> bool {
+    let bytes = joined(rt, pieces);
+    match read_body(rt.alloc(), bytes.as_slice()) {
+        Ok(effects) => {
+            drop(effects);
+            false
+        }
+        Err(refusal) => refusal == BodyRefusal::NotBody,
+    }
+}
+
+/// The bodies of no effects.
+const OTHERS: [(&str, &[u8]); 7] = [
+    ("no effects", b"\0\0"),
+    ("1,025 effects", b"\x04\x01"),
+    ("a cut tick", b"\0\x01\x02\0\0\0\0\0\0\x03"),
+    ("a byte more", b"\0\x01\x02\0\0\0\0\0\0\x03\xe8\0"),
+    ("an unknown effect", b"\0\x01\x08\0\0\0\0\0\0\x03\xe8"),
+    (
+        "a moment of the year 10,000",
+        b"\0\x01\x02\0\0\xe6\x77\xd2\x1f\xdc\0",
+    ),
+    ("an empty code", b"\0\x01\x06\0\0\0\0\0\0\x01\x2c\0\0\0\0"),
+];
+
+#[test]
+fn other_bytes_are_no_body(rt: HostRuntime) {
+    for (name, bytes) in &OTHERS {
+        assert!(rt; are_no_body(&rt, &[bytes]), "{name}");
+    }
+}
+
+/// What a bare header has behind its identifier, where the first side has no party.
+const ALONE: &[u8] =
+    b"\0\0\0\0\0\0\0\0\x01r\0\0\0\x01\0\0\0\x01b\0\0\0\0\x01r\0\0\0\0\x01s\0\0\0\0\x03act\0\0\0\0\x01\0\0\0\x01n\0\0\0\0\0\0";
+
+/// Pieces of the body of a delivery, one of them wrong.
+const OTHER_DELIVERIES: [(&str, [&[u8]; 6]); 9] = [
+    (
+        "a blank at the end of a text",
+        [DELIVERED, b"\0", START, M1, BLANK, NO_PAYLOADS],
+    ),
+    (
+        "a control character",
+        [
+            DELIVERED,
+            b"\x01\0\0\0\x01\x01",
+            START,
+            M1,
+            BARE,
+            NO_PAYLOADS,
+        ],
+    ),
+    (
+        "neither a value nor none",
+        [DELIVERED, b"\x02\0\0\0\x01q", START, M1, BARE, NO_PAYLOADS],
+    ),
+    (
+        "a stamp without a time",
+        [
+            DELIVERED,
+            b"\0",
+            b"\0\0\0\x0a2025-01-02",
+            M1,
+            BARE,
+            NO_PAYLOADS,
+        ],
+    ),
+    (
+        "a space in an identifier",
+        [DELIVERED, b"\0", START, b"\0\0\0\x02m ", BARE, NO_PAYLOADS],
+    ),
+    (
+        "a side of no party",
+        [DELIVERED, b"\0", START, M1, ALONE, NO_PAYLOADS],
+    ),
+    (
+        "a payload without a part info",
+        [DELIVERED, b"\0", START, M1, BARE, PAYLOAD],
+    ),
+    (
+        "a space in a Content-ID",
+        [
+            DELIVERED,
+            b"\0",
+            START,
+            M1,
+            BARE,
+            b"\0\0\0\x01\0\0\0\x02p \0\0\0\0\0\0\0\0",
+        ],
+    ),
+    (
+        "a media text of two lines",
+        [
+            DELIVERED,
+            b"\0",
+            START,
+            M1,
+            BARE,
+            b"\0\0\0\x01\0\0\0\x01p\0\0\0\x03t\n/\0\0\0\0",
+        ],
+    ),
+];
+
+#[test]
+fn other_deliveries_are_no_body(rt: HostRuntime) {
+    assert!(rt; !are_no_body(&rt, &[DELIVERED, b"\0", START, M1, BARE, NO_PAYLOADS]));
+    for (name, pieces) in &OTHER_DELIVERIES {
+        assert!(rt; are_no_body(&rt, pieces), "{name}");
+    }
+}
+
+/// A number, a route and terms, one of them wrong.
+const OTHER_SUBMISSIONS: [(&str, [&[u8]; 3]); 4] = [
+    (
+        "another number than the identifier's",
+        [b"\0\0\0\0\0\0\0\x08", PUSH, TERMS],
+    ),
+    (
+        "an unknown route",
+        [SEVEN, b"\x02\0\0\0\x09http://h/", TERMS],
+    ),
+    (
+        "an address without a host",
+        [SEVEN, b"\0\0\0\0\x07http://", TERMS],
+    ),
+    (
+        "1,001 retries",
+        [
+            SEVEN,
+            PUSH,
+            b"\0\0\x03\xe9\0\0\0\0\0\0\xea\x60\0\0\0\0\0\0\x03\xe8",
+        ],
+    ),
+];
+
+/// Whether a submission of a bare header and these is refused as no body.
+fn is_no_submission(
+    rt: &(impl Abort + AllocGlobal),
+    number: &[u8],
+    route: &[u8],
+    terms: &[u8],
+) -> bool {
+    are_no_body(
+        rt,
+        &[
+            SUBMITTED,
+            number,
+            b"\0",
+            START,
+            ID,
+            BARE,
+            NO_PAYLOADS,
+            route,
+            terms,
+        ],
+    )
 }
 
 #[test]
-fn other_bytes_are_no_body(rt: HostRuntime) -> Result<(), Fail> {
-    let pieces = [
-        b"\0\x01\x04\0".as_slice(),
-        START,
-        b"\0\0\0\x02m1",
-        BLANK,
-        b"\0\0\0\0",
-    ];
-    let blank = joined(rt.alloc(), &pieces).ok_or("memory")?;
-    let cases = [
-        ("no effects", b"\0\0".as_slice()),
-        ("1,025 effects", b"\x04\x01"),
-        ("a cut tick", b"\0\x01\x02\0\0\0\0\0\0\x03"),
-        ("a byte more", b"\0\x01\x02\0\0\0\0\0\0\x03\xe8\0"),
-        ("an unknown effect", b"\0\x01\x08\0\0\0\0\0\0\x03\xe8"),
-        (
-            "a moment of the year 10,000",
-            b"\0\x01\x02\0\0\xe6\x77\xd2\x1f\xdc\0",
-        ),
-        ("a blank at the end of a text", blank.as_slice()),
-    ];
-    for (name, bytes) in cases {
-        let refused = matches!(read_body(rt.alloc(), bytes), Err(BodyRefusal::NotBody));
-        assert!(rt; refused, "{name}");
+fn other_submissions_are_no_body(rt: HostRuntime) {
+    assert!(rt; !is_no_submission(&rt, SEVEN, PUSH, TERMS));
+    for (name, [number, route, terms]) in &OTHER_SUBMISSIONS {
+        assert!(rt; is_no_submission(&rt, number, route, terms), "{name}");
     }
-    Ok(())
 }

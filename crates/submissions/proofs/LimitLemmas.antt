@@ -1,9 +1,10 @@
 -- Whether loads are too large, and what holds of those that aren't.
-use Rattle.std.proofs.Common.{◌≡◌, ℕ, ◌-◌, ◌^◌, ◌≤◌, List, true, false, length, arith}
-use Rattle.std.specs.Prelude.{nat_lt, min, not, ◌==◌, ◌||◌, IsTrue}
+use Rattle.std.proofs.Common.{◌≡◌, ℕ, ◌-◌, ◌^◌, ◌≤◌, List, Bool, true, false, length, arith, refl, sym}
+use Rattle.std.specs.Prelude.{nat_lt, min, not, ◌==◌, ◌||◌, ◌↔◌, IsTrue}
 use Rattle.std.specs.List.{list_all, sum_by}
+use Rattle.std.proofs.lemmas.Bool.{false_from_ne_true, false≢true}
 use Rattle.std.proofs.lemmas.Bool.Decides.{nat_tests}
-use Rattle.std.proofs.lemmas.List.Sums.{AllPass-from_list_all}
+use Rattle.std.proofs.lemmas.List.Sums.{AllPass-from_list_all, list_all-from_AllPass}
 use Rattle.as4_values.specs.Payload.{IsMediaText}
 use Rattle.as4_values.specs.declared.payload.Load.{Load}
 use Rattle.exchange_model.specs.Submitting.{is_media_text, are_too_large}
@@ -23,6 +24,20 @@ is_typed text is =
       first = λ some. grind (arith, nat_tests);
       last = λ some. grind (arith, nat_tests);
     }
+
+-- and a media text is one by the test
+is_media : (text : List ℕ) → IsMediaText text → is_media_text text ≡ true
+unfolding is_media_text
+is_media text typed =
+    let line : list_all (λ b. not ((b == 10) || (b == 13))) text ≡ true =
+    list_all-from_AllPass (λ b. not ((b == 10) || (b == 13))) text (λ k d within. typed.line k d (omega arith) within) in
+    let limited : length text ≤ 1024 = typed.limited in
+    grind (arith, nat_tests, typed.first, typed.last)
+
+-- so whoever tells the media texts tells what the test tells
+pub told : (is : Bool) (text : List ℕ) → (IsTrue is ↔ IsMediaText text) → is ≡ is_media_text text
+told true text same = sym (is_media text (same.0 refl))
+told false text same = sym (false_from_ne_true (is_media_text text) (λ is. false≢true (same.1 (is_typed text is))))
 
 -- what isn't too large
 pub record AreSmall (loads : List Load) : Type 0 where

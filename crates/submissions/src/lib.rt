@@ -11,4 +11,4 @@ mod payloads;
 mod tests;
 
 pub use intake::{Intake, submission};
-pub use limits::{are_too_large, is_media_text};
+pub use limits::are_too_large;

@@ -1,114 +1,125 @@
-ghost use Rattle.std.specs.Prelude.{false, IsTrue, IfOk};
+ghost use Rattle.std.specs.Prelude.{false, IsTrue};
 ghost use Rattle.as4_values.specs.ModeRanges.{is_mode_name, is_short, is_short_side, is_mode_route, may_collect};
 
 use crate::{Intake, are_too_large, submission};
 use as4_effects::Submission;
 use as4_values::{
-    Load, Mode, NoMemory, Octets, Party, Route, Seq, Service, Side, Text, is_address,
+    Load, Mode, Octets, PartInfo, Party, Payload, Route, Seq, Service, Side, Text, is_address,
 };
-use std::alloc::Global;
-use std::test::Fail;
+use std::process::Abort;
 
 /// The identifier of the first submission, by the nonce 0.
 const ID: &[u8] = b"0.00000000-0000-0000-0000-000000000000@as4";
 
 #[tactic(auto, unfolding(as4_values::specs::ModeRanges::is_short))]
-fn short(alloc: Global, text: &[u8]) -> Result<Text, NoMemory>
-    ensures { IfOk result (λ text. IsTrue (is_short text)) }
+fn short(rt: &(impl Abort + AllocGlobal), text: &[u8]) -> Text
+    ensures { IsTrue (is_short result) }
 {
-    match Text::read(alloc, text) {
-        Ok(text) if text.bytes().len() <= 255 => Ok(text),
-        _ => Err(NoMemory),
-    }
+    let text = Text::read(rt.alloc(), text).expect(rt, "a text");
+    assert!(rt; text.bytes().len() <= 255);
+    text
 }
 
 #[tactic(auto, unfolding(as4_values::specs::ModeRanges::is_mode_name))]
-fn name(alloc: Global) -> Result<Text, NoMemory>
-    ensures { IfOk result (λ name. IsTrue (is_mode_name name)) }
+fn name(rt: &(impl Abort + AllocGlobal)) -> Text
+    ensures { IsTrue (is_mode_name result) }
 {
-    match Text::read(alloc, b"m") {
-        Ok(text) if text.bytes() == b"m".as_slice() => Ok(text),
-        _ => Err(NoMemory),
-    }
+    let text = Text::read(rt.alloc(), b"m").expect(rt, "a text");
+    assert!(rt; text.bytes() == b"m".as_slice());
+    text
 }
 
 #[tactic(auto, unfolding(as4_values::specs::ModeRanges::is_short_side, as4_values::specs::ModeRanges::is_short_party))]
-fn side(alloc: Global, id: &[u8]) -> Result<Side, NoMemory>
-    ensures { IfOk result (λ side. IsTrue (is_short_side side.parties side.role)) }
+fn side(rt: &(impl Abort + AllocGlobal), id: &[u8]) -> Side
+    ensures { IsTrue (is_short_side result.parties result.role) }
 {
-    let role = short(alloc, b"r")?;
     let party = Party {
-        id: short(alloc, id)?,
+        id: short(rt, id),
         kind: None,
     };
-    let parties = Seq::of(vec![in alloc; party]?);
-    Ok(Side { parties, role })
+    Side {
+        parties: Seq::of(vec![in rt.alloc(); party].expect(rt, "memory")),
+        role: short(rt, b"r"),
+    }
 }
 
 /// A push, or a pull from the channel `c`.
 #[tactic(auto, unfolding(as4_values::specs::ModeRanges::is_mode_route, as4_values::specs::ModeRanges::may_collect))]
-fn route(alloc: Global, is_pulled: bool) -> Result<Route, NoMemory>
-    ensures right { IfOk result (λ route. IsTrue (is_mode_route route)) }
-    ensures waits { IfOk result (λ route. IsTrue (may_collect route false)) }
+fn route(rt: &(impl Abort + AllocGlobal), is_pulled: bool) -> Route
+    ensures right { IsTrue (is_mode_route result) }
+    ensures waits { IsTrue (may_collect result false) }
 {
-    let address = short(alloc, b"http://h/p")?;
-    if !is_address(&address) {
-        return Err(NoMemory);
-    }
+    let address = short(rt, b"http://h/p");
+    assert!(rt; is_address(&address));
     if is_pulled {
-        let mpc = short(alloc, b"c")?;
-        Ok(Route::Pull { mpc, address })
+        Route::Pull {
+            mpc: short(rt, b"c"),
+            address,
+        }
     } else {
-        Ok(Route::Push { address })
+        Route::Push { address }
     }
 }
 
 #[tactic(auto, unfolding(as4_values::specs::ModeRanges::is_short_service, as4_values::specs::ModeRanges::is_mode_agreement))]
-fn mode(alloc: Global, is_pulled: bool) -> Result<Mode, NoMemory> {
-    let name = name(alloc)?;
-    let (from, to) = (side(alloc, b"a")?, side(alloc, b"b")?);
-    let (value, action) = (short(alloc, b"v")?, short(alloc, b"x")?);
-    let route = route(alloc, is_pulled)?;
-    Ok(Mode {
-        name,
-        from,
-        to,
-        service: Service { value, kind: None },
-        action,
+fn mode(rt: &(impl Abort + AllocGlobal), is_pulled: bool) -> Mode {
+    Mode {
+        name: name(rt),
+        from: side(rt, b"a"),
+        to: side(rt, b"b"),
+        service: Service {
+            value: short(rt, b"v"),
+            kind: None,
+        },
+        action: short(rt, b"x"),
         agreement: None,
-        route,
+        route: route(rt, is_pulled),
         retries: 3,
         period: 1000,
         collect: false,
-    })
+    }
+}
+
+fn octets(rt: &(impl Abort + AllocGlobal), bytes: &[u8]) -> Octets {
+    Octets::of(Vec::from_slice(rt.alloc(), bytes).expect(rt, "memory"))
 }
 
 /// So many loads of three bytes with this media text.
-fn loads(alloc: Global, count: usize, media: &[u8]) -> Result<Seq<Load>, NoMemory> {
-    let mut loads = Vec::new(alloc);
+fn loads(rt: &(impl Abort + AllocGlobal), count: usize, media: &[u8]) -> Seq<Load> {
+    let mut loads = Vec::new(rt.alloc());
     for _ in 0..count {
-        loads.push(Load {
-            media: Octets::of(Vec::from_slice(alloc, media)?),
-            content: Octets::of(Vec::from_slice(alloc, b"abc")?),
-        })?;
+        let load = Load {
+            media: octets(rt, media),
+            content: octets(rt, b"abc"),
+        };
+        loads.push(load).expect(rt, "memory");
     }
-    Ok(Seq::of(loads))
+    Seq::of(loads)
+}
+
+/// Whether so many loads with this media text are too large.
+fn too_large(rt: &(impl Abort + AllocGlobal), count: usize, media: &[u8]) -> bool {
+    let loads = loads(rt, count, media);
+    let are_too_large = are_too_large(loads.items());
+    drop(loads);
+    are_too_large
 }
 
 /// The first submission, of so many loads, at the moment 1 by the end's clock and 2 by the event's.
-fn made(alloc: Global, is_pulled: bool, count: usize) -> Result<Submission, NoMemory> {
-    let mode = mode(alloc, is_pulled)?;
-    let loads = loads(alloc, count, b"t/x")?;
-    if are_too_large(loads.items()) {
-        return Err(NoMemory);
-    }
+fn made(rt: &(impl Abort + AllocGlobal), is_pulled: bool, count: usize) -> Submission {
+    let mode = mode(rt, is_pulled);
+    let loads = loads(rt, count, b"t/x");
+    assert!(rt; !are_too_large(loads.items()));
     let intake = Intake {
         number: 0,
         now: 1,
         stamp: 2,
         nonce: 0,
     };
-    submission(alloc, &mode, intake, &None, &loads)
+    let made = submission(rt.alloc(), &mode, intake, &None, &loads).expect(rt, "memory");
+    drop(mode);
+    drop(loads);
+    made
 }
 
 /// The bytes of a text, and none where there is no text.
@@ -120,8 +131,8 @@ fn bytes(text: &Option<Text>) -> &[u8] {
 }
 
 #[test]
-fn nothing_is_pushed(rt: HostRuntime) -> Result<(), Fail> {
-    let made = made(rt.alloc(), false, 0)?;
+fn nothing_is_pushed(rt: HostRuntime) {
+    let made = made(&rt, false, 0);
     assert_eq!(rt; made.header.id.bytes(), ID);
     assert_eq!(rt; made.moment, 1);
     assert_eq!(rt;
@@ -131,45 +142,47 @@ fn nothing_is_pushed(rt: HostRuntime) -> Result<(), Fail> {
     assert!(rt; made.header.mpc.is_none());
     assert!(rt; made.header.parts.items().is_empty());
     assert!(rt; made.payloads.items().is_empty());
-    Ok(())
+    drop(made);
+}
+
+/// Whether a payload of the media text `t/x` has this Content-ID, and the part info names it.
+fn are_named(part: &PartInfo, payload: &Payload, cid: &[u8]) -> bool {
+    bytes(&part.href).strip_prefix(b"cid:".as_slice()) == Some(cid)
+        && payload.cid.bytes() == cid
+        && payload.media.bytes() == b"t/x".as_slice()
 }
 
 #[test]
-fn two_payloads_wait_in_the_channel(rt: HostRuntime) -> Result<(), Fail> {
+fn two_payloads_wait_in_the_channel(rt: HostRuntime) {
     let cids = [
         b"1.0.00000000-0000-0000-0000-000000000000@as4".as_slice(),
         b"2.0.00000000-0000-0000-0000-000000000000@as4".as_slice(),
     ];
-    let made = made(rt.alloc(), true, 2)?;
+    let made = made(&rt, true, 2);
     assert_eq!(rt; bytes(&made.header.mpc), b"c".as_slice());
     let (parts, payloads) = (made.header.parts.items(), made.payloads.items());
     assert_eq!(rt; parts.len(), 2);
     assert_eq!(rt; payloads.len(), 2);
     for at in 0..2 {
-        let href = bytes(&parts[at].href);
-        assert_eq!(rt; href.strip_prefix(b"cid:".as_slice()), Some(cids[at]));
-        assert_eq!(rt; payloads[at].cid.bytes(), cids[at]);
-        assert_eq!(rt; payloads[at].media.bytes(), b"t/x".as_slice());
+        assert!(rt; are_named(&parts[at], &payloads[at], cids[at]), "{at}");
     }
-    Ok(())
+    drop(made);
 }
 
 #[test]
-fn media_texts_are_one_line_of_1024_bytes(rt: HostRuntime) -> Result<(), Fail> {
-    let mut text = Vec::from_slice(rt.alloc(), b"t/x")?;
-    text.resize(1024, b'x')?;
-    assert!(rt; !are_too_large(loads(rt.alloc(), 1, &text)?.items()));
-    text.resize(1025, b'x')?;
-    assert!(rt; are_too_large(loads(rt.alloc(), 1, &text)?.items()));
-    assert!(rt; are_too_large(loads(rt.alloc(), 1, b"t/\nx")?.items()));
-    assert!(rt; are_too_large(loads(rt.alloc(), 1, b"t/x ")?.items()));
-    assert!(rt; !are_too_large(loads(rt.alloc(), 1, b"")?.items()));
-    Ok(())
+fn media_texts_are_one_line_of_1024_bytes(rt: HostRuntime) {
+    let mut text = Vec::from_slice(rt.alloc(), b"t/x").expect(&rt, "memory");
+    text.resize(1024, b'x').expect(&rt, "memory");
+    assert!(rt; !too_large(&rt, 1, &text));
+    text.resize(1025, b'x').expect(&rt, "memory");
+    assert!(rt; too_large(&rt, 1, &text));
+    assert!(rt; too_large(&rt, 1, b"t/\nx"));
+    assert!(rt; too_large(&rt, 1, b"t/x "));
+    assert!(rt; !too_large(&rt, 1, b""));
 }
 
 #[test]
-fn there_are_64_loads(rt: HostRuntime) -> Result<(), Fail> {
-    assert!(rt; !are_too_large(loads(rt.alloc(), 64, b"")?.items()));
-    assert!(rt; are_too_large(loads(rt.alloc(), 65, b"")?.items()));
-    Ok(())
+fn there_are_64_loads(rt: HostRuntime) {
+    assert!(rt; !too_large(&rt, 64, b""));
+    assert!(rt; too_large(&rt, 65, b""));
 }
