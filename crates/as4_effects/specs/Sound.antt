@@ -9,9 +9,10 @@ use Rattle.as4_values.specs.declared.route.Route.{Route}
 use Rattle.as4_values.specs.declared.route.Route.TheVariants.{Push, Pull}
 use Rattle.as4_effects.specs.Bodies.{number_body, list_body, header_body, payload_body, route_body}
 
--- how many bytes an effect may have, the byte that says which it is with them
+-- how many bytes an effect may have, the byte that says which it is with them: a body of it alone, which begins with a
+-- count of two bytes, has at most 536,870,912
 abbrev pub effect_limit : ℕ
-effect_limit = 536870912
+effect_limit = 536870910
 
 -- the value of a hexadecimal digit in small letters
 abbrev pub digit_of : ℕ → ℕ

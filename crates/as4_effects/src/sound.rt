@@ -7,8 +7,8 @@ use crate::measured::Measured;
 use as4_values::{MessageId, NoMemory, Payload, Route, Seq, UserHeader, is_address};
 use std::alloc::Global;
 
-/// How many bytes an effect has at most.
-const MAX_EFFECT: u64 = 536_870_912;
+/// How many bytes an effect has at most: two less than the body of one alone, which begins with their count.
+const MAX_EFFECT: u64 = 536_870_910;
 
 /// How many bytes the identifier of a submission has behind its number.
 const BEHIND_NUMBER: usize = 41;

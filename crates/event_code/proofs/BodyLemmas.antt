@@ -18,10 +18,10 @@ fits_within body fits = grind (arith, nat_tests)
 
 -- what fits is counted exactly
 pub counted_exactly : (len : ℕ) (body : List ℕ) → len ≡ grown 0 body → IsTrue (fits_an_effect body) → len ≡ length body
-counted_exactly len body e fits = let h : length body ≤ 536870912 = fits_within body fits in e ∙ grown_bytes 0 body ∙ omega arith
+counted_exactly len body e fits = let h : length body ≤ 536870910 = fits_within body fits in e ∙ grown_bytes 0 body ∙ omega arith
 
 pub counted_within : (len : ℕ) (body : List ℕ) → len ≡ grown 0 body → IsTrue (fits_an_effect body) → len ≤ effect_limit
-counted_within len body e fits = let h : length body ≤ 536870912 = fits_within body fits in rw (counted_exactly len body e fits) h
+counted_within len body e fits = let h : length body ≤ 536870910 = fits_within body fits in rw (counted_exactly len body e fits) h
 
 pub refused_length : (number : ℕ) (code : List ℕ) → length ((6 ∷ number_body 8 number) ++ text_body code) ≡ 13 + length code
 unfolding text_body

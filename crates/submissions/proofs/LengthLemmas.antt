@@ -96,6 +96,6 @@ pub submission_fits : (number retries period moment : ℕ) (h : UserHeader) (pay
     → IsTrue (fits_an_effect (submitted_body number h payloads r retries period moment))
 unfolding fits_an_effect
 submission_fits number retries period moment h payloads loads r short same few limited routed =
-    let len : length (submitted_body number h payloads r retries period moment) ≤ 536870912 =
+    let len : length (submitted_body number h payloads r retries period moment) ≤ 536870910 =
     simp (length-append, number_length) (omega (arith, payload_lengths payloads loads same, route_length r routed)) in
     grind (arith, nat_tests)

@@ -7,5 +7,5 @@ use Rattle.event_code.proofs.body.body_len.Given as goal
 abbrev pub invariant-loop-effect : goal.invariant-loop-effect
 invariant-loop-effect l = record {
   counted : l.len ≡ 2 + length (flat_map effect_body (take l.effect-index l.effect-items));
-  limited : l.len ≤ 2 + 536870912 * l.effect-index;
+  limited : l.len ≤ 2 + 536870910 * l.effect-index;
 }
