@@ -15,4 +15,4 @@ pub use markup::{
 };
 pub use tree::{Attribute, Element};
 pub use writable::{MAX_DEPTH, is_writable};
-pub use write::write_tree;
+pub use write::{EBMS, SOAP, write_tree};

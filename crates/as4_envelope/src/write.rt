@@ -11,10 +11,10 @@ use as4_values::{NoMemory, Octets};
 use std::alloc::Global;
 
 /// The namespace of SOAP 1.2.
-pub(crate) const SOAP: &[u8] = b"http://www.w3.org/2003/05/soap-envelope";
+pub const SOAP: &[u8] = b"http://www.w3.org/2003/05/soap-envelope";
 
 /// The namespace of ebMS 3.0.
-pub(crate) const EBMS: &[u8] = b"http://docs.oasis-open.org/ebxml-msg/ebms/v3.0/ns/core/200704/";
+pub const EBMS: &[u8] = b"http://docs.oasis-open.org/ebxml-msg/ebms/v3.0/ns/core/200704/";
 
 /// The one text of a tree, in UTF-8: the outermost element declares the prefixes `S` and `eb`, whatever its name.
 pub fn write_tree(alloc: Global, tree: &Element) -> Result<Octets, NoMemory>
