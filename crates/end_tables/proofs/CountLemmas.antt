@@ -1,5 +1,5 @@
 -- Counts over the submissions, number by number.
-use Rattle.std.proofs.Common.{◌≡◌, ℕ, ◌+◌, ◌<◌, ◌≤◌, List, [], ◌∷◌, Bool, true, false, cond, Option, Some, None, option_map, length, take, count_by, get_or, refl, ap, sym, ◌∙◌, arith, zero, suc, add-one, add-zero, fold}
+use Rattle.std.proofs.Common.{◌≡◌, ℕ, ◌+◌, ◌<◌, List, [], ◌∷◌, Bool, true, false, cond, Option, Some, None, option_map, length, take, count_by, refl, ap, sym, ◌∙◌, arith, zero, suc, add-one, add-zero, fold}
 use Rattle.std.specs.List.{slice_get}
 use Rattle.exchange_model.specs.Apply.{is_one}
 use Rattle.exchange_model.specs.Questions.{sent_at, standing_of}
@@ -8,7 +8,8 @@ use Rattle.exchange_model.specs.declared.sent.Mark.TheVariants as mark
 use Rattle.exchange_model.specs.declared.sent.Sent.{Sent}
 use Rattle.end_tables.specs.Totals.{AreCounted, counted, is_failed_mark, is_receipted_mark, is_refused_mark}
 use Rattle.end_tables.specs.declared.totals.Totals.{Totals}
-use Rattle.end_tables.proofs.NumberLemmas.{StandAtNumbers, numbered, place}
+use Rattle.end_tables.specs.Numbered.{AreNumberedFrom}
+use Rattle.outbox.proofs.NumberedLemmas.{place}
 
 next_from : (p : Sent → Bool) (a k : ℕ) (sent : List Sent) → k < length sent
     → fold (λ n s. n + cond (p s) 1 0) a (take (suc k) sent) ≡ fold (λ n s. n + cond (p s) 1 0) a (take k sent) + cond (is_one p (slice_get sent k)) 1 0
@@ -20,10 +21,10 @@ next_place : (p : Sent → Bool) (k : ℕ) (sent : List Sent) → k < length sen
 next_place p k sent l = next_from p 0 k sent l
 
 -- one number more
-pub next_count : (p : Sent → Bool) (k : ℕ) (sent : List Sent) → StandAtNumbers sent → k < length sent
+pub next_count : (p : Sent → Bool) (k : ℕ) (sent : List Sent) → AreNumberedFrom 0 sent → k < length sent
     → count_by p (take (k + 1) sent) ≡ count_by p (take k sent) + cond (is_one p (sent_at k sent)) 1 0
 next_count p k sent stand l =
-    rw add-one (next_place p k sent l ∙ ap (λ o. count_by p (take k sent) + cond (is_one p o) 1 0) (sym (place k sent (numbered sent stand))))
+    rw add-one (next_place p k sent l ∙ ap (λ o. count_by p (take k sent) + cond (is_one p o) 1 0) (sym (place k sent stand)))
 
 -- what one more that stands so changes
 abbrev IsOneMore : Totals → Totals → Option Sent → Type 0
@@ -45,7 +46,7 @@ one_more t None = (omega arith, omega arith, omega arith, refl, refl)
 one_more t (Some s) = one_mark t s s.mark refl
 
 -- the totals with the submission of the next number
-pub next_totals : (k : ℕ) (sent : List Sent) (t u : Totals) → StandAtNumbers sent → k < length sent → AreCounted (take k sent) t
+pub next_totals : (k : ℕ) (sent : List Sent) (t u : Totals) → AreNumberedFrom 0 sent → k < length sent → AreCounted (take k sent) t
     → u ≡ counted (option_map (λ s. standing_of s.tries s.mark) (sent_at k sent)) t
     → (u.submitted ≡ t.submitted) × AreCounted (take (k + 1) sent) u × (u.inbox ≡ t.inbox)
 next_totals k sent t u stand l h e =
@@ -62,11 +63,11 @@ next_totals k sent t u stand l h e =
     )
 
 -- the count with the submission of the next number, where it passes and where it doesn't
-pub next_passes : (p : Sent → Bool) (k : ℕ) (sent : List Sent) (n : ℕ) → StandAtNumbers sent → k < length sent → n ≡ count_by p (take k sent)
+pub next_passes : (p : Sent → Bool) (k : ℕ) (sent : List Sent) (n : ℕ) → AreNumberedFrom 0 sent → k < length sent → n ≡ count_by p (take k sent)
     → is_one p (sent_at k sent) ≡ true → n + 1 ≡ count_by p (take (k + 1) sent)
 next_passes p k sent n stand l e b = ap (λ m. m + 1) e ∙ ap (λ c. count_by p (take k sent) + cond c 1 0) (sym b) ∙ sym (next_count p k sent stand l)
 
-pub next_fails : (p : Sent → Bool) (k : ℕ) (sent : List Sent) (n : ℕ) → StandAtNumbers sent → k < length sent → n ≡ count_by p (take k sent)
+pub next_fails : (p : Sent → Bool) (k : ℕ) (sent : List Sent) (n : ℕ) → AreNumberedFrom 0 sent → k < length sent → n ≡ count_by p (take k sent)
     → is_one p (sent_at k sent) ≡ false → n ≡ count_by p (take (k + 1) sent)
 next_fails p k sent n stand l e b =
     e ∙ sym (add-zero (count_by p (take k sent))) ∙ ap (λ c. count_by p (take k sent) + cond c 1 0) (sym b) ∙ sym (next_count p k sent stand l)

@@ -1,5 +1,5 @@
 -- The head of a queue is the head among what waits.
-use Rattle.std.proofs.Common.{◌≡◌, ℕ, List, [], ◌∷◌, Bool, true, false, cond, ◌&&◌, nat_le, nat_lt, Option, Some, None, option_map, map, refl, ap, sym, ◌∙◌}
+use Rattle.std.proofs.Common.{◌≡◌, ℕ, List, [], ◌∷◌, Bool, true, false, cond, ◌&&◌, nat_le, nat_lt, Option, Some, None, option_map, map, refl, ap, ◌∙◌}
 use Rattle.std.specs.List.{filter}
 use Rattle.std.proofs.lemmas.List.Elements.{filter_agree}
 use Rattle.as4_effects.specs.declared.queue.Queue.{Queue}
@@ -7,7 +7,7 @@ use Rattle.channels.specs.Queues.{head_in}
 use Rattle.channels.specs.declared.waiting.Waiting.{Waiting}
 use Rattle.exchange_model.specs.End.{End}
 use Rattle.exchange_model.specs.Least.{first_least, lesser}
-use Rattle.exchange_model.specs.Questions.{due, head_of, is_in, is_ready, is_same_queue, is_waiting, queue_of}
+use Rattle.exchange_model.specs.Questions.{due, head_of, is_in, is_ready, is_same_queue, is_waiting}
 use Rattle.exchange_model.specs.declared.sent.Sent.{Sent}
 use Rattle.end_tables.specs.Waiting.{waiting_in, waiting_of}
 

@@ -1,19 +1,20 @@
 -- The number of a submission is its place.
-use Rattle.std.proofs.Common.{◌≡◌, ℕ, zero, suc, ◌+◌, ◌<◌, ◌≤◌, List, [], ◌∷◌, ◌++◌, Bool, IsTrue, true, false, cond, ◌&&◌, eqb, nat_lt, Option, Some, None, option_map, length, refl, ap, sym, ◌∙◌, arith, inl, inr, ◌⊎◌, add-suc, add-zero, subst}
+use Rattle.std.proofs.Common.{◌≡◌, ℕ, zero, suc, ◌+◌, ◌<◌, ◌≤◌, List, [], ◌∷◌, Bool, IsTrue, true, false, cond, ◌&&◌, eqb, nat_lt, Option, Some, None, option_map, length, refl, ap, sym, ◌∙◌, arith, inl, inr, ◌⊎◌}
 use Rattle.std.specs.Option.{IfSome}
 use Rattle.std.specs.Str.{bytes_eq}
 use Rattle.std.proofs.lemmas.Option.{IfSome_then, none-some, same_Some, slice_get_past}
 use Rattle.as4_effects.specs.declared.queue.Queue.{Queue}
 use Rattle.std.specs.List.{filter, find, slice_get}
-use Rattle.std.proofs.lemmas.Bool.{eq-eqb, ne_eqb, eqb-true, cond-true, cond-false, cases_eq}
+use Rattle.std.proofs.lemmas.Bool.{eq-eqb, ne_eqb, cond-true, cond-false, cases_eq}
 use Rattle.exchange_model.specs.Apply.{is_one}
 use Rattle.exchange_model.specs.End.{End}
 use Rattle.exchange_model.specs.Least.{first_least, lesser}
 use Rattle.exchange_model.specs.Questions.{due, head_of, is_in, is_ready, sent_at, sent_of}
 use Rattle.exchange_model.specs.declared.sent.Sent.{Sent}
 use Rattle.end_tables.specs.Numbered.{AreNumberedFrom}
+use Rattle.outbox.proofs.NumberedLemmas.{place}
 
--- what an outbox says of each place
+-- what `submitted` says of each place
 abbrev pub StandAtNumbers : List Sent → Type 0
 StandAtNumbers sent = (k : ℕ) (s : Sent) → slice_get sent k ≡ Some s → s.submission.number ≡ k
 
@@ -25,26 +26,6 @@ numbered_from n (s ∷ sent) h =
 
 pub numbered : (sent : List Sent) → StandAtNumbers sent → AreNumberedFrom 0 sent
 numbered sent h = numbered_from 0 sent (λ k s e. h k s e ∙ omega arith)
-
--- no number is below the first
-pub number_below : (n k : ℕ) (sent : List Sent) → AreNumberedFrom n sent → k < n → sent_at k sent ≡ None
-unfolding AreNumberedFrom
-number_below n k [] h l = refl
-number_below n k (s ∷ sent) h l =
-    cond-false _ _ _ (ne_eqb s.submission.number k (λ e. omega (arith, h.0))) ∙ number_below (suc n) k sent h.1 (omega arith)
-
--- the submission at a place is the one of that number
-pub place_from : (n k : ℕ) (sent : List Sent) → AreNumberedFrom n sent → sent_at (n + k) sent ≡ slice_get sent k
-unfolding AreNumberedFrom
-place_from n k [] h = refl
-place_from n zero (s ∷ sent) h = cond-true _ _ _ (eq-eqb s.submission.number (n + zero) (h.0 ∙ omega arith))
-place_from n (suc k) (s ∷ sent) h =
-    cond-false _ _ _ (ne_eqb s.submission.number (n + suc k) (λ e. omega (arith, h.0)))
-    ∙ ap (λ m. sent_at m sent) (let e : n + suc k ≡ suc n + k = omega arith in e)
-    ∙ place_from (suc n) k sent h.1
-
-pub place : (k : ℕ) (sent : List Sent) → AreNumberedFrom 0 sent → sent_at k sent ≡ slice_get sent k
-place k sent h = ap (λ m. sent_at m sent) (let e : k ≡ 0 + k = omega arith in e) ∙ place_from 0 k sent h
 
 -- a submission of the list
 abbrev pub IsOf : {X : Type 0} → List X → X → Type 0
@@ -129,9 +110,6 @@ few_from n (s ∷ sent) h l = omega (arith, few_from (suc n) sent h.1 (omega (ar
 pub few : (sent : List Sent) → AreNumberedFrom 0 sent → length sent ≤ 1048576
 few sent h = omega (arith, few_from 0 sent h (omega arith))
 
-pub few_submitted : (sent : List Sent) → StandAtNumbers sent → length sent ≤ 1048576
-few_submitted sent h = few sent (numbered sent h)
-
 -- the one of a number has that number
 pub number_at : (k : ℕ) (sent : List Sent) (s : Sent) → sent_at k sent ≡ Some s → s.submission.number ≡ k
 number_at k [] s e = absurd (none-some s e)
@@ -150,5 +128,5 @@ pub one_is_small : (test : Sent → Bool) (k : ℕ) (sent : List Sent) → IsTru
 one_is_small test k sent h = one_of test k sent (sent_at k sent) refl h
 
 -- where there is none of a place, there is none of that number
-pub none_behind : (sent : List Sent) → StandAtNumbers sent → sent_at (length sent) sent ≡ None
-none_behind sent h = place (length sent) sent (numbered sent h) ∙ slice_get_past sent (length sent) (omega arith)
+pub none_behind : (sent : List Sent) → AreNumberedFrom 0 sent → sent_at (length sent) sent ≡ None
+none_behind sent h = place (length sent) sent h ∙ slice_get_past sent (length sent) (omega arith)

@@ -1,6 +1,5 @@
 -- What is put into a list of waiting submissions, and what is taken out.
-use Rattle.std.proofs.Common.{◌≡◌, ℕ, ◌<◌, ◌≤◌, List, [], ◌∷◌, true, false, cond, eqb, not, Option, Some, None, refl, ap, ◌∙◌, arith, sym, inl, inr}
-use Rattle.std.specs.List.{filter, find}
+use Rattle.std.proofs.Common.{◌≡◌, ℕ, ◌<◌, ◌≤◌, List, [], ◌∷◌, eqb, not, Some, None, refl, ap, ◌∙◌, arith, sym, inl, inr}
 use Rattle.std.proofs.lemmas.Bool.{eq-eqb, ne_eqb, cond-true, cond-false, lt-ltb, le-ltb, cases_eq}
 use Rattle.std.proofs.lemmas.Option.{none-some}
 use Rattle.channels.specs.Queues.{inserted, waiting_at, without}

@@ -1,7 +1,7 @@
 -- What waits keeps step with what was handed in.
-use Rattle.std.proofs.Common.{◌≡◌, ℕ, List, [], ◌∷◌, ◌++◌, Bool, IsTrue, true, false, cond, eqb, Option, Some, None, option_map, map, length, ◌&&◌, nat_le, refl, ap, sym, ◌∙◌, inl, inr, rules}
+use Rattle.std.proofs.Common.{◌≡◌, ℕ, List, [], ◌∷◌, ◌++◌, Bool, IsTrue, true, false, eqb, Option, Some, None, option_map, map, length, ◌&&◌, nat_le, refl, ap, sym, ◌∙◌, inl, inr}
 use Rattle.std.proofs.lemmas.Bool.{cond-true, cond-false, cases_eq, eq-eqb, ne_eqb}
-use Rattle.std.proofs.lemmas.Option.{none-some, same_Some}
+use Rattle.std.proofs.lemmas.Option.{same_Some}
 use Rattle.as4_effects.specs.declared.queue.Queue.{Queue}
 use Rattle.as4_effects.specs.declared.submission.Submission.{Submission}
 use Rattle.channels.specs.Queues.{inserted, waiting_at, without}
@@ -11,7 +11,7 @@ use Rattle.end_tables.specs.Numbered.{AreNumberedFrom}
 use Rattle.end_tables.specs.Rooms.{queue_at, queue_of_sent}
 use Rattle.end_tables.specs.Waiting.{waiting_in, waiting_of}
 use Rattle.end_tables.proofs.KeptLemmas.{tried_queue}
-use Rattle.end_tables.proofs.NumberLemmas.{StandAtNumbers, number_at, numbered, none_behind}
+use Rattle.end_tables.proofs.NumberLemmas.{number_at, none_behind}
 use Rattle.end_tables.proofs.QueueLemmas.{at_without, without_none}
 use Rattle.end_tables.proofs.WaitingLemmas.{changed_with, failed_waits, submitted_waits, waited, waiting_there}
 use Rattle.exchange_model.specs.Apply.{changed, failed_if_spent, is_one, marked, tried, unsent}
@@ -20,15 +20,15 @@ use Rattle.exchange_model.specs.declared.sent.Mark.{Mark}
 use Rattle.exchange_model.specs.declared.sent.Sent.{Sent}
 
 -- one that isn't there yet doesn't wait
-pub new_waits : (k : ℕ) (sent : List Sent) (waiting : List Waiting) → waiting ≡ waiting_in sent → StandAtNumbers sent → k ≡ length sent
+pub new_waits : (k : ℕ) (sent : List Sent) (waiting : List Waiting) → waiting ≡ waiting_in sent → AreNumberedFrom 0 sent → k ≡ length sent
     → waiting_at k waiting ≡ None
 new_waits k sent waiting step stand e =
-    ap (waiting_at k) step ∙ waiting_there k sent (numbered sent stand)
+    ap (waiting_at k) step ∙ waiting_there k sent stand
     ∙ ap (λ n. waited (sent_at n sent)) e ∙ ap waited (none_behind sent stand)
 
 -- one that is handed in waits
 pub submitted_step : (submission : Submission) (queue : Queue) (sent new : List Sent) (waiting now : List Waiting)
-    → waiting ≡ waiting_in sent → StandAtNumbers sent → submission.number ≡ length sent → queue ≡ queue_of submission.route
+    → waiting ≡ waiting_in sent → AreNumberedFrom 0 sent → submission.number ≡ length sent → queue ≡ queue_of submission.route
     → new ≡ sent ++ unsent submission ∷ []
     → now ≡ inserted (record { queue = queue; due = submission.moment; number = submission.number }) waiting
     → now ≡ waiting_in new
@@ -36,7 +36,7 @@ submitted_step submission queue sent new waiting now step stand e q changes puts
     puts
     ∙ ap (λ (x : Queue). inserted (record { queue = x; due = submission.moment; number = submission.number }) waiting) q
     ∙ ap (inserted (waiting_of (unsent submission))) step
-    ∙ sym (submitted_waits sent submission (numbered sent stand) e)
+    ∙ sym (submitted_waits sent submission stand e)
     ∙ ap waiting_in (sym changes)
 
 -- none that is given up waited
@@ -55,11 +55,11 @@ there_of k None queue d number w e q = cc
 there_of k (Some s) queue d number w e q =
     cond-true (is_waiting s) (Some (waiting_of s)) None w ∙ ap Some (is_one_waiting s queue d k q (same_Some d (due s) e) (number s refl))
 
-pub waits_there : (k : ℕ) (sent : List Sent) (waiting : List Waiting) (queue : Queue) (d : ℕ) → waiting ≡ waiting_in sent → StandAtNumbers sent
+pub waits_there : (k : ℕ) (sent : List Sent) (waiting : List Waiting) (queue : Queue) (d : ℕ) → waiting ≡ waiting_in sent → AreNumberedFrom 0 sent
     → is_one is_waiting (sent_at k sent) ≡ true → Some d ≡ option_map due (sent_at k sent) → queue ≡ queue_at k sent
     → waiting_at k waiting ≡ Some (record { queue = queue; due = d; number = k })
 waits_there k sent waiting queue d step stand w e q =
-    ap (waiting_at k) step ∙ waiting_there k sent (numbered sent stand)
+    ap (waiting_at k) step ∙ waiting_there k sent stand
     ∙ there_of k (sent_at k sent) queue d (λ s at. number_at k sent s at) w e q
 
 not_waited : (o : Option Sent) → is_one is_waiting o ≡ false → waited o ≡ None
@@ -67,10 +67,10 @@ not_waited None w = refl
 not_waited (Some s) w = cond-false (is_waiting s) (Some (waiting_of s)) None w
 
 -- where one doesn't wait, nothing is taken out
-pub waits_nowhere : (k : ℕ) (sent : List Sent) (waiting : List Waiting) → waiting ≡ waiting_in sent → StandAtNumbers sent
+pub waits_nowhere : (k : ℕ) (sent : List Sent) (waiting : List Waiting) → waiting ≡ waiting_in sent → AreNumberedFrom 0 sent
     → is_one is_waiting (sent_at k sent) ≡ false → waiting ≡ without k waiting
 waits_nowhere k sent waiting step stand w =
-    sym (without_none k waiting (ap (waiting_at k) step ∙ waiting_there k sent (numbered sent stand) ∙ not_waited (sent_at k sent) w))
+    sym (without_none k waiting (ap (waiting_at k) step ∙ waiting_there k sent stand ∙ not_waited (sent_at k sent) w))
 
 -- one that is put back waits again
 again_of : (k : ℕ) (o : Option Sent) (queue : Queue) (d : ℕ) (waiting : List Waiting) → ((s : Sent) → o ≡ Some s → s.submission.number ≡ k)
@@ -113,7 +113,7 @@ is_there_if test None h = h
 is_there_if test (Some s) h = refl
 
 -- one that was sent and is put back keeps step
-pub tried_step : (k moment : ℕ) (sent new : List Sent) (waiting out now : List Waiting) → waiting ≡ waiting_in sent → StandAtNumbers sent
+pub tried_step : (k moment : ℕ) (sent new : List Sent) (waiting out now : List Waiting) → waiting ≡ waiting_in sent → AreNumberedFrom 0 sent
     → IsTrue (is_one is_waiting (sent_at k sent)) → out ≡ without k waiting → new ≡ changed k (tried moment) sent → now ≡ with_again (sent_at k new) out
     → now ≡ waiting_in new
 tried_step k moment sent new waiting out now step stand w takes changes puts =
@@ -121,7 +121,7 @@ tried_step k moment sent new waiting out now step stand w takes changes puts =
     ∙ ap (λ xs. with_again (sent_at k xs) out) changes
     ∙ ap (λ ws. with_again (sent_at k (changed k (tried moment) sent)) ws) (takes ∙ ap (without k) step)
     ∙ ap (λ o. with_again o (without k (waiting_in sent))) (sent_at-changed k (tried moment) (λ s. refl) sent)
-    ∙ sym (changed_of k (tried moment) (λ s. refl) sent (numbered sent stand) (sent_at k sent) refl (is_there_if is_waiting (sent_at k sent) w))
+    ∙ sym (changed_of k (tried moment) (λ s. refl) sent stand (sent_at k sent) refl (is_there_if is_waiting (sent_at k sent) w))
     ∙ ap waiting_in (sym changes)
 
 marked_gone : (m : Mark) (o : Option Sent) (waiting : List Waiting) → is_pending_mark m ≡ false → with_again (option_map (marked m) o) waiting ≡ waiting
@@ -130,12 +130,12 @@ marked_gone m (Some s) waiting e =
     cond-false (is_waiting (marked m s)) (inserted (waiting_of (marked m s)) waiting) waiting (ap (λ b. b && nat_le s.tries s.submission.retries) e)
 
 -- one that is settled waits no more
-pub settled_step : (k : ℕ) (m : Mark) (sent new : List Sent) (waiting now : List Waiting) → is_pending_mark m ≡ false → waiting ≡ waiting_in sent → StandAtNumbers sent
+pub settled_step : (k : ℕ) (m : Mark) (sent new : List Sent) (waiting now : List Waiting) → is_pending_mark m ≡ false → waiting ≡ waiting_in sent → AreNumberedFrom 0 sent
     → IsTrue (is_one is_pending (sent_at k sent)) → now ≡ without k waiting → new ≡ changed k (marked m) sent → now ≡ waiting_in new
 settled_step k m sent new waiting now settled step stand w takes changes =
     takes ∙ ap (without k) step
     ∙ sym (marked_gone m (sent_at k sent) (without k (waiting_in sent)) settled)
-    ∙ sym (changed_of k (marked m) (λ s. refl) sent (numbered sent stand) (sent_at k sent) refl (is_there_if is_pending (sent_at k sent) w))
+    ∙ sym (changed_of k (marked m) (λ s. refl) sent stand (sent_at k sent) refl (is_there_if is_pending (sent_at k sent) w))
     ∙ ap waiting_in (sym changes)
 
 -- what was taken out is not there

@@ -1,6 +1,6 @@
 -- What becomes of what waits where a submission changes.
-use Rattle.std.proofs.Common.{◌≡◌, ℕ, suc, ◌+◌, ◌<◌, ◌≤◌, List, [], ◌∷◌, ◌++◌, true, false, cond, eqb, ◌&&◌, nat_le, Option, Some, None, map, length, refl, ap, sym, ◌∙◌, arith, inl, inr, subst}
-use Rattle.std.proofs.lemmas.Bool.{eq-eqb, ne_eqb, eqb-true, cond-true, cond-false, cases_eq, cases_lt, cases_Bool, le-leb, lt-leb, and_parts}
+use Rattle.std.proofs.Common.{◌≡◌, ℕ, suc, ◌+◌, ◌<◌, ◌≤◌, List, [], ◌∷◌, ◌++◌, true, false, cond, eqb, Option, Some, None, map, length, refl, ap, sym, ◌∙◌, arith, inl, inr, subst}
+use Rattle.std.proofs.lemmas.Bool.{eq-eqb, ne_eqb, cond-true, cond-false, cases_eq, cases_lt, cases_Bool, le-leb}
 use Rattle.std.proofs.lemmas.Option.{none-some, same_Some}
 use Rattle.std.proofs.lemmas.Bool.Decides.{nat_tests}
 use Rattle.as4_effects.specs.declared.submission.Submission.{Submission}
@@ -13,8 +13,8 @@ use Rattle.exchange_model.specs.declared.sent.Sent.{Sent}
 use Rattle.end_tables.specs.Again.{with_again}
 use Rattle.end_tables.specs.Numbered.{AreNumberedFrom}
 use Rattle.end_tables.specs.Waiting.{waiting_in, waiting_of}
-use Rattle.end_tables.proofs.NumberLemmas.{number_below}
 use Rattle.end_tables.proofs.QueueLemmas.{AreAbove, above_at, above_inserted, above_without, inserted_after, without_other, without_same}
+use Rattle.outbox.proofs.NumberedLemmas.{changed_before, number_below}
 
 waits_first : (s : Sent) (sent : List Sent) → is_waiting s ≡ true → waiting_in (s ∷ sent) ≡ waiting_of s ∷ waiting_in sent
 unfolding waiting_in
@@ -38,14 +38,6 @@ above n k (s ∷ sent) h l =
       | inl e ↦ rw (waits_first s sent e) (omega (arith, h.0), rest)
       | inr e ↦ rw (not_first s sent e) rest
     ]
-
--- a change at a number leaves those behind it
-above_changed : (n k : ℕ) (f : Sent → Sent) (sent : List Sent) → AreNumberedFrom n sent → k < n → changed k f sent ≡ sent
-unfolding AreNumberedFrom changed
-above_changed n k f [] h l = refl
-above_changed n k f (s ∷ sent) h l =
-    ap (λ x. x ∷ changed k f sent) (cond-false _ (f s) s (ne_eqb s.submission.number k (λ e. omega (arith, h.0))))
-    ∙ ap (λ xs. s ∷ xs) (above_changed (suc n) k f sent h.1 (omega arith))
 
 changed_same : (k : ℕ) (f : Sent → Sent) (s : Sent) (sent : List Sent) → s.submission.number ≡ k → changed k f (s ∷ sent) ≡ f s ∷ changed k f sent
 unfolding changed
@@ -85,7 +77,7 @@ changed_here : (k : ℕ) (f : Sent → Sent) (x : Sent) (sent : List Sent) (s : 
     → (f s).submission.number ≡ k → waiting_in (changed k f (x ∷ sent)) ≡ with_again (Some (f s)) (without k (waiting_in (x ∷ sent)))
 changed_here k f x sent s same h is e =
     ap waiting_in (changed_same k f x sent same)
-    ∙ ap (λ xs. waiting_in (f x ∷ xs)) (above_changed (suc k) k f sent h (omega arith))
+    ∙ ap (λ xs. waiting_in (f x ∷ xs)) (changed_before (suc k) k f sent h (omega arith))
     ∙ ap (λ y. waiting_in (f y ∷ sent)) is
     ∙ with_first (f s) sent k e h
     ∙ ap (with_again (Some (f s))) (sym (rest_without k x sent same h))

@@ -1,5 +1,5 @@
 -- How many submissions stand in which way, and how many messages came.
-use Rattle.std.specs.Prelude.{◌≡◌, ℕ, ◌+◌, List, Bool, true, false, count_by, length, Option, Some, None}
+use Rattle.std.specs.Prelude.{◌≡◌, ◌+◌, List, Bool, true, false, count_by, length, Option, Some}
 use Rattle.exchange_model.specs.End.{End}
 use Rattle.exchange_model.specs.declared.sent.Mark.{Mark}
 use Rattle.exchange_model.specs.declared.sent.Mark.TheVariants as mark

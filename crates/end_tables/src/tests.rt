@@ -10,7 +10,6 @@ use as4_values::MessageId;
 use exchange_model::Standing;
 use made::{delivered, submitted};
 use std::alloc::Global;
-use std::test::Fail;
 
 /// Makes room for the effect, where it fits.
 fn ready(tables: &mut EndTables, effect: &Effect) -> Option<Queue>
@@ -27,11 +26,20 @@ fn ready(tables: &mut EndTables, effect: &Effect) -> Option<Queue>
     }
 }
 
-/// Makes the effect's change, where it fits.
+/// Makes the effect's change, where it fits. (What was made is let go by name, which is proved sooner than where its
+/// scope ends.)
 fn act(tables: &mut EndTables, effect: Effect) -> Option<()> {
-    let queue = ready(tables, &effect)?;
-    tables.apply(effect, &queue);
-    Some(())
+    match ready(tables, &effect) {
+        Some(queue) => {
+            tables.apply(effect, &queue);
+            drop(queue);
+            Some(())
+        }
+        None => {
+            drop(effect);
+            None
+        }
+    }
 }
 
 fn tick(tables: &mut EndTables, moment: u64) -> Option<()> {
@@ -44,11 +52,20 @@ fn tick(tables: &mut EndTables, moment: u64) -> Option<()> {
 /// The tables with a submission that is sent again so often, which was tried at 1,000 ms.
 fn tried_once(alloc: Global, retries: u32) -> Option<EndTables> {
     let mut tables = EndTables::new(alloc);
-    act(&mut tables, submitted(alloc, 0, retries)?)?;
-    tick(&mut tables, 1000)?;
+    match try_once(alloc, &mut tables, retries) {
+        Some(()) => Some(tables),
+        None => {
+            drop(tables);
+            None
+        }
+    }
+}
+
+fn try_once(alloc: Global, tables: &mut EndTables, retries: u32) -> Option<()> {
+    act(tables, submitted(alloc, 0, retries)?)?;
+    tick(tables, 1000)?;
     tables.head(&Queue::Push)?;
-    act(&mut tables, Effect::Tried { number: 0 })?;
-    Some(tables)
+    act(tables, Effect::Tried { number: 0 })
 }
 
 /// The head of those that are pushed at this moment.
@@ -57,51 +74,100 @@ fn head_at(tables: &mut EndTables, moment: u64) -> Option<Option<u64>> {
     Some(tables.head(&Queue::Push))
 }
 
-#[test]
-fn a_try_moves_a_submission_on(rt: HostRuntime) -> Result<(), Fail> {
-    let mut tables = tried_once(rt.alloc(), 1).ok_or("no tables")?;
-    for (moment, head) in [(60_999, None), (61_000, Some(0)), (90_000, Some(0))] {
-        assert_eq!(rt; head_at(&mut tables, moment), Some(head), "{moment}");
+/// How many rows, from the first on, name the head of those that are pushed at their moment.
+fn right_of(tables: &mut EndTables, rows: &[(u64, Option<u64>)]) -> usize {
+    for (at, (moment, head)) in rows.iter().enumerate() {
+        if head_at(tables, *moment) != Some(*head) {
+            return at;
+        }
     }
-    Ok(())
+    rows.len()
+}
+
+/// The same, where one was tried that is sent again once.
+fn right(alloc: Global, rows: &[(u64, Option<u64>)]) -> Option<usize> {
+    let mut tables = tried_once(alloc, 1)?;
+    let count = right_of(&mut tables, rows);
+    drop(tables);
+    Some(count)
 }
 
 #[test]
-fn a_receipt_takes_a_submission_out_of_its_queue(rt: HostRuntime) -> Result<(), Fail> {
-    let mut tables = tried_once(rt.alloc(), 1).ok_or("no tables")?;
-    act(&mut tables, Effect::Receipted { number: 0 }).ok_or("no receipt")?;
-    assert_eq!(rt; head_at(&mut tables, 61_000), Some(None));
-    let wanted = Totals {
+fn a_try_moves_a_submission_on(rt: HostRuntime) {
+    let rows = [(60_999, None), (61_000, Some(0)), (90_000, Some(0))];
+    assert_eq!(rt; right(rt.alloc(), &rows), Some(rows.len()));
+}
+
+/// The head and the totals once the receipt came of one that was tried.
+fn receipted(alloc: Global) -> Option<(Option<u64>, Totals)> {
+    let mut tables = tried_once(alloc, 1)?;
+    let told = receipt(&mut tables);
+    drop(tables);
+    told
+}
+
+fn receipt(tables: &mut EndTables) -> Option<(Option<u64>, Totals)> {
+    act(tables, Effect::Receipted { number: 0 })?;
+    let head = head_at(tables, 61_000)?;
+    Some((head, tables.totals()))
+}
+
+#[test]
+fn a_receipt_takes_a_submission_out_of_its_queue(rt: HostRuntime) {
+    let totals = Totals {
         submitted: 1,
         receipted: 1,
         failed: 0,
         refused: 0,
         inbox: 0,
     };
-    assert_eq!(rt; tables.totals(), wanted);
-    Ok(())
+    assert_eq!(rt; receipted(rt.alloc()), Some((None, totals)));
+}
+
+/// How many are spent at two moments, and the head and how the first stands after a tick, where one was tried that isn't
+/// sent again.
+fn given_up(alloc: Global) -> Option<(u64, u64, Option<u64>, Option<Standing>)> {
+    let mut tables = tried_once(alloc, 0)?;
+    let (early, late) = (tables.spent(60_999), tables.spent(61_000));
+    let head = head_at(&mut tables, 61_000);
+    let standing = tables.status(0);
+    drop(tables);
+    Some((early, late, head?, standing))
 }
 
 #[test]
-fn a_tick_gives_up_what_is_spent(rt: HostRuntime) -> Result<(), Fail> {
-    let mut tables = tried_once(rt.alloc(), 0).ok_or("no tables")?;
-    assert_eq!(rt; (tables.spent(60_999), tables.spent(61_000)), (0, 1));
-    assert_eq!(rt; head_at(&mut tables, 61_000), Some(None));
-    assert_eq!(rt; tables.status(0), Some(Standing::Failed));
-    Ok(())
+fn a_tick_gives_up_what_is_spent(rt: HostRuntime) {
+    let wanted = (0, 1, None, Some(Standing::Failed));
+    assert_eq!(rt; given_up(rt.alloc()), Some(wanted));
+}
+
+/// A message comes and is taken over.
+fn take_one(alloc: Global, tables: &mut EndTables) -> Option<()> {
+    act(tables, delivered(alloc)?)?;
+    act(tables, Effect::Confirmed { upto: 0 })
 }
 
 fn is_gone(tables: &EndTables) -> bool {
     matches!(tables.read(0), Held::Gone)
 }
 
+/// Whether the identifier of that message is held.
+fn holds_it(alloc: Global, tables: &EndTables) -> Option<bool> {
+    let id = MessageId::of_submission(alloc, 0, 1).ok()?;
+    Some(tables.holds(&id))
+}
+
+/// Whether a message came and was taken over, is gone, and its identifier is held.
+fn taken_over(alloc: Global) -> (Option<()>, bool, Option<bool>) {
+    let mut tables = EndTables::new(alloc);
+    let taken = take_one(alloc, &mut tables);
+    let gone = is_gone(&tables);
+    let held = holds_it(alloc, &tables);
+    drop(tables);
+    (taken, gone, held)
+}
+
 #[test]
-fn a_message_that_came_is_held_for_good(rt: HostRuntime) -> Result<(), Fail> {
-    let mut tables = EndTables::new(rt.alloc());
-    act(&mut tables, delivered(rt.alloc()).ok_or("no delivery")?).ok_or("not delivered")?;
-    act(&mut tables, Effect::Confirmed { upto: 0 }).ok_or("not confirmed")?;
-    let id = MessageId::of_submission(rt.alloc(), 0, 1)?;
-    assert!(rt; is_gone(&tables));
-    assert!(rt; tables.holds(&id));
-    Ok(())
+fn a_message_that_came_is_held_for_good(rt: HostRuntime) {
+    assert_eq!(rt; taken_over(rt.alloc()), (Some(()), true, Some(true)));
 }

@@ -3,7 +3,7 @@
 ghost use Rattle.std.specs.Prelude.{◌≡◌, ◌≤◌, IsTrue, map, count_by};
 ghost use Rattle.exchange_model.specs.Questions.{due, is_pending, is_waiting, is_spent, sent_at};
 ghost use Rattle.exchange_model.specs.Apply.{tried, marked, changed, failed_if_spent, is_one};
-ghost use Rattle.outbox.specs.Submissions.{StandFrom};
+ghost use Rattle.outbox.specs.Submissions.{Stand};
 
 use as4_values::MAX_MOMENT;
 use exchange_model::{Mark, Sent};
@@ -31,11 +31,11 @@ fn is_spent_at(sent: &Sent, moment: u64) -> bool
 
 /// The submission of this number is sent once more, at this moment.
 pub fn mark_tried(sent: &mut [Sent], number: u64, moment: u64)
-    requires stand { StandFrom 0 sent.old }
+    requires stand { Stand sent.old }
     requires waiting { IsTrue (is_one is_waiting (sent_at number sent.old)) }
     requires dated { moment ≤ MAX_MOMENT }
     ensures after { sent.new ≡ changed number (tried moment) sent.old }
-    ensures stand { StandFrom 0 sent.new }
+    ensures stand { Stand sent.new }
 {
     let one = &mut sent[number as usize];
     one.tries += 1;
@@ -44,10 +44,10 @@ pub fn mark_tried(sent: &mut [Sent], number: u64, moment: u64)
 
 /// The submission of this number is settled.
 pub fn settle(sent: &mut [Sent], number: u64, mark: Mark)
-    requires stand { StandFrom 0 sent.old }
+    requires stand { Stand sent.old }
     requires pending { IsTrue (is_one is_pending (sent_at number sent.old)) }
     ensures after { sent.new ≡ changed number (marked mark) sent.old }
-    ensures stand { StandFrom 0 sent.new }
+    ensures stand { Stand sent.new }
 {
     let one = &mut sent[number as usize];
     one.mark = mark;
@@ -55,10 +55,10 @@ pub fn settle(sent: &mut [Sent], number: u64, mark: Mark)
 
 /// Gives up each that is spent at this moment, and says how many these are.
 pub fn fail_spent(sent: &mut [Sent], moment: u64) -> u64
-    requires stand { StandFrom 0 sent.old }
+    requires stand { Stand sent.old }
     ensures count { result ≡ count_by (is_spent moment) sent.old }
     ensures after { sent.new ≡ map (failed_if_spent moment) sent.old }
-    ensures stand { StandFrom 0 sent.new }
+    ensures stand { Stand sent.new }
 {
     let mut count = 0;
     for one in sent.iter_mut() {

@@ -1,11 +1,11 @@
 //! The outbox: the submission of each number stands at that place.
 
-ghost use Rattle.std.specs.Prelude.{◌≡◌, ℕ, ◌≤◌, [], ◌∷◌, ◌++◌, IsTrue, length, map, slice_get, count_by, option_map, option_copied, IfSome, OnOk};
+ghost use Rattle.std.specs.Prelude.{◌≡◌, ◌≤◌, [], ◌∷◌, ◌++◌, IsTrue, length, map, count_by, option_map, option_copied, IfSome, OnOk};
 ghost use Rattle.std.specs.Option.{option_and_then};
 ghost use Rattle.exchange_model.specs.Questions.{due, is_pending, is_waiting, is_spent, sent_at, sent_of, standing_of};
 ghost use Rattle.exchange_model.specs.Apply.{unsent, tried, marked, changed, failed_if_spent, is_one};
-ghost use Rattle.exchange_model.specs.declared.sent.Sent.{Sent};
-ghost use Rattle.outbox.specs.Submissions.{StandFrom, code_of};
+ghost use Rattle.outbox.specs.Numbered.{AreNumberedFrom};
+ghost use Rattle.outbox.specs.Submissions.{code_of};
 
 use crate::marking;
 use as4_effects::Submission;
@@ -25,17 +25,17 @@ pub struct Outbox {
 impl Model for Outbox {
     ghost use Rattle.std.specs.Prelude.{◌<◌, IsSome};
     ghost use Rattle.std.specs.Vec.{vec_len, vec_capacity};
-    ghost use Rattle.outbox.specs.Submissions.{Submissions, StandFrom};
+    ghost use Rattle.outbox.specs.Submissions.{Stand, Submissions};
 
     ghost Value = { Submissions };
 
     ghost view = { λ o. record { sent = o.sent.items; room = o.room } };
 
-    ghost invariant = { λ o. StandFrom 0 o.sent.items × (IsSome o.room → vec_len o.sent < vec_capacity o.sent) };
+    ghost invariant = { λ o. Stand o.sent.items × (IsSome o.room → vec_len o.sent < vec_capacity o.sent) };
 }
 
 impl Outbox {
-    #[tactic(auto, unfolding(crate::specs::Submissions::StandFrom))]
+    #[tactic(auto, using(crate::proofs::StandLemmas::none_stand))]
     pub fn new(alloc: Global) -> Outbox
         ensures { result ≡ record { sent = []; room = None } }
     {
@@ -56,10 +56,9 @@ impl Outbox {
         Ok(())
     }
 
-    #[tactic(auto, using(crate::proofs::StandLemmas::numbered_at))]
     pub fn len(&self) -> u64
         ensures value { result ≡ length self.now.sent }
-        ensures numbered { (k : ℕ) (s : Sent) → slice_get self.now.sent k ≡ Some s → s.submission.number ≡ k }
+        ensures numbered { AreNumberedFrom 0 self.now.sent }
     {
         self.sent.len() as u64
     }
@@ -116,7 +115,6 @@ impl Outbox {
     }
 
     /// Adds a submission; takes no memory.
-    #[tactic(auto, using(crate::proofs::StandLemmas::push_stands))]
     pub fn commit_submit(&mut self, submission: Submission)
         requires room { self.old.room ≡ Some submission.header.id }
         requires next { submission.number ≡ length self.old.sent }

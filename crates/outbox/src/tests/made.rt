@@ -1,12 +1,12 @@
 //! Submissions made by hand.
 
-ghost use Rattle.std.specs.Prelude.{ℕ, IsTrue, IfSome};
+ghost use Rattle.std.specs.Prelude.{ℕ, ◌<◌, ◌≤◌, IsTrue, IfSome};
 ghost use Rattle.as4_effects.specs.Pairing.{pair};
 ghost use Rattle.as4_effects.specs.Sound.{is_id_of, is_route, fits_an_effect, submitted_body};
 
 use as4_effects::{Submission, is_id_of, is_route, pairs, submission_fits};
 use as4_values::{
-    MessageId, Party, Payload, Route, Seq, Service, Side, Text, UserHeader, read_stamp,
+    MessageId, Party, Payload, Route, Seq, Service, Side, StampText, Text, UserHeader, read_stamp,
 };
 use std::alloc::Global;
 
@@ -15,37 +15,52 @@ fn text(alloc: Global, word: &[u8]) -> Option<Text> {
 }
 
 fn side(alloc: Global, id: &[u8]) -> Option<Side> {
+    let role = text(alloc, b"r")?;
     let party = Party {
         id: text(alloc, id)?,
         kind: None,
     };
-    Some(Side {
-        parties: Seq::of(vec![in alloc; party].ok()?),
-        role: text(alloc, b"r")?,
-    })
+    let parties = Seq::of(vec![in alloc; party].ok()?);
+    Some(Side { parties, role })
 }
 
-fn header(alloc: Global, number: u64) -> Option<UserHeader> {
+/// The stamp, the identifier, the service and the action of the message of this number.
+fn words(alloc: Global, number: u64) -> Option<(StampText, MessageId, Text, Text)> {
     let stamp = read_stamp(alloc, b"2025-01-02T03:04:05Z").ok()?;
     let id = MessageId::of_submission(alloc, number, 1).ok()?;
-    let from = side(alloc, b"a")?;
-    let to = side(alloc, b"b")?;
-    let value = text(alloc, b"s")?;
+    let service = text(alloc, b"s")?;
     let action = text(alloc, b"act")?;
-    Some(UserHeader {
-        mpc: None,
-        stamp,
-        id,
-        ref_to: None,
-        from,
-        to,
-        agreement: None,
-        service: Service { value, kind: None },
-        action,
-        conversation: None,
-        properties: Seq::of(Vec::new(alloc)),
-        parts: Seq::of(Vec::new(alloc)),
-    })
+    Some((stamp, id, service, action))
+}
+
+/// What was made is let go by name, which is proved sooner than where its scope ends.
+fn header(alloc: Global, number: u64) -> Option<UserHeader> {
+    let (stamp, id, value, action) = words(alloc, number)?;
+    match (side(alloc, b"a"), side(alloc, b"b")) {
+        (Some(from), Some(to)) => Some(UserHeader {
+            mpc: None,
+            stamp,
+            id,
+            ref_to: None,
+            from,
+            to,
+            agreement: None,
+            service: Service { value, kind: None },
+            action,
+            conversation: None,
+            properties: Seq::of(Vec::new(alloc)),
+            parts: Seq::of(Vec::new(alloc)),
+        }),
+        (from, to) => {
+            drop(from);
+            drop(to);
+            drop(stamp);
+            drop(id);
+            drop(value);
+            drop(action);
+            None
+        }
+    }
 }
 
 /// Whether a submission of these is a submission.
@@ -67,24 +82,46 @@ fn is_submission(
 
 /// A submission that is sent again so often, each minute, handed in at 1,000 ms.
 pub fn submission(alloc: Global, number: u64, retries: u32) -> Option<Submission> {
-    let header = header(alloc, number)?;
-    let payloads = Seq::of(Vec::new(alloc));
-    let route = Route::Push {
-        address: text(alloc, b"http://h/")?,
-    };
     if number >= 1_048_576 || retries > 1000 {
         return None;
     }
-    if !is_submission(alloc, number, &header, &payloads, &route)? {
-        return None;
-    }
-    Some(Submission {
+    let address = text(alloc, b"http://h/")?;
+    submission_of(
+        alloc,
         number,
-        header,
-        payloads,
-        route,
+        header(alloc, number)?,
+        Route::Push { address },
         retries,
-        period: 60_000,
-        moment: 1000,
-    })
+    )
+}
+
+/// The submission of these, where they make one.
+fn submission_of(
+    alloc: Global,
+    number: u64,
+    header: UserHeader,
+    route: Route,
+    retries: u32,
+) -> Option<Submission>
+    requires number { number < 1048576 }
+    requires retries { retries ≤ 1000 }
+{
+    let payloads = Seq::of(Vec::new(alloc));
+    match is_submission(alloc, number, &header, &payloads, &route) {
+        Some(true) => Some(Submission {
+            number,
+            header,
+            payloads,
+            route,
+            retries,
+            period: 60_000,
+            moment: 1000,
+        }),
+        _ => {
+            drop(header);
+            drop(payloads);
+            drop(route);
+            None
+        }
+    }
 }

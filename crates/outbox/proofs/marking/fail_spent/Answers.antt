@@ -3,14 +3,14 @@ use Rattle.std.proofs.lemmas.List.Edits.{map_over_more}
 use Rattle.std.proofs.lemmas.List.Sums.{count_by_more_yes, count_by_more_no}
 use Rattle.exchange_model.specs.Questions.{is_spent}
 use Rattle.exchange_model.specs.Apply.{failed_if_spent}
-use Rattle.outbox.proofs.StandLemmas.{dated_or, rest_kept, failed_same, set_stands}
+use Rattle.outbox.proofs.StandLemmas.{rest_kept, failed_same, set_stands}
 use Rattle.outbox.proofs.marking.fail_spent.Goals as goal
 use Rattle.outbox.proofs.marking.fail_spent.Goals.{then-fail_if_spent, else-fail_if_spent}
 
 pub fail_if_spent-requires : goal.fail_if_spent-requires
 fail_if_spent-requires c =
     let short : c.loop-one.one-index < length c.loop-one.sent = search rules in
-    dated_or c.loop-one.sent c.loop-one.one-index c.one-item.result c.loop-one.invariant.stand short
+    c.loop-one.invariant.stand.dated c.loop-one.one-index c.one-item.result short
 
 pub loop-one-preserved : goal.loop-one-preserved
 loop-one-preserved c =
@@ -34,7 +34,7 @@ loop-one-preserved c =
           let same = failed_same c.args.moment (get_or c.loop-one.sent c.loop-one.one-index c.one-item.result) in
           rw c.fail_if_spent.ensures.after
           (set_stands c.loop-one.one-index c.loop-one.sent (failed_if_spent c.args.moment (get_or c.loop-one.sent c.loop-one.one-index c.one-item.result)) c.one-item.result within same.0
-          (rw same.1 (dated_or c.loop-one.sent c.loop-one.one-index c.one-item.result c.loop-one.invariant.stand within))
+          (rw same.1 (c.loop-one.invariant.stand.dated c.loop-one.one-index c.one-item.result within))
           c.loop-one.invariant.stand);
     }
 

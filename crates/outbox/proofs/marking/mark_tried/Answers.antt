@@ -1,7 +1,8 @@
 use Rattle.std.proofs.Common.{◌<◌, ◌≤◌, length, get_or, refl, rules}
 use Rattle.exchange_model.specs.Questions.{is_waiting}
 use Rattle.exchange_model.specs.Apply.{tried}
-use Rattle.outbox.proofs.StandLemmas.{held_short, held_passes, waiting_tries, changed_at, set_stands}
+use Rattle.outbox.proofs.NumberedLemmas.{changed_at}
+use Rattle.outbox.proofs.StandLemmas.{held_short, held_passes, waiting_tries, set_stands}
 use Rattle.outbox.proofs.marking.mark_tried.Goals as goal
 
 pub bounds-sent-number : goal.bounds-sent-number
@@ -20,7 +21,7 @@ overflow_add-one c =
 
 pub returns-clause-after : goal.returns-clause-after
 returns-clause-after c =
-    changed_at c.args.number (tried c.args.moment) c.args.sent.now c.index-sent-number.result c.requires.stand
+    changed_at c.args.number (tried c.args.moment) c.args.sent.now c.index-sent-number.result c.requires.stand.numbered
     (held_short is_waiting _ _ c.requires.stand c.requires.waiting)
 
 pub returns-clause-stand : goal.returns-clause-stand

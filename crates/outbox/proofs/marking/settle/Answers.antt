@@ -1,7 +1,8 @@
 use Rattle.std.proofs.Common.{◌<◌, length, refl, rules}
 use Rattle.exchange_model.specs.Questions.{is_pending}
 use Rattle.exchange_model.specs.Apply.{marked}
-use Rattle.outbox.proofs.StandLemmas.{held_short, dated_or, changed_at, set_stands}
+use Rattle.outbox.proofs.NumberedLemmas.{changed_at}
+use Rattle.outbox.proofs.StandLemmas.{held_short, set_stands}
 use Rattle.outbox.proofs.marking.settle.Goals as goal
 
 pub bounds-sent-number : goal.bounds-sent-number
@@ -14,11 +15,11 @@ offset_bounds-sent-number c =
 
 pub returns-clause-after : goal.returns-clause-after
 returns-clause-after c =
-    changed_at c.args.number (marked c.args.mark) c.args.sent.now c.index-sent-number.result c.requires.stand
+    changed_at c.args.number (marked c.args.mark) c.args.sent.now c.index-sent-number.result c.requires.stand.numbered
     (held_short is_pending _ _ c.requires.stand c.requires.pending)
 
 pub returns-clause-stand : goal.returns-clause-stand
 returns-clause-stand c =
     let short : c.args.number < length c.args.sent.now = held_short is_pending _ _ c.requires.stand c.requires.pending in
     set_stands c.args.number c.args.sent.now _ c.index-sent-number.result short refl
-    (dated_or c.args.sent.now c.args.number c.index-sent-number.result c.requires.stand short) c.requires.stand
+    (c.requires.stand.dated c.args.number c.index-sent-number.result short) c.requires.stand

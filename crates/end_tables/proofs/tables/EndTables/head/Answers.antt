@@ -1,4 +1,4 @@
-use Rattle.end_tables.proofs.NumberLemmas.{head_found, numbered}
+use Rattle.end_tables.proofs.NumberLemmas.{head_found}
 use Rattle.end_tables.proofs.HeadLemmas.{head_shown}
 use Rattle.end_tables.proofs.tables.EndTables.head.Goals as goal
 
@@ -7,4 +7,4 @@ returns-clause-value c = rw (← c.self.view_is) (head_shown _ _ _ _ c.head.ensu
 
 pub returns-clause-found : goal.returns-clause-found
 returns-clause-found c =
-    rw (← c.self.view_is) (head_found _ _ _ (numbered _ c.len-numbered.ensures.numbered) (head_shown _ _ _ _ c.head.ensures c.self.invariant.0))
+    rw (← c.self.view_is) (head_found _ _ _ c.len-numbered.ensures.numbered (head_shown _ _ _ _ c.head.ensures c.self.invariant.0))

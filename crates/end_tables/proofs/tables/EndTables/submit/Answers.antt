@@ -1,7 +1,7 @@
-use Rattle.std.proofs.Common.{◌≡◌, IsTrue, ◌&&◌, ◌==◌, length, not, true}
+use Rattle.std.proofs.Common.{IsTrue, ◌&&◌, ◌==◌, length, not, true}
 use Rattle.std.proofs.lemmas.Bool.{and_parts, eqb-true}
 use Rattle.exchange_model.specs.Apply.{is_fit, is_one}
-use Rattle.exchange_model.specs.Questions.{queue_of, sent_of}
+use Rattle.exchange_model.specs.Questions.{sent_of}
 use Rattle.end_tables.specs.Rooms.{queue_for}
 use Rattle.end_tables.proofs.StepLemmas.{new_waits, submitted_step}
 use Rattle.end_tables.proofs.tables.EndTables.submit.Goals as goal

@@ -1,4 +1,3 @@
-use Rattle.std.proofs.Common.{arith}
 use Rattle.end_tables.proofs.StepLemmas.{failed_step}
 use Rattle.end_tables.proofs.tables.EndTables.tick.Goals as goal
 
