@@ -41,7 +41,9 @@ pub fn answer_file(
     ensures unbuilt { IsErrOf result Unanswered.Unbuilt → IsOther file.now }
 {
     let signal = reply_to(alloc, stamp, nonce, file)?;
-    file_of(alloc, &signal)
+    let answer = file_of(alloc, &signal);
+    drop(signal);
+    answer
 }
 
 // The message file of a signal.
@@ -58,8 +60,16 @@ fn reply_to(alloc: Global, stamp: u64, nonce: u128, file: &[u8]) -> Result<Signa
     ensures unbuilt { IsErrOf result Unanswered.Unbuilt → IsOther file.now }
 {
     match read_message_file(alloc, file) {
-        Ok(message) => receipt_of(alloc, stamp, nonce, &message),
-        Err(MessageRefusal::Refused(refusal)) => error_of(alloc, stamp, nonce, &refusal),
+        Ok(message) => {
+            let reply = receipt_of(alloc, stamp, nonce, &message);
+            drop(message);
+            reply
+        }
+        Err(MessageRefusal::Refused(refusal)) => {
+            let reply = error_of(alloc, stamp, nonce, &refusal);
+            drop(refusal);
+            reply
+        }
         Err(MessageRefusal::Unbuilt) => Err(Unanswered::Unbuilt),
         Err(MessageRefusal::NoMemory) => Err(Unanswered::NoMemory),
     }

@@ -107,10 +107,7 @@ fn send_line<E: Sink>(errors: &mut E, number: u64) -> Result<(), SendFailed>
     let mut buffer = Buffer::new();
     send_all(errors, b"line ")?;
     send_all(errors, buffer.format(number).as_bytes())?;
-    send_all(
-        errors,
-        b"\nas4 --help shows the lines of a script\n",
-    )
+    send_all(errors, b"\nas4 --help shows the lines of a script\n")
 }
 
 // Tells this text. Where the errors fail, nothing is left to tell it to.

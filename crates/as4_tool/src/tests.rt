@@ -5,7 +5,6 @@ use as4_flow::{MemorySink, MemorySource};
 use as4_values::{Octets, Seq};
 use std::alloc::{AllocError, Global};
 use std::str;
-use std::test::Fail;
 
 /// A run that has ended.
 #[derive(Drop)]
@@ -29,16 +28,18 @@ const NOTHING_FAILS: Failing = Failing {
     tell: 0,
 };
 
+fn failing_at(read: u64, write: u64, tell: u64) -> Failing {
+    Failing { read, write, tell }
+}
+
 const HINT: &[u8] = b"bad words\nas4 --help shows the words\n";
 
 const UNBUILT: &[u8] = b"not built yet\n";
 
 /// What is told of the first line of a script, and of the third.
-const FIRST_IS_WRONG: &[u8] =
-    b"line 1\nas4 --help shows the lines of a script\n";
+const FIRST_IS_WRONG: &[u8] = b"line 1\nas4 --help shows the lines of a script\n";
 
-const THIRD_IS_WRONG: &[u8] =
-    b"line 3\nas4 --help shows the lines of a script\n";
+const THIRD_IS_WRONG: &[u8] = b"line 3\nas4 --help shows the lines of a script\n";
 
 /// The file of one message, of the content `hello`.
 const FILE: &str =
@@ -75,12 +76,17 @@ fn words_of(alloc: Global, line: &str) -> Result<Seq<Octets>, AllocError> {
 }
 
 /// Runs the words.
-fn end_of(alloc: Global, line: &str, file: Vec<u8>, failing: Failing) -> Result<End, AllocError> {
-    let words = words_of(alloc, line)?;
-    let mut input = MemorySource::of(file, Vec::new(alloc), vec![in alloc; failing.read]?);
+fn end_of(
+    alloc: Global,
+    words: &Seq<Octets>,
+    file: &[u8],
+    failing: Failing,
+) -> Result<End, AllocError> {
     let mut output = sink(alloc, failing.write)?;
     let mut errors = sink(alloc, failing.tell)?;
-    let status = run(alloc, &words, &mut input, &mut output, &mut errors);
+    let fails = vec![in alloc; failing.read]?;
+    let mut input = MemorySource::of(file.to_vec(alloc)?, Vec::new(alloc), fails);
+    let status = run(alloc, words, &mut input, &mut output, &mut errors);
     Ok(End {
         status,
         written: output.into_bytes(),
@@ -88,29 +94,46 @@ fn end_of(alloc: Global, line: &str, file: Vec<u8>, failing: Failing) -> Result<
     })
 }
 
-/// Whether a run of the words, with this input, ends with the status and has written and told just this.
-fn ends(
+/// A status, and what is written and told with it.
+type Wanted<'a> = (u8, &'a [u8], &'a [u8]);
+
+/// Whether the words, with this input, end so.
+fn end_so(
     alloc: Global,
-    line: &str,
+    words: &Seq<Octets>,
     file: &[u8],
     failing: Failing,
-    wanted: (u8, &[u8], &[u8]),
-) -> Result<bool, AllocError> {
+    wanted: Wanted,
+) -> bool {
     let (status, written, told) = wanted;
-    let end = end_of(alloc, line, file.to_vec(alloc)?, failing)?;
-    Ok(end.status == status && end.written.as_slice() == written && end.told.as_slice() == told)
+    match end_of(alloc, words, file, failing) {
+        Ok(end) => {
+            end.status == status && end.written.as_slice() == written && end.told.as_slice() == told
+        }
+        Err(_) => false,
+    }
+}
+
+/// Whether the words of this line, with this input, end so.
+fn ends(alloc: Global, line: &str, file: &[u8], failing: Failing, wanted: Wanted) -> bool {
+    match words_of(alloc, line) {
+        Ok(words) => end_so(alloc, &words, file, failing, wanted),
+        Err(_) => false,
+    }
+}
+
+/// Whether these words are bad, and nothing is written.
+fn are_bad(alloc: Global, line: &str) -> bool {
+    ends(alloc, line, OTHER, NOTHING_FAILS, (64, b"", HINT))
 }
 
 #[test]
-fn words_are_a_command_or_bad(rt: HostRuntime) -> Result<(), Fail> {
+fn words_are_a_command_or_bad(rt: HostRuntime) {
     let alloc = rt.alloc();
-    let taken = [
-        "answer 0 1",
-        "answer 253402300799999 340282366920938463463374607431768211455",
-    ];
-    for line in taken {
+    let last = "answer 253402300799999 340282366920938463463374607431768211455";
+    for line in ["answer 0 1", last] {
         assert!(rt;
-            ends(alloc, line, OTHER, NOTHING_FAILS, (13, b"", UNBUILT))?,
+            ends(alloc, line, OTHER, NOTHING_FAILS, (13, b"", UNBUILT)),
             "at {line}"
         );
     }
@@ -133,36 +156,40 @@ fn words_are_a_command_or_bad(rt: HostRuntime) -> Result<(), Fail> {
         "",
     ];
     for line in bad {
-        assert!(rt;
-            ends(alloc, line, OTHER, NOTHING_FAILS, (64, b"", HINT))?,
-            "at {line}"
-        );
+        assert!(rt; are_bad(alloc, line), "at {line}");
     }
-    Ok(())
 }
 
-/// Whether the words are read so.
-fn is_read(alloc: Global, line: &str, command: Option<Command>) -> Result<bool, AllocError> {
-    Ok(command_of(&words_of(alloc, line)?) == command)
+/// Whether the words of this line are read so.
+fn are_read(alloc: Global, line: &str, command: Option<Command>) -> bool {
+    match words_of(alloc, line) {
+        Ok(words) => command_of(&words) == command,
+        Err(_) => false,
+    }
 }
 
 #[test]
-fn a_drill_is_asked_for_with_numbers_in_range(rt: HostRuntime) -> Result<(), Fail> {
+fn a_drill_is_asked_for_with_numbers_in_range(rt: HostRuntime) {
     let alloc = rt.alloc();
     let first = Command::Generate { seed: 0, count: 1 };
     let last = Command::Generate {
         seed: 18_446_744_073_709_551_615,
         count: 1_000,
     };
-    assert!(rt; is_read(alloc, "drill", Some(Command::Drill))?);
-    assert!(rt; is_read(alloc, "drill --generate 0 1", Some(first))?);
+    assert!(rt; are_read(alloc, "drill", Some(Command::Drill)));
+    assert!(rt; are_read(alloc, "drill --generate 0 1", Some(first)));
     assert!(rt;
-        is_read(
+        are_read(
             alloc,
             "drill --generate 18446744073709551615 1000",
             Some(last)
-        )?
+        )
     );
+}
+
+#[test]
+fn numbers_of_a_drill_out_of_range_are_no_command(rt: HostRuntime) {
+    let alloc = rt.alloc();
     let bad = [
         "drill --generate 18446744073709551616 1000",
         "drill --generate 0 1001",
@@ -176,36 +203,35 @@ fn a_drill_is_asked_for_with_numbers_in_range(rt: HostRuntime) -> Result<(), Fai
         "Drill",
     ];
     for line in bad {
-        assert!(rt; is_read(alloc, line, None)?, "at {line}");
+        assert!(rt; are_read(alloc, line, None), "at {line}");
     }
-    Ok(())
 }
 
 #[test]
-fn no_words_are_bad(rt: HostRuntime) -> Result<(), Fail> {
+fn no_words_are_bad(rt: HostRuntime) {
     let alloc = rt.alloc();
     let words = Seq::of(Vec::new(alloc));
-    let mut input = MemorySource::of(Vec::new(alloc), Vec::new(alloc), Vec::new(alloc));
-    let (mut output, mut errors) = (sink(alloc, 0)?, sink(alloc, 0)?);
-    let status = run(alloc, &words, &mut input, &mut output, &mut errors);
-    assert_eq!(rt; status, 64);
-    assert_eq!(rt; errors.bytes(), HINT);
-    Ok(())
+    assert!(rt; end_so(alloc, &words, b"", NOTHING_FAILS, (64, b"", HINT)));
 }
 
 #[test]
-fn help_and_version_are_written(rt: HostRuntime) -> Result<(), Fail> {
+fn help_and_version_are_written(rt: HostRuntime) {
     let alloc = rt.alloc();
-    assert!(rt; ends(alloc, "--help", b"", NOTHING_FAILS, (0, HELP, b""))?);
-    assert!(rt; ends(alloc, "--version", b"", NOTHING_FAILS, (0, VERSION, b""))?);
-    assert_eq!(rt; VERSION, b"as4 0.1.0\n".as_slice());
-    Ok(())
+    assert!(rt; ends(alloc, "--help", b"", NOTHING_FAILS, (0, HELP, b"")));
+    assert!(rt; ends(alloc, "--version", b"", NOTHING_FAILS, (0, VERSION, b"")));
+    assert!(rt; VERSION == b"as4 0.1.0\n".as_slice());
+}
+
+fn help_has(part: &str) -> bool {
+    match str::from_utf8(HELP) {
+        Ok(help) => help.contains(part),
+        Err(_) => false,
+    }
 }
 
 /// The numbers and the lines that a user goes by.
 #[test]
-fn the_help_has_each_range_and_line(rt: HostRuntime) -> Result<(), Fail> {
-    let help = str::from_utf8(HELP)?;
+fn the_help_has_each_range_and_line(rt: HostRuntime) {
     let parts = [
         "0 to 253402300799999",
         "0 to 340282366920938463463374607431768211455",
@@ -223,56 +249,58 @@ fn the_help_has_each_range_and_line(rt: HostRuntime) -> Result<(), Fail> {
         "64  bad words",
     ];
     for part in parts {
-        assert!(rt; help.contains(part), "{part}");
+        assert!(rt; help_has(part), "{part}");
     }
-    Ok(())
 }
 
 #[test]
-fn each_fault_has_its_status(rt: HostRuntime) -> Result<(), Fail> {
+fn each_fault_has_its_status(rt: HostRuntime) {
     let alloc = rt.alloc();
-    let read = Failing {
-        read: 1,
-        ..NOTHING_FAILS
-    };
-    let write = Failing {
-        write: 1,
-        ..NOTHING_FAILS
-    };
-    let tell = Failing {
-        tell: 1,
-        ..NOTHING_FAILS
-    };
-    assert!(rt; ends(alloc, "answer 0 1", OTHER, read, (3, b"", b"read fault\n"))?);
-    assert!(rt; ends(alloc, "drill", OTHER, read, (3, b"", b"read fault\n"))?);
-    assert!(rt; ends(alloc, "--help", OTHER, write, (4, b"", b"write fault\n"))?);
-    assert!(rt; ends(alloc, "answer 0 1", OTHER, tell, (13, b"", b""))?);
-    assert!(rt; ends(alloc, "answer 0", OTHER, tell, (64, b"", b""))?);
-    Ok(())
-}
-
-#[test]
-fn a_wrong_line_of_a_script_is_told(rt: HostRuntime) -> Result<(), Fail> {
-    let alloc = rt.alloc();
-    for script in ["hello\n", "take a", "\n", "take c\ntake a\n"] {
-        let wanted = (2, b"".as_slice(), FIRST_IS_WRONG);
+    let (read, write, tell) = (
+        failing_at(1, 0, 0),
+        failing_at(0, 1, 0),
+        failing_at(0, 0, 1),
+    );
+    let table = [
+        ("answer 0 1", read, 3, "read fault\n"),
+        ("drill", read, 3, "read fault\n"),
+        ("--help", write, 4, "write fault\n"),
+        ("answer 0 1", tell, 13, ""),
+        ("answer 0", tell, 64, ""),
+    ];
+    for (line, failing, status, told) in table {
         assert!(rt;
-            ends(alloc, "drill", script.as_bytes(), NOTHING_FAILS, wanted)?,
+            ends(alloc, line, OTHER, failing, (status, b"", told.as_bytes())),
+            "at {line}"
+        );
+    }
+}
+
+/// Whether a drill of the script ends at a wrong line, having written this.
+fn is_wrong(alloc: Global, script: &str, written: &str, told: &[u8]) -> bool {
+    let wanted = (2, written.as_bytes(), told);
+    ends(alloc, "drill", script.as_bytes(), NOTHING_FAILS, wanted)
+}
+
+#[test]
+fn a_wrong_line_of_a_script_is_told(rt: HostRuntime) {
+    for script in ["hello\n", "take a", "\n", "take c\ntake a\n"] {
+        assert!(rt;
+            is_wrong(rt.alloc(), script, "", FIRST_IS_WRONG),
             "at {script}"
         );
     }
-    Ok(())
 }
 
 /// The third line isn't one of a script, or not in its place, or has no end.
 #[test]
-fn what_stands_before_a_wrong_line_is_run(rt: HostRuntime) -> Result<(), Fail> {
-    let alloc = rt.alloc();
+fn what_stands_before_a_wrong_line_is_run(rt: HostRuntime) {
+    let submitted = "a submitted 0 0.00000000-0000-0000-0000-000000000000@as4\n";
     let table = [
         ("mode m push 1 1\ntake a\nhop a\n", "a nothing\n"),
         (
             "mode m push 3 1000\nsubmit a m hex=68656c6c6f\ntake c\n",
-            "a submitted 0 0.00000000-0000-0000-0000-000000000000@as4\n",
+            submitted,
         ),
         (
             "take a\ntake b\nmode m push 3 1000\n",
@@ -292,29 +320,26 @@ fn what_stands_before_a_wrong_line_is_run(rt: HostRuntime) -> Result<(), Fail> {
         ),
     ];
     for (script, written) in table {
-        let wanted = (2, written.as_bytes(), THIRD_IS_WRONG);
         assert!(rt;
-            ends(alloc, "drill", script.as_bytes(), NOTHING_FAILS, wanted)?,
+            is_wrong(rt.alloc(), script, written, THIRD_IS_WRONG),
             "at {script}"
         );
     }
-    Ok(())
 }
 
 #[test]
-fn a_script_is_run(rt: HostRuntime) -> Result<(), Fail> {
+fn a_script_is_run(rt: HostRuntime) {
     let written = b"a no-mode\na end 0 0 0 0 0\nb end 0 0 0 0 0\n";
-    let wanted = (0, written.as_slice(), b"".as_slice());
+    let script = b"submit a m none\n";
     assert!(rt;
         ends(
             rt.alloc(),
             "drill",
-            b"submit a m none\n",
+            script,
             NOTHING_FAILS,
-            wanted
-        )?
+            (0, written, b"")
+        )
     );
-    Ok(())
 }
 
 /// This line so many times.
@@ -326,10 +351,9 @@ fn repeated(alloc: Global, line: &[u8], times: u32) -> Result<Vec<u8>, AllocErro
     Ok(lines)
 }
 
-/// A clock that is set to its own moment is an event too, and gives nothing up.
-#[test]
-fn event_100_001_is_one_too_many(rt: HostRuntime) -> Result<(), Fail> {
-    let alloc = rt.alloc();
+/// Whether a script of 100,001 events ends behind the first 100,000. A clock that is set to its own moment is an event too,
+/// and gives nothing up.
+fn ends_behind_the_last_event(alloc: Global) -> Result<bool, AllocError> {
     let script = repeated(alloc, b"tick a 0\n", 100_001)?;
     let written = repeated(alloc, b"a ticked 0\n", 100_000)?;
     let wanted = (
@@ -337,82 +361,84 @@ fn event_100_001_is_one_too_many(rt: HostRuntime) -> Result<(), Fail> {
         written.as_slice(),
         b"more than 100000 events\n".as_slice(),
     );
-    assert!(rt; ends(alloc, "drill", &script, NOTHING_FAILS, wanted)?);
-    Ok(())
+    Ok(ends(alloc, "drill", &script, NOTHING_FAILS, wanted))
+}
+
+#[test]
+fn event_100_001_is_one_too_many(rt: HostRuntime) {
+    assert!(rt; ends_behind_the_last_event(rt.alloc()).unwrap_or(false));
 }
 
 /// Whether the status has this number, and tells just this.
-fn is_told(
-    alloc: Global,
-    status: Status,
-    failing: u64,
-    code: u8,
-    told: &[u8],
-) -> Result<bool, AllocError> {
-    let mut errors = sink(alloc, failing)?;
-    status.tell(&mut errors);
-    Ok(status.code() == code && errors.bytes() == told)
-}
-
-const LAST_IS_WRONG: &[u8] =
-    b"line 18446744073709551615\nas4 --help shows the lines of a script\n";
-
-#[test]
-fn each_status_has_its_number_and_line(rt: HostRuntime) -> Result<(), Fail> {
-    let alloc = rt.alloc();
-    let last = Status::WrongLine {
-        number: 18_446_744_073_709_551_615,
+fn is_told(alloc: Global, status: Status, failing: u64, code: u8, told: &str) -> bool {
+    let Ok(mut errors) = sink(alloc, failing) else {
+        return false;
     };
-    assert!(rt; is_told(alloc, Status::Done, 0, 0, b"")?);
-    assert!(rt; is_told(alloc, Status::WrongLine { number: 1 }, 0, 2, FIRST_IS_WRONG)?);
-    assert!(rt; is_told(alloc, last, 0, 2, LAST_IS_WRONG)?);
-    assert!(rt; is_told(alloc, Status::ReadFault, 0, 3, b"read fault\n")?);
-    assert!(rt; is_told(alloc, Status::WriteFault, 0, 4, b"write fault\n")?);
-    assert!(rt; is_told(alloc, Status::NoMemory, 0, 5, b"no memory\n")?);
-    assert!(rt;
-        is_told(
-            alloc,
-            Status::TooManyEvents,
-            0,
-            6,
-            b"more than 100000 events\n"
-        )?
-    );
-    assert!(rt; is_told(alloc, Status::TooLong, 0, 11, b"input too long\n")?);
-    assert!(rt; is_told(alloc, Status::Unbuilt, 0, 13, UNBUILT)?);
-    assert!(rt; is_told(alloc, Status::BadWords, 0, 64, HINT)?);
-    Ok(())
+    status.tell(&mut errors);
+    status.code() == code && errors.bytes() == told.as_bytes()
 }
 
 #[test]
-fn a_line_is_told_up_to_a_fault(rt: HostRuntime) -> Result<(), Fail> {
-    let alloc = rt.alloc();
-    let whole =
-        "line 12\nas4 --help shows the lines of a script\n";
+fn each_status_has_its_number_and_line(rt: HostRuntime) {
+    let last = 18_446_744_073_709_551_615;
+    let table = [
+        (Status::Done, 0, ""),
+        (
+            Status::WrongLine { number: last },
+            2,
+            "line 18446744073709551615\nas4 --help shows the lines of a script\n",
+        ),
+        (
+            Status::WrongLine { number: 1 },
+            2,
+            "line 1\nas4 --help shows the lines of a script\n",
+        ),
+        (Status::ReadFault, 3, "read fault\n"),
+        (Status::WriteFault, 4, "write fault\n"),
+        (Status::NoMemory, 5, "no memory\n"),
+        (Status::TooManyEvents, 6, "more than 100000 events\n"),
+        (Status::TooLong, 11, "input too long\n"),
+        (Status::Unbuilt, 13, "not built yet\n"),
+        (
+            Status::BadWords,
+            64,
+            "bad words\nas4 --help shows the words\n",
+        ),
+    ];
+    for (status, code, told) in table {
+        assert!(rt; is_told(rt.alloc(), status, 0, code, told), "at {code}");
+    }
+}
+
+#[test]
+fn a_line_is_told_up_to_a_fault(rt: HostRuntime) {
+    let whole = "line 12\nas4 --help shows the lines of a script\n";
+    let status = Status::WrongLine { number: 12 };
     for (failing, told) in [(1, ""), (2, "line "), (3, "line 12"), (4, whole)] {
-        let status = Status::WrongLine { number: 12 };
         assert!(rt;
-            is_told(alloc, status, failing, 2, told.as_bytes())?,
+            is_told(rt.alloc(), status, failing, 2, told),
             "at {failing}"
         );
     }
-    Ok(())
+}
+
+/// Whether an input of so many bytes ends so.
+fn is_answered(alloc: Global, len: usize, wanted: Wanted) -> bool {
+    match vec![in alloc; 0; len] {
+        Ok(file) => ends(alloc, "answer 0 1", &file, NOTHING_FAILS, wanted),
+        Err(_) => false,
+    }
 }
 
 #[test]
-fn an_input_has_a_longest_length(rt: HostRuntime) -> Result<(), Fail> {
+fn an_input_has_a_longest_length(rt: HostRuntime) {
     let alloc = rt.alloc();
-    let within = vec![in alloc; 0; LIMIT]?;
-    let wanted = (0, ERROR.as_bytes(), b"".as_slice());
-    assert!(rt; ends(alloc, "answer 0 1", &within, NOTHING_FAILS, wanted)?);
-    let longer = vec![in alloc; 0; LIMIT + 1]?;
-    let wanted = (11, b"".as_slice(), b"input too long\n".as_slice());
-    assert!(rt; ends(alloc, "answer 0 1", &longer, NOTHING_FAILS, wanted)?);
-    Ok(())
+    assert!(rt; is_answered(alloc, LIMIT, (0, ERROR.as_bytes(), b"")));
+    assert!(rt; is_answered(alloc, LIMIT + 1, (11, b"", b"input too long\n")));
 }
 
 #[test]
-fn a_message_is_answered_by_its_receipt(rt: HostRuntime) -> Result<(), Fail> {
+fn a_message_is_answered_by_its_receipt(rt: HostRuntime) {
     let wanted = (0, RECEIPT.as_bytes(), b"".as_slice());
     assert!(rt;
         ends(
@@ -421,28 +447,25 @@ fn a_message_is_answered_by_its_receipt(rt: HostRuntime) -> Result<(), Fail> {
             FILE.as_bytes(),
             NOTHING_FAILS,
             wanted
-        )?
+        )
     );
-    Ok(())
+}
+
+/// Whether the message without its last byte isn't answered.
+fn is_cut_short(alloc: Global) -> bool {
+    match FILE.as_bytes().split_last() {
+        Some((_, file)) => ends(alloc, "answer 0 1", file, NOTHING_FAILS, (13, b"", UNBUILT)),
+        None => false,
+    }
 }
 
 #[test]
-fn a_message_without_its_last_byte_is_not_answered(rt: HostRuntime) -> Result<(), Fail> {
-    let (_, file) = FILE.as_bytes().split_last().ok_or("no file")?;
-    assert!(rt;
-        ends(
-            rt.alloc(),
-            "answer 0 1",
-            file,
-            NOTHING_FAILS,
-            (13, b"", UNBUILT)
-        )?
-    );
-    Ok(())
+fn a_message_without_its_last_byte_is_not_answered(rt: HostRuntime) {
+    assert!(rt; is_cut_short(rt.alloc()));
 }
 
 #[test]
-fn an_input_without_a_media_text_is_answered_by_an_error(rt: HostRuntime) -> Result<(), Fail> {
+fn an_input_without_a_media_text_is_answered_by_an_error(rt: HostRuntime) {
     let alloc = rt.alloc();
     let table = [
         "",
@@ -455,20 +478,22 @@ fn an_input_without_a_media_text_is_answered_by_an_error(rt: HostRuntime) -> Res
     for file in table {
         let wanted = (0, ERROR.as_bytes(), b"".as_slice());
         assert!(rt;
-            ends(alloc, "answer 0 1", file.as_bytes(), NOTHING_FAILS, wanted)?,
+            ends(alloc, "answer 0 1", file.as_bytes(), NOTHING_FAILS, wanted),
             "at {file}"
         );
     }
-    Ok(())
 }
 
 #[test]
-fn an_answer_that_fails_is_told(rt: HostRuntime) -> Result<(), Fail> {
-    let write = Failing {
-        write: 1,
-        ..NOTHING_FAILS
-    };
+fn an_answer_that_fails_is_told(rt: HostRuntime) {
     let wanted = (4, b"".as_slice(), b"write fault\n".as_slice());
-    assert!(rt; ends(rt.alloc(), "answer 0 1", FILE.as_bytes(), write, wanted)?);
-    Ok(())
+    assert!(rt;
+        ends(
+            rt.alloc(),
+            "answer 0 1",
+            FILE.as_bytes(),
+            failing_at(0, 1, 0),
+            wanted
+        )
+    );
 }

@@ -9,17 +9,17 @@ use Rattle.as4_tool.proofs.answers.reply_to.Goals as goal
 pub returns-in-Ok-clause-answers : goal.returns-in-Ok-clause-answers
 returns-in-Ok-clause-answers c =
     let read = c.in-Ok.ensures.found in
-    ok_of _ _ c.receipt_of.result
+    ok_of _ _ c.receipt_of-reply.result
     (λ signal is. inl (read.0, read.1, record { plain = read.2; is_file = read.4 ∙ ap (λ m. file_of 0 m) read.3 }, is))
-    (c.receipt_of.ensures.answers (header_of read.0) (read.1 ∷ []) read.3)
+    (c.receipt_of-reply.ensures.answers (header_of read.0) (read.1 ∷ []) read.3)
 
 pub returns-in-Ok-clause-unbuilt : goal.returns-in-Ok-clause-unbuilt
 returns-in-Ok-clause-unbuilt c is =
     let read = c.in-Ok.ensures.found in
-    absurd (never_unbuilt _ c.receipt_of.result (c.receipt_of.ensures.answers (header_of read.0) (read.1 ∷ []) read.3) is)
+    absurd (never_unbuilt _ c.receipt_of-reply.result (c.receipt_of-reply.ensures.answers (header_of read.0) (read.1 ∷ []) read.3) is)
 
-pub error_of-requires-clause-known : goal.error_of-requires-clause-known
-error_of-requires-clause-known c =
+pub error_of-reply-requires-clause-known : goal.error_of-reply-requires-clause-known
+error_of-reply-requires-clause-known c =
     let refusal = c.in-Err-Refused.refusal in
     let parts = parts_of c.args.file.now in
     refused_is_known parts.0 parts.1 refusal ((c.in-Err-Refused.ensures.refused refusal).0 (ap Err c.in-Err-Refused.field-0-is))
@@ -28,10 +28,10 @@ pub returns-in-Err-Refused-clause-answers : goal.returns-in-Err-Refused-clause-a
 returns-in-Err-Refused-clause-answers c =
     let refusal = c.in-Err-Refused.refusal in
     let refused = (c.in-Err-Refused.ensures.refused refusal).0 (ap Err c.in-Err-Refused.field-0-is) in
-    ok_of _ _ c.error_of.result (λ signal is. inr (refusal, refused, is)) c.error_of.ensures.answers
+    ok_of _ _ c.error_of-reply.result (λ signal is. inr (refusal, refused, is)) c.error_of-reply.ensures.answers
 
 pub returns-in-Err-Refused-clause-unbuilt : goal.returns-in-Err-Refused-clause-unbuilt
-returns-in-Err-Refused-clause-unbuilt c is = absurd (never_unbuilt _ c.error_of.result c.error_of.ensures.answers is)
+returns-in-Err-Refused-clause-unbuilt c is = absurd (never_unbuilt _ c.error_of-reply.result c.error_of-reply.ensures.answers is)
 
 pub returns-in-Err-Unbuilt-clause-unbuilt : goal.returns-in-Err-Unbuilt-clause-unbuilt
 returns-in-Err-Unbuilt-clause-unbuilt c _ =
