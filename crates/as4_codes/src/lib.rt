@@ -3,8 +3,6 @@
 
 mod rows;
 mod signals;
-#[cfg(test)]
-mod tests;
 
 pub use rows::{Row, TABLE, codes_differ, find, table};
 pub use signals::error_signal;

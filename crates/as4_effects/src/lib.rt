@@ -10,8 +10,6 @@ mod pairing;
 mod queue;
 mod sound;
 mod submission;
-#[cfg(test)]
-mod tests;
 
 pub use delivery::Delivery;
 pub use effect::{Effect, Tick};

@@ -3,8 +3,6 @@
 
 mod copies;
 mod markup;
-#[cfg(test)]
-mod tests;
 mod tree;
 mod writable;
 mod write;

@@ -14,6 +14,3 @@ pub use reading::{ReadRefusal, read_all};
 pub use sink::{Put, SendFailed, Sink, send_all};
 pub use source::{Got, Source};
 pub use standard::{ReaderSource, WriterSink};
-
-#[cfg(test)]
-mod tests;

@@ -10,8 +10,6 @@ mod plain_values;
 mod plain_wire;
 mod read;
 mod refusal;
-#[cfg(test)]
-mod tests;
 mod unescape;
 mod write;
 

@@ -18,8 +18,6 @@ mod signal;
 mod signal_body;
 mod stamp;
 mod stamp_form;
-#[cfg(test)]
-mod tests;
 mod text;
 mod word;
 mod xml;

@@ -6,6 +6,3 @@ mod waiting;
 
 pub use channels::Channels;
 pub use waiting::{Place, Waiting};
-
-#[cfg(test)]
-mod tests;

@@ -10,8 +10,6 @@ mod playing;
 mod refused;
 mod script;
 mod stage;
-#[cfg(test)]
-mod tests;
 
 pub use generated::generate;
 pub use laws::a_drill_delivers_once;

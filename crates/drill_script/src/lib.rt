@@ -13,6 +13,3 @@ mod words;
 pub use line::{EndName, Line, ScriptLoad, Way};
 pub use lines::{LINE_LIMIT, LineGot, LineReader};
 pub use reading::{line_of, one_line};
-
-#[cfg(test)]
-mod tests;

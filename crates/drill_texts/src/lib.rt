@@ -6,8 +6,6 @@ mod messages;
 mod modes;
 mod pieces;
 mod replies;
-#[cfg(test)]
-mod tests;
 
 pub use loads::loads_of;
 pub use modes::{drill_mode, modes_of};

@@ -7,8 +7,6 @@ mod queues;
 mod reserving;
 mod standing;
 mod tables;
-#[cfg(test)]
-mod tests;
 mod totals;
 
 pub use inbox::Held;

@@ -12,8 +12,6 @@ mod record;
 mod refusal;
 mod rest;
 mod spelled;
-#[cfg(test)]
-mod tests;
 mod whole;
 mod written;
 

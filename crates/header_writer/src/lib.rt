@@ -3,8 +3,6 @@
 
 mod envelope;
 mod signal_text;
-#[cfg(test)]
-mod tests;
 mod user_text;
 mod values;
 mod written;

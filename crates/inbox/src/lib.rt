@@ -3,8 +3,6 @@
 
 mod held;
 mod inbox;
-#[cfg(test)]
-mod tests;
 
 pub use held::Held;
 pub use inbox::Inbox;

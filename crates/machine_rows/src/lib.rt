@@ -9,8 +9,6 @@ mod receipts;
 mod rows;
 mod signals;
 mod submitting;
-#[cfg(test)]
-mod tests;
 
 pub use events::row_of;
 pub use receipts::receipt;

@@ -6,8 +6,6 @@ mod machine;
 mod plan;
 mod replaying;
 mod small;
-#[cfg(test)]
-mod tests;
 
 pub use end_tables::Totals;
 pub use exchange_model::{Event, Outcome, Reply, What};

@@ -3,7 +3,5 @@
 
 mod marking;
 mod outbox;
-#[cfg(test)]
-mod tests;
 
 pub use outbox::Outbox;

@@ -12,8 +12,6 @@ mod reading;
 mod refusal;
 mod sending;
 mod sides;
-#[cfg(test)]
-mod tests;
 mod values;
 
 pub use modes::{MAX_MODES, Modes};

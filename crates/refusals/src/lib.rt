@@ -2,7 +2,5 @@
 #![tactic(auto)]
 
 mod refusing;
-#[cfg(test)]
-mod tests;
 
 pub use refusing::refusals_of;

@@ -7,8 +7,6 @@ mod limits;
 mod naming;
 mod parts;
 mod payloads;
-#[cfg(test)]
-mod tests;
 
 pub use intake::{Intake, submission};
 pub use limits::are_too_large;

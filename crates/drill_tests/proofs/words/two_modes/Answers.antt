@@ -1,0 +1,18 @@
+use Rattle.std.proofs.Common.{◌≡◌, ◌≢◌, ℕ, List, [], ◌∷◌, ◌++◌, length, sym, ◌∙◌, ap, subst, arith}
+use Rattle.std.specs.Prelude.{codes}
+use Rattle.as4_values.specs.declared.mode.Mode.{Mode}
+use Rattle.drill_script.specs.declared.line.Way.TheVariants.{Push, Pull}
+use Rattle.drill_texts.specs.Modes.{AreDrillModes, IsSomeDrillMode}
+use Rattle.drill_texts.proofs.ListLemmas.{two_are_modes}
+use Rattle.drill_tests.proofs.words.two_modes.Goals as goal
+
+pub returns : goal.returns
+returns c =
+    let pushed : Mode = c.in_ok-pushed.pushed in
+    let pulled : Mode = c.in_ok-pulled.pulled in
+    let first : c.push_reserved.new.self.items ≡ pushed ∷ [] = c.push_reserved.ensures.items ∙ ap (λ (l : List Mode). l ++ pushed ∷ []) c.in_ok-list.ensures.items in
+    let whole : c.of.result ≡ pushed ∷ pulled ∷ [] = c.of.ensures ∙ c.push_reserved-2.ensures.items ∙ ap (λ (l : List Mode). l ++ pulled ∷ []) first in
+    let one : IsSomeDrillMode pushed = (codes "m", Push, 3, 5000, c.in_ok-pushed.ensures) in
+    let other : IsSomeDrillMode pulled = (codes "m2", Pull, 3, 5000, c.in_ok-pulled.ensures) in
+    let differ : pushed.name ≢ pulled.name = λ same. (let clash : codes "m" ≡ codes "m2" = sym one.4.named ∙ same ∙ other.4.named in absurd (omega (arith, ap (λ (l : List ℕ). length l) clash))) in
+    subst AreDrillModes (sym whole) (two_are_modes pushed pulled one other differ)

@@ -1,0 +1,11 @@
+//! Tests of `as4_flow`, `drill_script`, `drill_texts`, `drill`, by what they make public.
+#![tactic(auto)]
+
+#[cfg(test)]
+mod drills;
+#[cfg(test)]
+mod scripts;
+#[cfg(test)]
+mod streams;
+#[cfg(test)]
+mod words;

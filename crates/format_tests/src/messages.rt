@@ -1,0 +1,244 @@
+//! What no clause says: that memory suffices, and the bytes of one message, which were written by hand.
+
+ghost use Rattle.std.specs.Prelude.{IfSome};
+ghost use Rattle.message_model.specs.Wire.{HasBoundary};
+
+use as4_message::{MessageRefusal, Wire, read_message, write_message, write_signal_file};
+use as4_values::{
+    Message, MessageId, NoMemory, Octets, PlainData, Signal, SignalBody, UserHeader, stamp_text,
+};
+use std::alloc::Global;
+use std::test::Fail;
+
+const MEDIA: &[u8] =
+    b"multipart/related; type=\"application/soap+xml\"; boundary=\"as4-0000000000000000\"; start=\"<root-0000000000000000@as4>\"";
+
+/// One message of the content `hello`.
+const BODY: &str =
+    "--as4-0000000000000000\r\nContent-ID: <root-0000000000000000@as4>\r\nContent-Type: application/soap+xml; charset=UTF-8\r\nContent-Transfer-Encoding: binary\r\n\r\n<S:Envelope xmlns:S=\"http://www.w3.org/2003/05/soap-envelope\" xmlns:eb=\"http://docs.oasis-open.org/ebxml-msg/ebms/v3.0/ns/core/200704/\"><S:Header><eb:Messaging S:mustUnderstand=\"true\"><eb:UserMessage><eb:MessageInfo><eb:Timestamp>2025-01-02T03:04:05.006Z</eb:Timestamp><eb:MessageId>m1@a</eb:MessageId></eb:MessageInfo><eb:PartyInfo><eb:From><eb:PartyId>acme</eb:PartyId><eb:Role>seller</eb:Role></eb:From><eb:To><eb:PartyId>bolt</eb:PartyId><eb:Role>buyer</eb:Role></eb:To></eb:PartyInfo><eb:CollaborationInfo><eb:Service>orders</eb:Service><eb:Action>invoice</eb:Action><eb:ConversationId>c1</eb:ConversationId></eb:CollaborationInfo><eb:PayloadInfo><eb:PartInfo href=\"cid:p1@a\"></eb:PartInfo></eb:PayloadInfo></eb:UserMessage></eb:Messaging></S:Header><S:Body></S:Body></S:Envelope>\r\n--as4-0000000000000000\r\nContent-ID: <p1@a>\r\nContent-Type: text/plain\r\nContent-Transfer-Encoding: binary\r\n\r\nhello\r\n--as4-0000000000000000--\r\n";
+
+/// The body with `new` in the place of the first `old`.
+fn changed(alloc: Global, old: &str, new: &str) -> Option<String> {
+    let (front, back) = BODY.split_once(old)?;
+    format!(in alloc; "{front}{new}{back}").ok()
+}
+
+/// The receipt of that message, of the first moment and the nonce 1.
+const RECEIPT: &str =
+    "Content-Type: application/soap+xml; charset=UTF-8\r\n\r\n<S:Envelope xmlns:S=\"http://www.w3.org/2003/05/soap-envelope\" xmlns:eb=\"http://docs.oasis-open.org/ebxml-msg/ebms/v3.0/ns/core/200704/\"><S:Header><eb:Messaging S:mustUnderstand=\"true\"><eb:SignalMessage><eb:MessageInfo><eb:Timestamp>1970-01-01T00:00:00.000Z</eb:Timestamp><eb:MessageId>s.00000000-0000-0000-0000-000000000001@as4</eb:MessageId><eb:RefToMessageId>m1@a</eb:RefToMessageId></eb:MessageInfo><eb:Receipt><eb:UserMessage><eb:MessageInfo><eb:Timestamp>2025-01-02T03:04:05.006Z</eb:Timestamp><eb:MessageId>m1@a</eb:MessageId></eb:MessageInfo><eb:PartyInfo><eb:From><eb:PartyId>acme</eb:PartyId><eb:Role>seller</eb:Role></eb:From><eb:To><eb:PartyId>bolt</eb:PartyId><eb:Role>buyer</eb:Role></eb:To></eb:PartyInfo><eb:CollaborationInfo><eb:Service>orders</eb:Service><eb:Action>invoice</eb:Action><eb:ConversationId>c1</eb:ConversationId></eb:CollaborationInfo><eb:PayloadInfo><eb:PartInfo href=\"cid:p1@a\"></eb:PartInfo></eb:PayloadInfo></eb:UserMessage></eb:Receipt></eb:SignalMessage></eb:Messaging></S:Header><S:Body></S:Body></S:Envelope>";
+
+/// The message that is read.
+fn message(alloc: Global, body: &str) -> Option<Message>
+    ensures { IfSome result (HasBoundary 0) }
+{
+    match read_message(alloc, MEDIA, body.as_bytes()) {
+        Ok(message) => Some(message),
+        Err(refusal) => {
+            drop(refusal);
+            None
+        }
+    }
+}
+
+/// What is written for the message that is read.
+fn rewritten(alloc: Global) -> Option<Wire> {
+    let message = message(alloc, BODY)?;
+    let wire = write_message(alloc, &message);
+    drop(message);
+    wire.ok()
+}
+
+#[test]
+fn a_message_is_read_and_written_again(rt: HostRuntime) -> Result<(), Fail> {
+    let wire = rewritten(rt.alloc()).ok_or("refused")?;
+    assert_eq!(rt; wire.media.bytes(), MEDIA);
+    assert_eq!(rt; wire.body.bytes(), BODY.as_bytes());
+    Ok(())
+}
+
+/// The header of the message that is read.
+fn header(alloc: Global, body: &str) -> Option<UserHeader> {
+    match message(alloc, body)? {
+        Message::User { header, payloads } => {
+            drop(payloads);
+            Some(header)
+        }
+        Message::Signal(signal) => {
+            drop(signal);
+            None
+        }
+    }
+}
+
+/// The receipt of the message that is read, made by hand.
+fn receipt(alloc: Global) -> Option<Signal> {
+    let stamp = stamp_text(alloc, 0).ok();
+    let id = MessageId::of_signal(alloc, 1).ok();
+    let ref_to = MessageId::read(alloc, b"m1@a").ok();
+    let names = stamp.zip(id).zip(ref_to);
+    let (((stamp, id), ref_to), copy) = names.zip(header(alloc, BODY))?;
+    Some(Signal {
+        stamp,
+        id,
+        ref_to: Some(ref_to),
+        body: SignalBody::Receipt { copy: Some(copy) },
+    })
+}
+
+fn receipt_file(alloc: Global) -> Option<Octets> {
+    let signal = receipt(alloc)?;
+    let file = write_signal_file(alloc, &signal);
+    drop(signal);
+    file.ok()
+}
+
+#[test]
+fn a_receipt_is_written(rt: HostRuntime) -> Result<(), Fail> {
+    let file = receipt_file(rt.alloc()).ok_or("refused")?;
+    assert_eq!(rt; file.bytes(), RECEIPT.as_bytes());
+    Ok(())
+}
+
+/// Whether a copy is made and equals its source.
+fn copies(alloc: Global, message: &Message) -> Result<bool, NoMemory> {
+    let copy = message.try_clone(alloc)?;
+    let is_same = copy.same(message);
+    drop(copy);
+    Ok(is_same)
+}
+
+/// Whether the copy of the message that is read is the same.
+fn copy_is_same(alloc: Global) -> Option<bool> {
+    let message = message(alloc, BODY)?;
+    let is_same = copies(alloc, &message);
+    drop(message);
+    is_same.ok()
+}
+
+/// Whether the message that is read is the same as the one of another body.
+fn is_same(alloc: Global, one: &Message, body: &str) -> Option<bool> {
+    let other = message(alloc, body)?;
+    let is_same = one.same(&other);
+    drop(other);
+    Some(is_same)
+}
+
+/// The same of the body with this change.
+fn is_same_with(alloc: Global, old: &str, new: &str) -> Option<bool> {
+    let body = changed(alloc, old, new)?;
+    let message = message(alloc, BODY)?;
+    let is_same = is_same(alloc, &message, body.as_str());
+    drop(message);
+    is_same
+}
+
+#[test]
+fn a_copy_of_a_message_is_the_same_and_another_message_is_not(rt: HostRuntime) -> Result<(), Fail> {
+    assert_eq!(rt; copy_is_same(rt.alloc()), Some(true));
+    for (old, new) in [("buyer", "seller"), ("c1", "c2"), ("hello", "hallo")] {
+        assert_eq!(rt; is_same_with(rt.alloc(), old, new), Some(false), "{new}");
+    }
+    Ok(())
+}
+
+/// Whether the identifier that is spelled so is read as this text.
+fn is_read_as(alloc: Global, spelled: &str, text: &[u8]) -> Option<bool> {
+    let body = changed(alloc, "m1@a", spelled)?;
+    let header = header(alloc, body.as_str())?;
+    let is_read = header.id.bytes() == text;
+    drop(header);
+    Some(is_read)
+}
+
+#[test]
+fn an_identifier_is_read_without_its_escapes(rt: HostRuntime) -> Result<(), Fail> {
+    let table = [
+        ("m&amp;1@a", b"m&1@a".as_slice()),
+        ("&quot;m&quot;@a", b"\"m\"@a".as_slice()),
+        ("&amp;amp;", b"&amp;".as_slice()),
+    ];
+    for (spelled, text) in table {
+        assert_eq!(rt;
+            is_read_as(rt.alloc(), spelled, text),
+            Some(true),
+            "{spelled}"
+        );
+    }
+    Ok(())
+}
+
+/// The code of a refusal, and 0 where the message isn't read yet.
+fn code_of(refusal: &MessageRefusal) -> Option<u16> {
+    match refusal {
+        MessageRefusal::Refused(refusal) => Some(refusal.code),
+        MessageRefusal::Unbuilt => Some(0),
+        MessageRefusal::NoMemory => None,
+    }
+}
+
+/// That code, and nothing where the message is read.
+fn refusal(alloc: Global, media: &[u8], body: &str) -> Option<u16> {
+    match read_message(alloc, media, body.as_bytes()) {
+        Ok(message) => {
+            drop(message);
+            None
+        }
+        Err(refusal) => {
+            let code = code_of(&refusal);
+            drop(refusal);
+            code
+        }
+    }
+}
+
+/// The same of the body with this change.
+fn refusal_with(alloc: Global, old: &str, new: &str) -> Option<u16> {
+    let body = changed(alloc, old, new)?;
+    refusal(alloc, MEDIA, body.as_str())
+}
+
+#[test]
+fn no_other_spelling_is_read(rt: HostRuntime) -> Result<(), Fail> {
+    let table = [
+        ("--\r\n", "--\r"),
+        ("--\r\n", "--\r\n\n"),
+        ("hello", "--as4-0000000000000000"),
+        ("hello\r\n", "hello\n"),
+        ("</eb:From>", "</eb:From>\n"),
+        (
+            "<eb:Service>orders</eb:Service><eb:Action>invoice</eb:Action>",
+            "<eb:Action>invoice</eb:Action><eb:Service>orders</eb:Service>",
+        ),
+        ("<eb:ConversationId>c1</eb:ConversationId>", ""),
+        ("m1@a", "&foo;"),
+        ("m1@a", "m1&lt;a"),
+        ("2025-01-02T", "2025-13-02T"),
+        ("Content-ID: <p1@a>", "Content-ID: <p2@a>"),
+    ];
+    for (old, new) in table {
+        let refusal = refusal_with(rt.alloc(), old, new);
+        assert_eq!(rt; refusal, Some(0), "{new} for {old}");
+    }
+    Ok(())
+}
+
+#[test]
+fn no_other_media_text_is_read(rt: HostRuntime) -> Result<(), Fail> {
+    let table: [(&[u8], &str, u16); 4] = [
+        (MEDIA, "", 0),
+        (b"multipart/related", BODY, 0),
+        (b"", BODY, 7),
+        (b"", "", 7),
+    ];
+    for (media, body, code) in table {
+        let refusal = refusal(rt.alloc(), media, body);
+        assert_eq!(rt;
+            refusal,
+            Some(code),
+            "{} and {} bytes",
+            media.len(),
+            body.len()
+        );
+    }
+    Ok(())
+}

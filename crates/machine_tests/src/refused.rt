@@ -1,0 +1,289 @@
+ghost use Rattle.std.specs.Prelude.{◌≡◌, IsTrue, IfSome};
+ghost use Rattle.end_tables.specs.Rooms.{HasRoom, queue_for};
+ghost use Rattle.exchange_model.specs.Apply.{is_fit};
+
+mod made;
+
+use as4_effects::{Effect, Queue};
+use as4_values::{Code, ErrorItem, MessageId, Seq, Severity};
+use end_tables::EndTables;
+use made::submitted;
+use refusals::refusals_of;
+use std::alloc::Global;
+use std::test::Fail;
+
+/// Makes room for the effect, where it fits.
+fn ready(tables: &mut EndTables, effect: &Effect) -> Option<Queue>
+    ensures fit { IfSome result (λ queue. IsTrue (is_fit effect.now tables.new.end)) }
+    ensures room { IfSome result (λ queue. HasRoom tables.new.rooms tables.new.end.sent effect.now) }
+    ensures queue { IfSome result (λ queue. queue ≡ queue_for tables.new.end.sent effect.now) }
+{
+    if !tables.fits(effect) {
+        return None;
+    }
+    match tables.reserve(effect) {
+        Ok(()) => tables.queue_for(effect).ok(),
+        Err(_) => None,
+    }
+}
+
+/// Makes the effect's change, where it fits.
+fn act(tables: &mut EndTables, effect: Effect) -> Option<()> {
+    match ready(tables, &effect) {
+        Some(queue) => {
+            tables.apply(effect, &queue);
+            drop(queue);
+            Some(())
+        }
+        None => {
+            drop(effect);
+            None
+        }
+    }
+}
+
+/// Takes in the submission of this number.
+fn takes_in(alloc: Global, tables: &mut EndTables, number: u64) -> Option<()> {
+    match submitted(alloc, number) {
+        Some(effect) => act(tables, effect),
+        None => None,
+    }
+}
+
+/// Takes in two submissions, of which the first is receipted where that is asked for.
+fn takes_in_two(alloc: Global, tables: &mut EndTables, receipted: bool) -> Option<()> {
+    takes_in(alloc, tables, 0)?;
+    takes_in(alloc, tables, 1)?;
+    if receipted {
+        act(tables, Effect::Receipted { number: 0 })
+    } else {
+        Some(())
+    }
+}
+
+/// An item of an error signal: how bad it is, its code, and the number of the submission that it names.
+#[derive(Clone, Copy)]
+struct Row<'a> {
+    severity: Severity,
+    code: &'a [u8],
+    about: Option<u64>,
+}
+
+/// The identifier of the submission of this number.
+fn id_of(alloc: Global, number: Option<u64>) -> Option<Option<MessageId>> {
+    match number {
+        Some(number) => Some(Some(MessageId::of_submission(alloc, number, 1).ok()?)),
+        None => Some(None),
+    }
+}
+
+fn item(alloc: Global, row: &Row<'_>) -> Option<ErrorItem> {
+    let about = id_of(alloc, row.about)?;
+    let code = Code::read(alloc, row.code).ok()?;
+    Some(ErrorItem {
+        code,
+        severity: row.severity,
+        origin: None,
+        category: None,
+        about,
+        short: None,
+        description: None,
+        detail: None,
+    })
+}
+
+/// Adds the item of this row.
+fn adds(alloc: Global, items: &mut Vec<ErrorItem>, row: &Row<'_>) -> bool {
+    match item(alloc, row) {
+        Some(item) => items.push(item).is_ok(),
+        None => false,
+    }
+}
+
+fn items(alloc: Global, rows: &[Row<'_>]) -> Option<Vec<ErrorItem>> {
+    let mut items = Vec::new(alloc);
+    for row in rows {
+        if !adds(alloc, &mut items, row) {
+            drop(items);
+            return None;
+        }
+    }
+    Some(items)
+}
+
+fn is_refusal(effect: &Effect, number: u64, code: &[u8]) -> bool {
+    match effect {
+        Effect::Refused {
+            number: other,
+            code: told,
+        } => *other == number && told.bytes() == code,
+        _ => false,
+    }
+}
+
+/// Whether the effects refuse these, in order, with these codes.
+fn are_refusals(effects: &[Effect], wanted: &[(u64, &[u8])]) -> bool {
+    if effects.len() != wanted.len() {
+        return false;
+    }
+    for (effect, (number, code)) in effects.iter().zip(wanted) {
+        if !is_refusal(effect, *number, code) {
+            return false;
+        }
+    }
+    true
+}
+
+/// Whether a signal that refers to this message, with these items, refuses these.
+fn refuses_by(
+    alloc: Global,
+    tables: &EndTables,
+    ref_to: &Option<MessageId>,
+    items: &[ErrorItem],
+    wanted: &[(u64, &[u8])],
+) -> Option<bool> {
+    if items.len() > 256 {
+        return None;
+    }
+    match refusals_of(alloc, tables, ref_to, items) {
+        Ok(effects) => {
+            let are = are_refusals(effects.items(), wanted);
+            drop(effects);
+            Some(are)
+        }
+        Err(error) => {
+            drop(error);
+            None
+        }
+    }
+}
+
+/// An error signal of the other end that finds two submissions.
+#[derive(Clone, Copy)]
+struct Case<'a> {
+    name: &'a str,
+    /// Whether the first is receipted; the others are pending.
+    receipted: bool,
+    /// The number of the submission that the signal refers to.
+    ref_to: Option<u64>,
+    rows: &'a [Row<'a>],
+    /// The numbers and codes of the refusals, in order.
+    wanted: &'a [(u64, &'a [u8])],
+}
+
+/// Whether the signal refuses in these tables what it should.
+fn refuses_in(alloc: Global, tables: &EndTables, case: &Case<'_>) -> Option<bool> {
+    let ref_to = id_of(alloc, case.ref_to)?;
+    let items = items(alloc, case.rows)?;
+    let refuses = refuses_by(alloc, tables, &ref_to, items.as_slice(), case.wanted);
+    drop(items);
+    refuses
+}
+
+/// Whether the signal refuses what it should.
+fn refuses(alloc: Global, case: &Case<'_>) -> Option<bool> {
+    let mut tables = EndTables::new(alloc);
+    let refuses = match takes_in_two(alloc, &mut tables, case.receipted) {
+        Some(()) => refuses_in(alloc, &tables, case),
+        None => None,
+    };
+    drop(tables);
+    refuses
+}
+
+/// Signals that come, and what each refuses.
+const CASES: [Case<'static>; 6] = [
+    Case {
+        name: "a failure refuses the submission that it names",
+        receipted: false,
+        ref_to: None,
+        rows: &[Row {
+            severity: Severity::Failure,
+            code: b"EBMS:0004",
+            about: Some(1),
+        }],
+        wanted: &[(1, b"EBMS:0004")],
+    },
+    Case {
+        name: "a warning refuses none",
+        receipted: false,
+        ref_to: Some(0),
+        rows: &[Row {
+            severity: Severity::Warning,
+            code: b"EBMS:0004",
+            about: Some(1),
+        }],
+        wanted: &[],
+    },
+    Case {
+        name: "of two failures the first refuses",
+        receipted: false,
+        ref_to: None,
+        rows: &[
+            Row {
+                severity: Severity::Failure,
+                code: b"EBMS:0102",
+                about: Some(1),
+            },
+            Row {
+                severity: Severity::Failure,
+                code: b"EBMS:0004",
+                about: Some(0),
+            },
+            Row {
+                severity: Severity::Failure,
+                code: b"EBMS:0001",
+                about: Some(1),
+            },
+        ],
+        wanted: &[(1, b"EBMS:0102"), (0, b"EBMS:0004")],
+    },
+    Case {
+        name: "a failure that names none refuses what its signal refers to",
+        receipted: false,
+        ref_to: Some(1),
+        rows: &[Row {
+            severity: Severity::Failure,
+            code: b"EBMS:0004",
+            about: None,
+        }],
+        wanted: &[(1, b"EBMS:0004")],
+    },
+    Case {
+        name: "a failure that names none, in a signal that refers to none",
+        receipted: false,
+        ref_to: None,
+        rows: &[Row {
+            severity: Severity::Failure,
+            code: b"EBMS:0004",
+            about: None,
+        }],
+        wanted: &[],
+    },
+    Case {
+        name: "what is unknown or settled is not refused",
+        receipted: true,
+        ref_to: Some(1),
+        rows: &[
+            Row {
+                severity: Severity::Failure,
+                code: b"EBMS:0004",
+                about: Some(2),
+            },
+            Row {
+                severity: Severity::Failure,
+                code: b"EBMS:0004",
+                about: Some(0),
+            },
+        ],
+        wanted: &[],
+    },
+];
+
+#[test]
+fn an_error_signal_refuses_what_its_failures_are_about(rt: HostRuntime) -> Result<(), Fail> {
+    for case in &CASES {
+        assert_eq!(rt; refuses(rt.alloc(), case), Some(true), "{}", case.name);
+    }
+    Ok(())
+}

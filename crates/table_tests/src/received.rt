@@ -1,0 +1,165 @@
+ghost use Rattle.std.specs.Prelude.{◌≡◌, IfSome, length};
+
+use as4_values::{
+    MessageId, Octets, Party, Payload, Seq, Service, Side, StampText, Text, UserHeader, read_stamp,
+};
+use inbox::{Held, Inbox};
+use std::alloc::Global;
+
+fn text(alloc: Global, word: &[u8]) -> Option<Text> {
+    Text::read(alloc, word).ok()
+}
+
+fn side(alloc: Global, id: &[u8]) -> Option<Side> {
+    let role = text(alloc, b"r")?;
+    let party = Party {
+        id: text(alloc, id)?,
+        kind: None,
+    };
+    let parties = Seq::of(vec![in alloc; party].ok()?);
+    Some(Side { parties, role })
+}
+
+/// The stamp, the identifier, the service and the action of the message of this identifier.
+fn words(alloc: Global, id: &[u8]) -> Option<(StampText, MessageId, Text, Text)> {
+    let stamp = read_stamp(alloc, b"2025-01-02T03:04:05Z").ok()?;
+    let id = MessageId::read(alloc, id).ok()?;
+    let service = text(alloc, b"s")?;
+    let action = text(alloc, b"act")?;
+    Some((stamp, id, service, action))
+}
+
+/// What was made is let go by name, which is proved sooner than where its scope ends.
+fn header(alloc: Global, id: &[u8]) -> Option<UserHeader> {
+    let (stamp, id, value, action) = words(alloc, id)?;
+    match (side(alloc, b"a"), side(alloc, b"b")) {
+        (Some(from), Some(to)) => Some(UserHeader {
+            mpc: None,
+            stamp,
+            id,
+            ref_to: None,
+            from,
+            to,
+            agreement: None,
+            service: Service { value, kind: None },
+            action,
+            conversation: None,
+            properties: Seq::of(Vec::new(alloc)),
+            parts: Seq::of(Vec::new(alloc)),
+        }),
+        (from, to) => {
+            drop(from);
+            drop(to);
+            drop(stamp);
+            drop(id);
+            drop(value);
+            drop(action);
+            None
+        }
+    }
+}
+
+/// One payload of no bytes.
+fn payloads(alloc: Global) -> Option<Seq<Payload>> {
+    let name = MessageId::read(alloc, b"p").ok()?;
+    let payload = Payload {
+        cid: Octets::of(Vec::from_slice(alloc, name.bytes()).ok()?),
+        media: Octets::of(Vec::new(alloc)),
+        content: Octets::of(Vec::new(alloc)),
+    };
+    Some(Seq::of(vec![in alloc; payload].ok()?))
+}
+
+/// An inbox to which this message came. (What was made is let go by name, which is proved sooner than where its scope
+/// ends.)
+#[tactic(auto, unfolding(exchange_model::specs::Questions::is_known))]
+fn filled(alloc: Global, header: UserHeader, payloads: Seq<Payload>) -> Option<Inbox>
+    ensures { IfSome result (λ inbox. (length inbox.entries ≡ 1) × (inbox.confirmed ≡ 0)) }
+{
+    let mut inbox = Inbox::new(alloc);
+    match inbox.reserve(&header.id) {
+        Ok(()) => {
+            inbox.commit(header, payloads);
+            Some(inbox)
+        }
+        Err(_) => {
+            drop(header);
+            drop(payloads);
+            drop(inbox);
+            None
+        }
+    }
+}
+
+fn one_message(alloc: Global) -> Option<Inbox>
+    ensures { IfSome result (λ inbox. (length inbox.entries ≡ 1) × (inbox.confirmed ≡ 0)) }
+{
+    match (header(alloc, b"m1"), payloads(alloc)) {
+        (Some(header), Some(payloads)) => filled(alloc, header, payloads),
+        (header, payloads) => {
+            drop(header);
+            drop(payloads);
+            None
+        }
+    }
+}
+
+/// Whether a message of this identifier came.
+fn holds(alloc: Global, inbox: &Inbox, id: &[u8]) -> Option<bool> {
+    Some(inbox.holds(&MessageId::read(alloc, id).ok()?))
+}
+
+/// Whether this is the message above, with its payload.
+fn is_the_message(held: Held<'_>) -> bool {
+    match held {
+        Held::Entry { header, payloads } => match payloads.items() {
+            [payload] => header.id.bytes() == b"m1".as_slice()
+                && payload.cid.bytes() == b"p".as_slice(),
+            _ => false,
+        },
+        _ => false,
+    }
+}
+
+/// How many messages came, how many were taken over, and whether the first can be read, is gone, and is the last; of an
+/// inbox of one message, and of the same once it is taken over.
+fn told(alloc: Global) -> Option<[(u64, u64, [bool; 3]); 2]> {
+    let mut inbox = one_message(alloc)?;
+    let before = told_of(&inbox);
+    inbox.confirm(0);
+    let after = told_of(&inbox);
+    drop(inbox);
+    Some([before, after])
+}
+
+fn told_of(inbox: &Inbox) -> (u64, u64, [bool; 3]) {
+    let read = is_the_message(inbox.read(0));
+    let gone = matches!(inbox.read(0), Held::Gone);
+    let last = matches!(inbox.read(1), Held::NoEntry);
+    (inbox.len(), inbox.confirmed(), [read, gone, last])
+}
+
+#[test]
+fn a_message_is_read_until_it_is_taken_over(rt: HostRuntime) {
+    let wanted = [(1, 0, [true, false, true]), (1, 1, [false, true, true])];
+    assert_eq!(rt; told(rt.alloc()), Some(wanted));
+}
+
+/// Whether the identifiers `m1` and `m2` are held where `m1` came, and whether `m1` is once it is taken over.
+fn held_ids(alloc: Global) -> Option<[Option<bool>; 3]> {
+    let mut inbox = one_message(alloc)?;
+    let one = holds(alloc, &inbox, b"m1");
+    let other = holds(alloc, &inbox, b"m2");
+    inbox.confirm(0);
+    let after = holds(alloc, &inbox, b"m1");
+    drop(inbox);
+    Some([one, other, after])
+}
+
+#[test]
+fn an_identifier_is_held_for_good(rt: HostRuntime) {
+    assert_eq!(rt;
+        held_ids(rt.alloc()),
+        Some([Some(true), Some(false), Some(true)])
+    );
+}

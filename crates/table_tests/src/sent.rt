@@ -1,0 +1,295 @@
+ghost use Rattle.std.specs.Prelude.{IsTrue};
+ghost use Rattle.exchange_model.specs.Questions.{is_pending, is_waiting, sent_at};
+ghost use Rattle.exchange_model.specs.Apply.{is_one};
+
+mod made;
+
+use as4_effects::Submission;
+use as4_values::{Code, MAX_MOMENT, MessageId};
+use exchange_model::Standing;
+use made::submission;
+use outbox::Outbox;
+use std::alloc::Global;
+
+/// What was made is let go by name, which is proved sooner than where its scope ends.
+fn submit(outbox: &mut Outbox, submission: Submission) -> Option<()> {
+    if outbox.len() != submission.number || outbox.number_of(&submission.header.id).is_some() {
+        drop(submission);
+        return None;
+    }
+    match outbox.reserve(&submission.header.id) {
+        Ok(()) => {
+            outbox.commit_submit(submission);
+            Some(())
+        }
+        Err(_) => {
+            drop(submission);
+            None
+        }
+    }
+}
+
+/// An outbox of submissions that are sent again so often.
+fn outbox_of(alloc: Global, retries: &[u32]) -> Option<Outbox> {
+    let mut outbox = Outbox::new(alloc);
+    match submit_all(alloc, &mut outbox, retries) {
+        Some(()) => Some(outbox),
+        None => {
+            drop(outbox);
+            None
+        }
+    }
+}
+
+fn submit_all(alloc: Global, outbox: &mut Outbox, retries: &[u32]) -> Option<()> {
+    for (at, retries) in retries.iter().enumerate() {
+        submit(outbox, submission(alloc, at as u64, *retries)?)?;
+    }
+    Some(())
+}
+
+/// The number that is told of the identifier of this number and nonce.
+fn number_of(alloc: Global, outbox: &Outbox, number: u64, nonce: u128) -> Option<Option<u64>> {
+    let id = MessageId::of_submission(alloc, number, nonce).ok()?;
+    Some(outbox.number_of(&id))
+}
+
+fn waits(outbox: &Outbox, number: u64) -> bool
+    ensures { IsTrue result → IsTrue (is_one is_waiting (sent_at number outbox.now.sent)) }
+{
+    let Some(Standing::Pending { tries }) = outbox.status(number) else {
+        return false;
+    };
+    let Some(submission) = outbox.get(number) else {
+        return false;
+    };
+    tries <= submission.retries
+}
+
+fn pends(outbox: &Outbox, number: u64) -> bool
+    ensures { IsTrue result → IsTrue (is_one is_pending (sent_at number outbox.now.sent)) }
+{
+    let Some(Standing::Pending { .. }) = outbox.status(number) else {
+        return false;
+    };
+    true
+}
+
+fn try_at(outbox: &mut Outbox, number: u64, moment: u64) -> bool {
+    if moment > MAX_MOMENT || !waits(outbox, number) {
+        return false;
+    }
+    outbox.mark_tried(number, moment);
+    true
+}
+
+fn receipt(outbox: &mut Outbox, number: u64) -> bool {
+    if !pends(outbox, number) {
+        return false;
+    }
+    outbox.mark_receipted(number);
+    true
+}
+
+fn refuse(outbox: &mut Outbox, number: u64, code: Code) -> bool {
+    if !pends(outbox, number) {
+        drop(code);
+        return false;
+    }
+    outbox.mark_ended(number, code);
+    true
+}
+
+/// The submission is refused with the code `EBMS:0004`.
+fn refuse_by_code(alloc: Global, outbox: &mut Outbox, number: u64) -> bool {
+    match Code::read(alloc, b"EBMS:0004") {
+        Ok(code) => refuse(outbox, number, code),
+        Err(_) => false,
+    }
+}
+
+/// Whether this code is told of the submission.
+fn has_code(outbox: &Outbox, number: u64, code: &[u8]) -> bool {
+    match outbox.refused_code(number) {
+        Some(told) => told.bytes() == code,
+        None => false,
+    }
+}
+
+/// What is done with an outbox, or asked of it.
+#[derive(Clone, Copy, Debug)]
+enum Step {
+    Try { number: u64, moment: u64 },
+    Receipt(u64),
+    Refuse(u64),
+    FailSpent(u64),
+    Len,
+    NumberOf { number: u64, nonce: u128 },
+    Status(u64),
+    Due(u64),
+    HasNoCode(u64),
+    HasCode(u64),
+}
+
+/// What it says.
+#[derive(Clone, Copy, Debug, PartialEq, Eq)]
+enum Said {
+    Done,
+    NotDone,
+    Count(u64),
+    Number(Option<u64>),
+    Status(Option<Standing>),
+    Due(Option<u64>),
+}
+
+fn said_if(done: bool) -> Said {
+    if done { Said::Done } else { Said::NotDone }
+}
+
+fn answer(alloc: Global, outbox: &mut Outbox, step: Step) -> Option<Said> {
+    Some(match step {
+        Step::Try { number, moment } => said_if(try_at(outbox, number, moment)),
+        Step::Receipt(number) => said_if(receipt(outbox, number)),
+        Step::Refuse(number) => said_if(refuse_by_code(alloc, outbox, number)),
+        Step::FailSpent(moment) => Said::Count(outbox.fail_spent(moment)),
+        Step::Len => Said::Count(outbox.len()),
+        Step::NumberOf { number, nonce } => {
+            Said::Number(number_of(alloc, outbox, number, nonce)?)
+        }
+        Step::Status(number) => Said::Status(outbox.status(number)),
+        Step::Due(number) => Said::Due(outbox.due(number)),
+        Step::HasNoCode(number) => said_if(outbox.refused_code(number).is_none()),
+        Step::HasCode(number) => said_if(has_code(outbox, number, b"EBMS:0004")),
+    })
+}
+
+/// How many rows, from the first on, say what they should.
+fn right_of(alloc: Global, outbox: &mut Outbox, rows: &[(Step, Said)]) -> usize {
+    for (at, (step, wanted)) in rows.iter().enumerate() {
+        if answer(alloc, outbox, *step) != Some(*wanted) {
+            return at;
+        }
+    }
+    rows.len()
+}
+
+/// The same, at a new outbox of submissions that are sent again so often.
+fn right(alloc: Global, retries: &[u32], rows: &[(Step, Said)]) -> Option<usize> {
+    let mut outbox = outbox_of(alloc, retries)?;
+    let count = right_of(alloc, &mut outbox, rows);
+    drop(outbox);
+    Some(count)
+}
+
+const UNTRIED: Said = Said::Status(Some(Standing::Pending { tries: 0 }));
+
+const TRIED_ONCE: Said = Said::Status(Some(Standing::Pending { tries: 1 }));
+
+const TRIED_TWICE: Said = Said::Status(Some(Standing::Pending { tries: 2 }));
+
+#[test]
+fn submissions_stand_at_their_numbers(rt: HostRuntime) {
+    let rows = [
+        (Step::Len, Said::Count(2)),
+        (
+            Step::NumberOf {
+                number: 0,
+                nonce: 1,
+            },
+            Said::Number(Some(0)),
+        ),
+        (Step::Status(0), UNTRIED),
+        (Step::Due(0), Said::Due(Some(1000))),
+        (
+            Step::NumberOf {
+                number: 1,
+                nonce: 1,
+            },
+            Said::Number(Some(1)),
+        ),
+        (Step::Status(1), UNTRIED),
+        (Step::Due(1), Said::Due(Some(1000))),
+        (
+            Step::NumberOf {
+                number: 1,
+                nonce: 2,
+            },
+            Said::Number(None),
+        ),
+        (Step::Status(2), Said::Status(None)),
+    ];
+    assert_eq!(rt; right(rt.alloc(), &[0, 0], &rows), Some(rows.len()));
+}
+
+#[test]
+fn tries_receipts_and_errors_are_kept(rt: HostRuntime) {
+    let rows = [
+        (
+            Step::Try {
+                number: 0,
+                moment: 5000,
+            },
+            Said::Done,
+        ),
+        (Step::Status(0), TRIED_ONCE),
+        (Step::Due(0), Said::Due(Some(65_000))),
+        (Step::Receipt(0), Said::Done),
+        (Step::Status(0), Said::Status(Some(Standing::Receipted))),
+        (Step::Refuse(1), Said::Done),
+        (Step::Status(1), Said::Status(Some(Standing::Refused))),
+        (Step::HasNoCode(0), Said::Done),
+        (Step::HasCode(1), Said::Done),
+    ];
+    assert_eq!(rt; right(rt.alloc(), &[0, 0], &rows), Some(rows.len()));
+}
+
+#[test]
+fn one_without_retries_is_given_up_a_period_after_its_try(rt: HostRuntime) {
+    let rows = [
+        (
+            Step::Try {
+                number: 0,
+                moment: 5000,
+            },
+            Said::Done,
+        ),
+        (Step::FailSpent(64_999), Said::Count(0)),
+        (Step::Status(0), TRIED_ONCE),
+        (Step::FailSpent(65_000), Said::Count(1)),
+        (Step::Status(0), Said::Status(Some(Standing::Failed))),
+        (Step::FailSpent(65_000), Said::Count(0)),
+    ];
+    assert_eq!(rt; right(rt.alloc(), &[0], &rows), Some(rows.len()));
+}
+
+#[test]
+fn one_with_tries_left_or_a_receipt_is_not_given_up(rt: HostRuntime) {
+    let rows = [
+        (
+            Step::Try {
+                number: 0,
+                moment: 1000,
+            },
+            Said::Done,
+        ),
+        (
+            Step::Try {
+                number: 0,
+                moment: 61_000,
+            },
+            Said::Done,
+        ),
+        (
+            Step::Try {
+                number: 1,
+                moment: 1000,
+            },
+            Said::Done,
+        ),
+        (Step::Receipt(1), Said::Done),
+        (Step::FailSpent(MAX_MOMENT), Said::Count(0)),
+        (Step::Status(0), TRIED_TWICE),
+        (Step::Status(1), Said::Status(Some(Standing::Receipted))),
+    ];
+    assert_eq!(rt; right(rt.alloc(), &[2, 0], &rows), Some(rows.len()));
+}
