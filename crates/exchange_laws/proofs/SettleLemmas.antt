@@ -85,9 +85,10 @@ pub settled_or_stood : (modes : List Mode) (end : End) (event : Event) (outcome 
     → Has end.sent t ⊎ (outcome.effects ≡ effect.Receipted t.submission.number ∷ [])
 unfolding applied after
 settled_or_stood modes end event outcome signal copy t numbered step came receipt names h =
-    elim (step_done modes end event outcome signal copy step came receipt)
-    [ inl none ↦ inl (subst (λ (effects : List Effect). Has (applied effects end).sent t) none h)
-    | inr done ↦ inr (receipted done.0 done.1 done.2) ]
+    elim (step_done modes end event outcome signal copy step came receipt) [
+      | inl none ↦ inl (subst (λ (effects : List Effect). Has (applied effects end).sent t) none h)
+      | inr done ↦ inr (receipted done.0 done.1 done.2)
+    ]
   where
     receipted : (s : Sent) → option_and_then (λ ref. sent_of ref end.sent) signal.ref_to ≡ Some s
         → outcome.effects ≡ effect.Receipted s.submission.number ∷ []
