@@ -1,3 +1,3 @@
-mod ListLemmas
+pub mod ListLemmas
 mod ModeLemmas
 mod PatternLemmas
