@@ -8,7 +8,7 @@ ghost use Rattle.as4_codes.specs.Rows.{row_of};
 use crate::rows::{Row, find, table};
 use as4_values::{
     Code, ErrorItem, IdRefusal, MAX_MOMENT, MessageId, NoMemory, PlainData, Seq, Signal,
-    SignalBody, Text, TextRefusal, stamp_text,
+    SignalBody, Text, stamp_text,
 };
 use std::alloc::Global;
 
@@ -27,16 +27,26 @@ pub fn error_signal(
     ensures { IfOk result (λ signal. IsErrorSignalOf code (option_copied about.entry) stamp nonce signal) }
 {
     let row = row_at(code);
-    let stamp = stamp_text(alloc, stamp)?;
-    let id = MessageId::of_signal(alloc, nonce)?;
-    let ref_to = copy_of(alloc, about)?;
-    let items = items_of(alloc, row, about)?;
-    Ok(Signal {
-        stamp,
-        id,
-        ref_to,
-        body: SignalBody::Errors { items },
-    })
+    match (
+        stamp_text(alloc, stamp),
+        MessageId::of_signal(alloc, nonce),
+        copy_of(alloc, about),
+        items_of(alloc, row, about),
+    ) {
+        (Ok(stamp), Ok(id), Ok(ref_to), Ok(items)) => Ok(Signal {
+            stamp,
+            id,
+            ref_to,
+            body: SignalBody::Errors { items },
+        }),
+        (stamp, id, ref_to, items) => {
+            drop(stamp);
+            drop(id);
+            drop(ref_to);
+            drop(items);
+            Err(NoMemory)
+        }
+    }
 }
 
 /// The row of a code that the table has.
@@ -60,17 +70,40 @@ fn items_of(alloc: Global, row: &Row, about: Option<&MessageId>) -> Result<Seq<E
     requires category { IsPlainText row.now.category.now }
     ensures { IfOk result (λ items. items ≡ error_item (row_of row.now) (option_copied about.entry) ∷ []) }
 {
-    let item = ErrorItem {
-        code: code_of(alloc, row.code)?,
-        severity: row.severity,
-        origin: None,
-        category: Some(text_of(alloc, row.category)?),
-        about: copy_of(alloc, about)?,
-        short: Some(text_of(alloc, row.short)?),
-        description: None,
-        detail: None,
-    };
+    let item = item_of(alloc, row, about)?;
     Ok(Seq::of(vec![in alloc; item]?))
+}
+
+fn item_of(alloc: Global, row: &Row, about: Option<&MessageId>) -> Result<ErrorItem, NoMemory>
+    requires sendable { row.now.code < 10000 }
+    requires short { IsPlainText row.now.short.now }
+    requires category { IsPlainText row.now.category.now }
+    ensures { IfOk result (λ item. item ≡ error_item (row_of row.now) (option_copied about.entry)) }
+{
+    match (
+        code_of(alloc, row.code),
+        Text::plain(alloc, row.category.as_bytes()),
+        copy_of(alloc, about),
+        Text::plain(alloc, row.short.as_bytes()),
+    ) {
+        (Ok(code), Ok(category), Ok(about), Ok(short)) => Ok(ErrorItem {
+            code,
+            severity: row.severity,
+            origin: None,
+            category: Some(category),
+            about,
+            short: Some(short),
+            description: None,
+            detail: None,
+        }),
+        (code, category, about, short) => {
+            drop(code);
+            drop(category);
+            drop(about);
+            drop(short);
+            Err(NoMemory)
+        }
+    }
 }
 
 /// The bytes of `EBMS:` and the four decimal digits of the code.
@@ -94,18 +127,6 @@ fn code_of(alloc: Global, code: u16) -> Result<Code, NoMemory>
         Ok(code) => Ok(code),
         Err(IdRefusal::NoMemory) => Err(NoMemory),
         Err(IdRefusal::BadId { .. }) => unreachable!(),
-    }
-}
-
-/// The text that a plain word is.
-fn text_of(alloc: Global, word: &str) -> Result<Text, NoMemory>
-    requires { IsPlainText word.now }
-    ensures { IfOk result (λ text. text ≡ word.now) }
-{
-    match Text::read(alloc, word.as_bytes()) {
-        Ok(text) => Ok(text),
-        Err(TextRefusal::NoMemory) => Err(NoMemory),
-        Err(TextRefusal::BadText { .. }) => unreachable!(),
     }
 }
 

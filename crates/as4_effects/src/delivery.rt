@@ -17,10 +17,14 @@ pub struct Delivery {
 
 impl PlainData for Delivery {
     fn try_clone(&self, alloc: Global) -> Result<Delivery, NoMemory> {
-        Ok(Delivery {
-            header: self.header.try_clone(alloc)?,
-            payloads: self.payloads.try_clone(alloc)?,
-        })
+        let header = self.header.try_clone(alloc)?;
+        match self.payloads.try_clone(alloc) {
+            Ok(payloads) => Ok(Delivery { header, payloads }),
+            Err(error) => {
+                drop(header);
+                Err(error)
+            }
+        }
     }
 
     fn same(&self, other: &Delivery) -> bool {

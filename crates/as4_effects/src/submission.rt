@@ -34,15 +34,27 @@ pub struct Submission {
 
 impl PlainData for Submission {
     fn try_clone(&self, alloc: Global) -> Result<Submission, NoMemory> {
-        Ok(Submission {
-            number: self.number,
-            header: self.header.try_clone(alloc)?,
-            payloads: self.payloads.try_clone(alloc)?,
-            route: self.route.try_clone(alloc)?,
-            retries: self.retries,
-            period: self.period,
-            moment: self.moment,
-        })
+        match (
+            self.header.try_clone(alloc),
+            self.payloads.try_clone(alloc),
+            self.route.try_clone(alloc),
+        ) {
+            (Ok(header), Ok(payloads), Ok(route)) => Ok(Submission {
+                number: self.number,
+                header,
+                payloads,
+                route,
+                retries: self.retries,
+                period: self.period,
+                moment: self.moment,
+            }),
+            (header, payloads, route) => {
+                drop(header);
+                drop(payloads);
+                drop(route);
+                Err(NoMemory)
+            }
+        }
     }
 
     fn same(&self, other: &Submission) -> bool {

@@ -2,17 +2,12 @@
 -- local name may be isn't asked.
 use Rattle.std.specs.Prelude.{ℕ, ◌-◌, List, [], ◌∷◌, Bool, true, not, ◌&&◌, ◌||◌, ◌==◌, nat_le, bytes_eq, length}
 use Rattle.std.specs.List.{list_all, list_any}
-use Rattle.std.specs.Str.{chars, is_utf8}
-use Rattle.as4_values.specs.Texts.{is_xml_char}
+use Rattle.as4_values.specs.Texts.{is_xml}
 use Rattle.as4_envelope.specs.declared.tree.Attribute.{Attribute}
 use Rattle.as4_envelope.specs.declared.tree.Element.{Element}
 use Rattle.as4_envelope.specs.declared.tree.Element.TheOpen.{Element-F}
 use Rattle.as4_envelope.specs.declared.tree.Element.TheFolds.{fold-Element}
 use Rattle.as4_envelope.specs.Tree.{soap, ebms}
-
--- characters that a document may hold, in UTF-8 (XML 1.0, section 2.2)
-unfoldable pub is_xml : List ℕ → Bool
-is_xml bytes = is_utf8 bytes && list_all is_xml_char (chars bytes)
 
 -- a namespace that has a prefix
 unfoldable pub has_prefix : List ℕ → Bool

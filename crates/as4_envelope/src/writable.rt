@@ -2,14 +2,13 @@
 
 ghost use Rattle.std.specs.Prelude.{◌≡◌};
 ghost use Rattle.std.specs.List.{list_all, list_any};
-ghost use Rattle.std.specs.Str.{chars};
-ghost use Rattle.as4_envelope.specs.Writable.{is_xml, has_prefix, is_attribute, same_name, names_differ, is_sound, fits, is_writable};
+ghost use Rattle.as4_envelope.specs.Writable.{has_prefix, is_attribute, same_name, names_differ, is_sound, fits, is_writable};
 ghost use Rattle.as4_envelope.specs.declared.tree.Element.TheViews.{out-Element};
-ghost use Rattle.as4_values.specs.Texts.{is_xml_char};
+ghost use Rattle.as4_values.specs.Texts.{is_xml};
 
 use crate::tree::{Attribute, Element};
 use crate::write::{EBMS, SOAP};
-use as4_values::Octets;
+use as4_values::{Octets, first_not_xml};
 
 /// How deep a tree may be; its outermost element has depth 1.
 pub const MAX_DEPTH: usize = 32;
@@ -106,21 +105,5 @@ fn same_name(one: &Attribute, other: &Attribute) -> bool
 fn is_xml(bytes: &[u8]) -> bool
     ensures { result ≡ is_xml bytes.now }
 {
-    match str::from_utf8(bytes) {
-        Ok(text) => is_xml_text(text),
-        Err(_) => false,
-    }
-}
-
-fn is_xml_text(text: &str) -> bool
-    ensures { result ≡ list_all is_xml_char (chars text.now) }
-{
-    text.chars().all(is_xml_char)
-}
-
-/// Whether a document may hold the character (XML 1.0, section 2.2).
-fn is_xml_char(c: char) -> bool
-    ensures { result ≡ is_xml_char c }
-{
-    matches!(c, '\t' | '\n' | '\r' | ' '..='\u{D7FF}' | '\u{E000}'..='\u{FFFD}' | '\u{10000}'..)
+    first_not_xml(bytes).is_none()
 }

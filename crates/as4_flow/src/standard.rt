@@ -1,11 +1,11 @@
 //! The system's streams as a source and a sink. The system says nothing of content, so these tell nothing; what
 //! they keep is a count of the faults.
-ghost use Rattle.std.specs.Prelude.{◌≡◌, ℕ, List, [], Some, None, if◌then◌else◌, ◌<◌, ◌≤◌, length, take, drop, IfSome, IfNone, IfOk, OnOk, OnErr};
+ghost use Rattle.std.specs.Prelude.{◌≡◌, ℕ, List, [], Some, None, if◌then◌else◌, ◌<◌, ◌≤◌, length, take, drop, IfSome, IfNone, IfOk};
 ghost use Rattle.std.specs.Io.KnownBytes.{Consumes, Appends, Keeps, IsAtEnd};
 ghost use Rattle.as4_flow.specs.Told.{Told, before, behind};
 ghost use Rattle.as4_flow.specs.Faults.{one_more, Rose};
 
-use crate::{Got, Put, SendFailed, Sink, Source};
+use crate::{Got, Put, Sink, Source};
 use std::alloc::{AllocError, Global};
 use std::io::{ErrorKind, Read, Write};
 
@@ -124,7 +124,7 @@ fn read_some<R: Read>(reader: &mut R, room: &mut [u8]) -> Option<usize>
 }
 
 /// Any writer of std as a sink, as standard output or a socket. Hand in a writer without a buffer: what one
-/// `write` took has then reached the stream. Behind a buffer it has only after a `flush`.
+/// `write` took has then reached the stream, and nothing is flushed.
 #[derive(Drop)]
 pub struct WriterSink<W: Write + Drop> {
     writer: W,
@@ -139,21 +139,6 @@ impl<W: Write + Drop> WriterSink<W> {
         ensures faults { write_faults result ≡ 0 }
     {
         WriterSink { writer, faults: 0 }
-    }
-
-    /// Sends on what the writer has in a buffer of its own. A failure counts as a fault.
-    pub fn flush(&mut self) -> Result<(), SendFailed>
-        ensures ok { OnOk result (write_faults self.new ≡ write_faults self.old) }
-        ensures err { OnErr result (write_faults self.new ≡ one_more (write_faults self.old)) }
-        ensures keeps { Keeps (W.contents (writer_of self.old)) (W.contents (writer_of self.new)) }
-    {
-        match self.writer.flush() {
-            Ok(()) => Ok(()),
-            Err(_) => {
-                self.faults = self.faults.saturating_add(1);
-                Err(SendFailed)
-            }
-        }
     }
 }
 

@@ -4,7 +4,7 @@ use Rattle.std.specs.Prelude.{codes, unwrap_or}
 use Rattle.message_model.specs.Wire.{message_file}
 use Rattle.message_model.specs.Package.{crlf, package_media, hex_digits}
 use Rattle.as4_message.specs.PlainReading.{IsFreeOf}
-use Rattle.as4_message.specs.FileReading.{file_at, parts_of}
+use Rattle.as4_message.specs.FileReading.{file_at, media_and_body}
 use Rattle.as4_message.proofs.CutLemmas.{cut_free}
 use Rattle.as4_message.proofs.ReadingLemmas.{behind_again, free_of}
 
@@ -43,8 +43,8 @@ parts_of_file file media whole body some is =
     (ap (λ (p : List ℕ × List ℕ). p.0) pair, ap (λ (p : List ℕ × List ℕ). p.1) pair)
 
 -- the media text of a file that is taken apart, and of one that isn't
-pub parts_some : (file media body : List ℕ) → Some (media, body) ≡ file_at file → (parts_of file).0 ≡ media
+pub parts_some : (file media body : List ℕ) → Some (media, body) ≡ file_at file → (media_and_body file).0 ≡ media
 parts_some file media body is = sym (ap (λ (o : Option (List ℕ × List ℕ)). (unwrap_or o ([], [])).0) is)
 
-pub parts_none : (file : List ℕ) → None ≡ file_at file → (parts_of file).0 ≡ []
+pub parts_none : (file : List ℕ) → None ≡ file_at file → (media_and_body file).0 ≡ []
 parts_none file is = sym (ap (λ (o : Option (List ℕ × List ℕ)). (unwrap_or o ([], [])).0) is)

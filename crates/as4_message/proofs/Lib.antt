@@ -1,5 +1,6 @@
 pub mod CanonicalLemmas
 pub mod CutLemmas
+pub mod EscapeCases
 pub mod FileLemmas
 pub mod MessageLemmas
 pub mod PackageLemmas
@@ -7,5 +8,5 @@ pub mod PlainLemmas
 pub mod ReadingLemmas
 pub mod UnescapeLemmas
 pub mod ValueLemmas
-pub mod WireLemmas
 pub mod RefusalLemmas
+pub mod WireLemmas

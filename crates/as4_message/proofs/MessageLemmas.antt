@@ -6,7 +6,7 @@ use Rattle.std.proofs.lemmas.Bool.Decides.{nat_tests}
 use Rattle.std.proofs.lemmas.List.Elements.{All-nil, All-cons}
 use Rattle.as4_values.specs.Word.{IsWord, allows}
 use Rattle.as4_values.specs.declared.word.Word.TheVariants.{Identifier}
-use Rattle.as4_values.specs.Payload.{IsContentId, IsMediaText}
+use Rattle.as4_values.specs.Payload.{IsContentId, is_media_text}
 use Rattle.as4_values.specs.PlainTexts.{IsPlainText}
 use Rattle.as4_values.specs.declared.payload.Payload.{Payload}
 use Rattle.as4_values.specs.declared.header.UserHeader.{UserHeader}
@@ -25,18 +25,18 @@ use Rattle.as4_message.proofs.WireLemmas.{parts_of_wire}
 named_once : (cid : List ℕ) → IsProp (IsContentId cid)
 named_once cid = hlevel props
 
-typed_once : (media : List ℕ) → IsProp (IsMediaText media)
+typed_once : (media : List ℕ) → IsProp (IsTrue (is_media_text media))
 typed_once media = hlevel props
 
 -- the proofs that a payload is named and typed make no difference
 pub same_payload : (a b : Payload) → a.cid ≡ b.cid → a.media ≡ b.media → a.content ≡ b.content → a ≡ b
 same_payload a b cid media content =
-    let made = λ (x : List ℕ) (y : List ℕ) (z : List ℕ) (named : IsContentId x) (typed : IsMediaText y). let payload : Payload = record { cid = x; media = y; content = z; named = named; typed = typed } in payload in
+    let made = λ (x : List ℕ) (y : List ℕ) (z : List ℕ) (named : IsContentId x) (typed : IsTrue (is_media_text y)). let payload : Payload = record { cid = x; media = y; content = z; named = named; typed = typed } in payload in
     subst (λ (x : List ℕ). (named : IsContentId x) → made x a.media a.content named a.typed ≡ b) (sym cid)
-    (λ named. subst (λ (y : List ℕ). (typed : IsMediaText y) → made b.cid y a.content named typed ≡ b) (sym media)
+    (λ named. subst (λ (y : List ℕ). (typed : IsTrue (is_media_text y)) → made b.cid y a.content named typed ≡ b) (sym media)
     (λ typed. ap (λ (z : List ℕ). made b.cid b.media z named typed) content
     ∙ ap (λ (n : IsContentId b.cid). made b.cid b.media b.content n typed) (named_once b.cid named b.named)
-    ∙ ap (λ (t : IsMediaText b.media). made b.cid b.media b.content b.named t) (typed_once b.media typed b.typed))
+    ∙ ap (λ (t : IsTrue (is_media_text b.media)). made b.cid b.media b.content b.named t) (typed_once b.media typed b.typed))
     a.typed)
     a.named
 

@@ -6,7 +6,7 @@ use Rattle.std.proofs.lemmas.Slice.Eq.{ends_is}
 use Rattle.std.proofs.lemmas.Bool.Decides.{Decides-eqb}
 use Rattle.std.proofs.lemmas.List.{take_at}
 use Rattle.message_model.specs.Package.{crlf, dash_boundary, hex_digits, Occurs}
-use Rattle.as4_message.specs.PlainReading.{behind, before_byte, from_byte}
+use Rattle.as4_message.specs.PlainReading.{behind_front, before_byte, from_byte}
 use Rattle.as4_message.specs.PlainPackage.{Parts, root_start, cid_start, media_start, content_start, package_end, raw_package, without_line_end, ended_part, package_at}
 use Rattle.as4_message.specs.PlainReading.{IsFreeOf}
 use Rattle.as4_message.proofs.ReadingLemmas.{free_of, behind_again, before_again, from_again}
@@ -65,5 +65,5 @@ package_again parts good =
     let flat : raw_package parts ≡ root_start ++ (parts.root ++ behind_root) = simp append_assoc in
     let cid = cid_ends parts.cid (parts.media ++ from_content) good.cid in
     let media = media_ends parts.media (parts.content ++ behind_content) good.media in
-    let ended : behind package_end package_end ≡ Some [] = rw append-nil at (behind_again package_end []) in
+    let ended : behind_front package_end package_end ≡ Some [] = rw append-nil at (behind_again package_end []) in
     rw (flat, behind_again root_start (parts.root ++ behind_root), ended_again parts.root (cid_start ++ (parts.cid ++ from_media)) good.root, behind_again cid_start (parts.cid ++ from_media), cid.0, cid.1, behind_again media_start (parts.media ++ from_content), media.0, media.1, behind_again content_start (parts.content ++ behind_content), ended_again parts.content package_end good.content, ended) refl

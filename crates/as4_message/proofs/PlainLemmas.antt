@@ -9,6 +9,7 @@ use Rattle.as4_values.specs.PlainTexts.{is_plain, allows_at, IsPlainText}
 use Rattle.as4_values.specs.Moment.{digits, IsMomentStamp}
 use Rattle.message_model.specs.Markup.{escape_of, escaped}
 use Rattle.as4_message.specs.PlainReading.{IsFreeOf}
+use Rattle.as4_message.proofs.EscapeCases.{by_escape}
 use Rattle.as4_message.proofs.ReadingLemmas.{is_free_of, free_of}
 
 -- each byte is a plain one
@@ -72,35 +73,9 @@ stamp_is_plain text stamp = let c = stamp.0 in rw stamp.2 (simp (list_all-append
 -- an escaped text has no `<`
 escape_free : (b : ℕ) → is_free_of 60 (escape_of b) ≡ true
 escape_free b =
-    elim (eqb_tells b 38) [
-      | inl p ↦ rw p.1 refl
-      | inr q38 ↦
-          elim (eqb_tells b 60) [
-            | inl p ↦ rw p.1 refl
-            | inr q60 ↦
-                elim (eqb_tells b 62) [
-                  | inl p ↦ rw p.1 refl
-                  | inr q62 ↦
-                      elim (eqb_tells b 34) [
-                        | inl p ↦ rw p.1 refl
-                        | inr q34 ↦
-                            elim (eqb_tells b 9) [
-                              | inl p ↦ rw p.1 refl
-                              | inr q9 ↦
-                                  elim (eqb_tells b 10) [
-                                    | inl p ↦ rw p.1 refl
-                                    | inr q10 ↦
-                                        elim (eqb_tells b 13) [
-                                          | inl p ↦ rw p.1 refl
-                                          | inr q13 ↦
-                                              rw (q38.0, q60.0, q62.0, q34.0, q9.0, q10.0, q13.0, q60.0) refl
-                                        ]
-                                  ]
-                            ]
-                      ]
-                ]
-          ]
-    ]
+    by_escape (λ b. is_free_of 60 (escape_of b) ≡ true) refl refl refl refl refl refl refl
+    (λ b is. rw (is.amp, is.less, is.greater, is.quote, is.tab, is.feed, is.return, is.less) refl)
+    b
 
 free_append : (byte : ℕ) (front back : List ℕ) → is_free_of byte front ≡ true → is_free_of byte (front ++ back) ≡ is_free_of byte back
 free_append byte [] back free = refl

@@ -12,13 +12,13 @@ use Rattle.message_model.specs.Markup.{tag_start, tag_end, end_tag}
 use Rattle.message_model.specs.Markup.{element}
 use Rattle.message_model.specs.UnitText.{envelope_start, envelope_end, envelope_text}
 use Rattle.as4_message.specs.Plain.{PlainHeader}
-use Rattle.as4_message.specs.PlainReading.{behind, before_byte, from_byte, start_at, end_at, text_at, pair_at, parties_at, collaboration_at, part_at, user_message_at, envelope_at, raw_pair, raw_parties, raw_collaboration, raw_part, raw_message, IsFreeOf, IsSpelled}
+use Rattle.as4_message.specs.PlainReading.{behind_front, before_byte, from_byte, start_at, end_at, text_at, pair_at, parties_at, collaboration_at, part_at, user_message_at, envelope_at, raw_pair, raw_parties, raw_collaboration, raw_part, raw_message, IsFreeOf, IsSpelled}
 
 pub behind_found : (bytes front : List ℕ) → starts_with nat_eq bytes front ≡ true → bytes ≡ front ++ drop (length front) bytes
 behind_found bytes front begins = (starts_is Decides-eqb bytes front (starts_with nat_eq bytes front) refl).0 begins
 
-pub behind_again : (front rest : List ℕ) → behind front (front ++ rest) ≡ Some rest
-unfolding behind
+pub behind_again : (front rest : List ℕ) → behind_front front (front ++ rest) ≡ Some rest
+unfolding behind_front
 behind_again front rest =
     let begins : starts_with nat_eq (front ++ rest) front ≡ true = (starts_is Decides-eqb (front ++ rest) front (starts_with nat_eq (front ++ rest) front) refl).1 rest refl in
     rw (begins, drop_at front rest (length front) refl) refl
@@ -159,5 +159,5 @@ message_again raw rest free =
 pub envelope_again : (raw : PlainHeader) → IsSpelled raw → envelope_at (envelope_text (raw_message raw)) ≡ Some raw
 unfolding envelope_at
 envelope_again raw free =
-    let ended : behind envelope_end envelope_end ≡ Some [] = rw append-nil at (behind_again envelope_end []) in
+    let ended : behind_front envelope_end envelope_end ≡ Some [] = rw append-nil at (behind_again envelope_end []) in
     rw (append_assoc envelope_start (raw_message raw) envelope_end, behind_again envelope_start (raw_message raw ++ envelope_end), message_again raw envelope_end free, ended) refl

@@ -5,43 +5,19 @@ use Rattle.std.proofs.lemmas.Bool.Decides.{eqb_tells, nat_tests}
 use Rattle.std.specs.List.{flat_map}
 use Rattle.std.proofs.lemmas.List.Concat.{flat_map-append}
 use Rattle.message_model.specs.Markup.{escape_of, escaped}
-use Rattle.as4_message.specs.PlainReading.{behind}
+use Rattle.as4_message.specs.PlainReading.{behind_front}
+use Rattle.as4_message.proofs.EscapeCases.{by_escape}
 use Rattle.as4_message.specs.Unescaping.{entity_at, is_escaped, character_at}
 
 -- one character
 character_again : (b : ℕ) (rest : List ℕ) → character_at (escape_of b ++ rest) ≡ Some (b, rest)
-unfolding character_at entity_at behind
+unfolding character_at entity_at behind_front
 character_again b rest =
-    elim (eqb_tells b 38) [
-      | inl p ↦ rw p.1 refl
-      | inr q38 ↦
-          elim (eqb_tells b 60) [
-            | inl p ↦ rw p.1 refl
-            | inr q60 ↦
-                elim (eqb_tells b 62) [
-                  | inl p ↦ rw p.1 refl
-                  | inr q62 ↦
-                      elim (eqb_tells b 34) [
-                        | inl p ↦ rw p.1 refl
-                        | inr q34 ↦
-                            elim (eqb_tells b 9) [
-                              | inl p ↦ rw p.1 refl
-                              | inr q9 ↦
-                                  elim (eqb_tells b 10) [
-                                    | inl p ↦ rw p.1 refl
-                                    | inr q10 ↦
-                                        elim (eqb_tells b 13) [
-                                          | inl p ↦ rw p.1 refl
-                                          | inr q13 ↦
-                                              let not_38 : (38 == b) ≡ false = elim (eqb_tells 38 b) [ inl p ↦ absurd (q38.1 (sym p.1)) | inr p ↦ p.0 ] in
-                                              rw (q38.0, q60.0, q62.0, q34.0, q9.0, q10.0, q13.0, not_38, q38.0, q60.0, q62.0, q34.0, q9.0, q10.0, q13.0) refl
-                                        ]
-                                  ]
-                            ]
-                      ]
-                ]
-          ]
-    ]
+    by_escape (λ b. character_at (escape_of b ++ rest) ≡ Some (b, rest)) refl refl refl refl refl refl refl
+    (λ b is.
+    let not_amp : (38 == b) ≡ false = elim (eqb_tells 38 b) [ inl p ↦ absurd (is.no_amp (sym p.1)) | inr p ↦ p.0 ] in
+    rw (is.amp, is.less, is.greater, is.quote, is.tab, is.feed, is.return, not_amp, is.amp, is.less, is.greater, is.quote, is.tab, is.feed, is.return) refl)
+    b
 
 -- what is escaped has at least a byte for each
 escaped_cons : (b : ℕ) (bytes : List ℕ) → escaped (b ∷ bytes) ≡ escape_of b ++ escaped bytes
@@ -60,7 +36,7 @@ pub remains_all : (raw : List ℕ) → Remains raw [] raw
 remains_all raw = record { goes_on = λ text is. (text, refl, is) }
 
 nothing_there : character_at [] ≡ None
-unfolding character_at entity_at behind
+unfolding character_at entity_at behind_front
 nothing_there = refl
 
 next_more : (raw front rest after : List ℕ) (b : ℕ) (text more : List ℕ) → text ≡ front ++ more → escaped more ≡ rest → character_at rest ≡ Some (b, after) → (others : List ℕ) × (text ≡ (front ++ b ∷ []) ++ others) × (escaped others ≡ after)

@@ -2,7 +2,9 @@
 use Rattle.std.proofs.Common.{◌≡◌, ℕ, ◌+◌, ◌-◌, ◌<◌, ◌≤◌, true, false, List, [], ◌∷◌, ◌++◌, Some, None, length, arith, refl, ap, sym, subst, ◌∙◌, lit≤}
 use Rattle.std.specs.Prelude.{slice_index, codes, IsTrue, zero, suc, not, ◌&&◌, ◌||◌, ◌==◌}
 use Rattle.std.proofs.lemmas.Bool.Decides.{nat_tests}
+use Rattle.std.specs.List.{list_all}
 use Rattle.std.proofs.lemmas.List.{get_or_default}
+use Rattle.std.proofs.lemmas.List.Sums.{list_all-from_AllPass}
 use Rattle.std.proofs.Props.{props}
 use Rattle.as4_values.specs.Counts.{IsPropertyCount, IsPartCount}
 use Rattle.as4_values.specs.declared.header.Property.{Property}
@@ -12,7 +14,7 @@ use Rattle.as4_message.specs.Plain.{PlainHeader, side_of, service_of, part_of, h
 use Rattle.as4_values.specs.Word.{IsWord}
 use Rattle.as4_values.specs.declared.word.Word.TheVariants.{Identifier}
 use Rattle.as4_values.specs.PlainTexts.{IsPlainText, allows_at, is_plain}
-use Rattle.as4_values.specs.Payload.{IsMediaText, is_space}
+use Rattle.as4_values.specs.Payload.{is_media_text, is_space}
 
 -- behind four bytes, what is allowed in a text stays so
 allowed_behind : (b k n : ℕ) → (is_plain b && not ((b == 32) && ((k == 0) || (k + 1 == n)))) ≡ true → (is_plain b && not ((b == 32) && ((suc (suc (suc (suc k))) == 0) || (suc (suc (suc (suc k))) + 1 == suc (suc (suc (suc n))))))) ≡ true
@@ -46,13 +48,15 @@ first_is_no_space bytes allowed = grind (arith, nat_tests)
 last_is_no_space : (bytes : List ℕ) → 0 < length bytes → IsTrue (allows_at bytes (length bytes - 1)) → is_space (slice_index bytes (length bytes - 1)) ≡ false
 last_is_no_space bytes some allowed = grind (arith, nat_tests)
 
-pub plain_is_media : (bytes : List ℕ) → IsPlainText bytes → length bytes ≤ 1024 → IsMediaText bytes
-plain_is_media bytes plain limited = record {
-  limited = limited;
-  line = λ k d _ within. rw (get_or_default bytes k d 0 within) (line_byte (slice_index bytes k) (allowed_is_plain bytes k (plain.each k within)));
-  first = λ _. first_is_no_space bytes (plain.each 0 plain.some);
-  last = λ _. last_is_no_space bytes plain.some (plain.each (length bytes - 1) (omega (arith, plain.some)));
-}
+pub plain_is_media : (bytes : List ℕ) → IsPlainText bytes → length bytes ≤ 1024 → IsTrue (is_media_text bytes)
+unfolding is_media_text
+plain_is_media bytes plain limited =
+    let line : list_all (λ b. not ((b == 10) || (b == 13))) bytes ≡ true =
+    list_all-from_AllPass (λ b. not ((b == 10) || (b == 13))) bytes
+    (λ k d within. rw (get_or_default bytes k d 0 within) (line_byte (slice_index bytes k) (allowed_is_plain bytes k (plain.each k within)))) in
+    let first = first_is_no_space bytes (plain.each 0 plain.some) in
+    let last = last_is_no_space bytes plain.some (plain.each (length bytes - 1) (omega (arith, plain.some))) in
+    grind (arith, nat_tests)
 
 -- the proofs that its lists are counted make no difference to a header
 one_count : (n limit : ℕ) → IsProp (n ≤ limit)

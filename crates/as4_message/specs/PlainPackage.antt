@@ -2,7 +2,7 @@
 use Rattle.std.specs.Prelude.{ℕ, ◌-◌, List, ◌++◌, ◌==◌, if◌then◌else◌, Option, Some, None, codes, length, nat_eq, take}
 use Rattle.std.specs.List.{ends_with}
 use Rattle.message_model.specs.Package.{crlf, dash_boundary, root_id, envelope_media, part_head}
-use Rattle.as4_message.specs.PlainReading.{◌>>=◌, behind, before_byte, from_byte, cut_at}
+use Rattle.as4_message.specs.PlainReading.{◌>>=◌, behind_front, before_byte, from_byte, cut_at}
 
 -- the root, and the Content-ID, the media text and the content of the one other part
 pub record Parts : Type 0 where
@@ -48,13 +48,13 @@ ended_part bytes = do
 
 unfoldable pub package_at : List ℕ → Option Parts
 package_at bytes = do
-  rest ← behind root_start bytes
+  rest ← behind_front root_start bytes
   root ← ended_part rest
-  cid ← behind cid_start root.1
-  media ← behind media_start (from_byte 62 cid)
-  content ← behind content_start (from_byte 13 media)
+  cid ← behind_front cid_start root.1
+  media ← behind_front media_start (from_byte 62 cid)
+  content ← behind_front content_start (from_byte 13 media)
   part ← ended_part content
-  rest ← behind package_end part.1
+  rest ← behind_front package_end part.1
   if length rest == 0
       then Some (record { root = root.0; cid = before_byte 62 cid; media = before_byte 13 media; content = part.0 })
       else None

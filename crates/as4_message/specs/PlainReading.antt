@@ -13,9 +13,9 @@ abbrev pub ◌>>=◌ : {A B : Type 0} → Option A → (A → Option B) → Opti
 None >>= f = None
 (Some x) >>= f = f x
 
--- what stands behind these bytes
-unfoldable pub behind : List ℕ → List ℕ → Option (List ℕ)
-behind front bytes = if starts_with nat_eq bytes front then Some (drop (length front) bytes) else None
+-- what stands behind a front
+unfoldable pub behind_front : List ℕ → List ℕ → Option (List ℕ)
+behind_front front bytes = if starts_with nat_eq bytes front then Some (drop (length front) bytes) else None
 
 -- the bytes before the first one that is `stop`, and those from it on
 abbrev pub before_byte : ℕ → List ℕ → List ℕ
@@ -34,15 +34,15 @@ cut_at needle (x ∷ xs) =
 -- `<name>` and `</name>`
 unfoldable pub start_at : List ℕ → List ℕ → Option (List ℕ)
 start_at name bytes = do
-  rest ← behind (codes "<") bytes
-  rest ← behind name rest
-  behind (codes ">") rest
+  rest ← behind_front (codes "<") bytes
+  rest ← behind_front name rest
+  behind_front (codes ">") rest
 
 unfoldable pub end_at : List ℕ → List ℕ → Option (List ℕ)
 end_at name bytes = do
-  rest ← behind (codes "</") bytes
-  rest ← behind name rest
-  behind (codes ">") rest
+  rest ← behind_front (codes "</") bytes
+  rest ← behind_front name rest
+  behind_front (codes ">") rest
 
 -- an element without attributes that holds a text: up to the next `<`
 unfoldable pub text_at : List ℕ → List ℕ → Option (List ℕ × List ℕ)
@@ -83,8 +83,8 @@ collaboration_at bytes = do
 unfoldable pub part_at : List ℕ → Option (List ℕ × List ℕ)
 part_at bytes = do
   rest ← start_at (codes "eb:PayloadInfo") bytes
-  rest ← behind (codes "<eb:PartInfo href=\"cid:") rest
-  after ← behind (codes "\">") (from_byte 34 rest)
+  rest ← behind_front (codes "<eb:PartInfo href=\"cid:") rest
+  after ← behind_front (codes "\">") (from_byte 34 rest)
   after ← end_at (codes "eb:PartInfo") after
   after ← end_at (codes "eb:PayloadInfo") after
   Some (before_byte 34 rest, after)
@@ -117,9 +117,9 @@ user_message_at bytes = do
 -- the same, of a whole envelope
 unfoldable pub envelope_at : List ℕ → Option PlainHeader
 envelope_at bytes = do
-  rest ← behind envelope_start bytes
+  rest ← behind_front envelope_start bytes
   message ← user_message_at rest
-  rest ← behind envelope_end message.1
+  rest ← behind_front envelope_end message.1
   if length rest == 0 then Some message.0 else None
 
 -- The same texts as they are spelled.

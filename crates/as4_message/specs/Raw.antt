@@ -18,8 +18,8 @@ raw_texts raw = record {
   cid = raw.cid.now;
 }
 
-abbrev pub parts_of : RawParts → Parts
-parts_of raw = record {
+abbrev pub part_texts : RawParts → Parts
+part_texts raw = record {
   root = raw.root.now;
   cid = raw.cid.now;
   media = raw.media.now;

@@ -2,11 +2,11 @@
 use Rattle.std.specs.Prelude.{ℕ, List, [], ◌∷◌, ◌==◌, ◌||◌, if◌then◌else◌, Option, Some, None, Bool}
 use Rattle.std.specs.Option.{option_map, option_or}
 use Rattle.message_model.specs.Markup.{escape_of}
-use Rattle.as4_message.specs.PlainReading.{behind}
+use Rattle.as4_message.specs.PlainReading.{behind_front}
 
 -- a byte that stands escaped at the front, and the bytes behind it
 unfoldable pub entity_at : ℕ → List ℕ → Option (ℕ × List ℕ)
-entity_at byte bytes = option_map (λ rest. (byte, rest)) (behind (escape_of byte) bytes)
+entity_at byte bytes = option_map (λ rest. (byte, rest)) (behind_front (escape_of byte) bytes)
 
 -- the bytes that are escaped
 abbrev pub is_escaped : ℕ → Bool

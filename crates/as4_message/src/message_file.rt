@@ -15,7 +15,7 @@ ghost use Rattle.as4_message.specs.FileReading.{file_at};
 ghost use Rattle.as4_message.specs.declared.refusal.Refusal.{Refusal as RefusalValue};
 ghost use Rattle.as4_message.specs.Refused.{IsRefusedFile};
 
-use crate::plain_envelope::behind;
+use crate::plain_envelope::behind_front;
 use crate::plain_package::cut_at;
 use crate::read::read_message;
 use crate::refusal::MessageRefusal;
@@ -34,7 +34,7 @@ fn split_file(file: &[u8]) -> Option<(&[u8], &[u8])>
     ensures reads { option_map (λ parts. (parts.0.now, parts.1.now)) result ≡ file_at file.now }
     ensures found { IfSome result (λ parts. file.now ≡ message_file parts.0.now parts.1.now) }
 {
-    let rest = behind(b"Content-Type: ", file)?;
+    let rest = behind_front(b"Content-Type: ", file)?;
     cut_at(b"\r\n\r\n", rest)
 }
 

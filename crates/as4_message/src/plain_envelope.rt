@@ -6,14 +6,14 @@ ghost use Rattle.std.specs.Option.{option_map};
 ghost use Rattle.message_model.specs.Markup.{tag_start, tag_end, end_tag, element};
 ghost use Rattle.message_model.specs.UnitText.{envelope_start, envelope_end, envelope_text};
 ghost use Rattle.as4_message.specs.Raw.{raw_texts};
-ghost use Rattle.as4_message.specs.PlainReading.{behind, before_byte, from_byte, text_at, start_at, end_at, pair_at, parties_at, collaboration_at, part_at, user_message_at, envelope_at, raw_pair, raw_parties, raw_collaboration, raw_part, raw_message};
+ghost use Rattle.as4_message.specs.PlainReading.{behind_front, before_byte, from_byte, text_at, start_at, end_at, pair_at, parties_at, collaboration_at, part_at, user_message_at, envelope_at, raw_pair, raw_parties, raw_collaboration, raw_part, raw_message};
 
 use memchr::memchr;
 
-/// What stands behind these bytes.
-#[tactic(auto, using(crate::proofs::ReadingLemmas::behind_found), unfolding(crate::specs::PlainReading::behind))]
-pub fn behind<'a>(front: &[u8], bytes: &'a [u8]) -> Option<&'a [u8]>
-    ensures reads { option_map (λ rest. rest.now) result ≡ behind front.now bytes.now }
+/// What stands behind a front.
+#[tactic(auto, using(crate::proofs::ReadingLemmas::behind_found), unfolding(crate::specs::PlainReading::behind_front))]
+pub fn behind_front<'a>(front: &[u8], bytes: &'a [u8]) -> Option<&'a [u8]>
+    ensures reads { option_map (λ rest. rest.now) result ≡ behind_front front.now bytes.now }
     ensures found { IfSome result (λ rest. bytes.now ≡ front.now ++ rest.now) }
 {
     if bytes.starts_with(front) {
@@ -48,9 +48,9 @@ fn start_at<'a>(name: &[u8], bytes: &'a [u8]) -> Option<&'a [u8]>
     ensures reads { option_map (λ rest. rest.now) result ≡ start_at name.now bytes.now }
     ensures found { IfSome result (λ rest. bytes.now ≡ tag_start name.now ++ tag_end ++ rest.now) }
 {
-    let rest = behind(b"<", bytes)?;
-    let rest = behind(name, rest)?;
-    let rest = behind(b">", rest)?;
+    let rest = behind_front(b"<", bytes)?;
+    let rest = behind_front(name, rest)?;
+    let rest = behind_front(b">", rest)?;
     Some(rest)
 }
 
@@ -60,9 +60,9 @@ fn end_at<'a>(name: &[u8], bytes: &'a [u8]) -> Option<&'a [u8]>
     ensures reads { option_map (λ rest. rest.now) result ≡ end_at name.now bytes.now }
     ensures found { IfSome result (λ rest. bytes.now ≡ end_tag name.now ++ rest.now) }
 {
-    let rest = behind(b"</", bytes)?;
-    let rest = behind(name, rest)?;
-    let rest = behind(b">", rest)?;
+    let rest = behind_front(b"</", bytes)?;
+    let rest = behind_front(name, rest)?;
+    let rest = behind_front(b">", rest)?;
     Some(rest)
 }
 
@@ -136,9 +136,9 @@ fn part_at(bytes: &[u8]) -> Option<(&[u8], &[u8])>
     ensures found { IfSome result (λ read. bytes.now ≡ raw_part read.0.now ++ read.1.now) }
 {
     let rest = start_at(b"eb:PayloadInfo", bytes)?;
-    let rest = behind(b"<eb:PartInfo href=\"cid:", rest)?;
+    let rest = behind_front(b"<eb:PartInfo href=\"cid:", rest)?;
     let (cid, rest) = split_at_byte(b'"', rest);
-    let rest = behind(b"\">", rest)?;
+    let rest = behind_front(b"\">", rest)?;
     let rest = end_at(b"eb:PartInfo", rest)?;
     let rest = end_at(b"eb:PayloadInfo", rest)?;
     Some((cid, rest))
@@ -198,8 +198,8 @@ pub fn read_plain_envelope(bytes: &[u8]) -> Option<RawHeader<'_>>
     ensures reads { option_map raw_texts result ≡ envelope_at bytes.now }
     ensures found { IfSome result (λ raw. bytes.now ≡ envelope_text (raw_message (raw_texts raw))) }
 {
-    let rest = behind(ENVELOPE_START, bytes)?;
+    let rest = behind_front(ENVELOPE_START, bytes)?;
     let (header, rest) = user_message_at(rest)?;
-    let rest = behind(ENVELOPE_END, rest)?;
+    let rest = behind_front(ENVELOPE_END, rest)?;
     if rest.is_empty() { Some(header) } else { None }
 }

@@ -5,9 +5,9 @@ ghost use Rattle.std.specs.Option.{option_map};
 ghost use Rattle.message_model.specs.Package.{crlf, dash_boundary, Occurs};
 ghost use Rattle.as4_message.specs.PlainReading.{cut_at};
 ghost use Rattle.as4_message.specs.PlainPackage.{ended_part, without_line_end, package_at, raw_package, root_start, cid_start, media_start, content_start, package_end};
-ghost use Rattle.as4_message.specs.Raw.{parts_of};
+ghost use Rattle.as4_message.specs.Raw.{part_texts};
 
-use crate::plain_envelope::{behind, split_at_byte};
+use crate::plain_envelope::{behind_front, split_at_byte};
 use memchr::memmem;
 
 /// The parts of a package of two parts, as slices of its body.
@@ -110,20 +110,20 @@ fn package_end() -> &'static [u8]
 /// The parts of a package whose spelling is the canonical one, and nothing where it is another.
 #[tactic(auto, unfolding(crate::specs::PlainPackage::package_at))]
 pub fn read_plain_package(body: &[u8]) -> Option<RawParts<'_>>
-    ensures reads { option_map parts_of result ≡ package_at body.now }
-    ensures found { IfSome result (λ raw. body.now ≡ raw_package (parts_of raw)) }
+    ensures reads { option_map part_texts result ≡ package_at body.now }
+    ensures found { IfSome result (λ raw. body.now ≡ raw_package (part_texts raw)) }
     ensures root { IfSome result (λ raw. Occurs (dash_boundary 0) raw.root.now → ⊥) }
     ensures content { IfSome result (λ raw. Occurs (dash_boundary 0) raw.content.now → ⊥) }
 {
-    let rest = behind(root_start(), body)?;
+    let rest = behind_front(root_start(), body)?;
     let (root, rest) = ended_part(rest)?;
-    let rest = behind(cid_start(), rest)?;
+    let rest = behind_front(cid_start(), rest)?;
     let (cid, rest) = split_at_byte(b'>', rest);
-    let rest = behind(media_start(), rest)?;
+    let rest = behind_front(media_start(), rest)?;
     let (media, rest) = split_at_byte(b'\r', rest);
-    let rest = behind(content_start(), rest)?;
+    let rest = behind_front(content_start(), rest)?;
     let (content, rest) = ended_part(rest)?;
-    let rest = behind(package_end(), rest)?;
+    let rest = behind_front(package_end(), rest)?;
     let parts = RawParts {
         root,
         cid,

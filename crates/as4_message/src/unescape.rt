@@ -5,7 +5,7 @@ ghost use Rattle.std.specs.Option.{option_map, option_or};
 ghost use Rattle.message_model.specs.Markup.{escape_of, escaped};
 ghost use Rattle.as4_message.specs.Unescaping.{entity_at, is_escaped, plain_at, character_at};
 
-use crate::plain_envelope::behind;
+use crate::plain_envelope::behind_front;
 use as4_values::NoMemory;
 use std::alloc::Global;
 
@@ -23,7 +23,7 @@ fn entity_or<'a>(
     ensures found { IfSome other.entry (λ read. bytes.now ≡ escape_of read.0 ++ read.1.now)
         → IfSome result (λ read. bytes.now ≡ escape_of read.0 ++ read.1.now) }
 {
-    match behind(escape, bytes) {
+    match behind_front(escape, bytes) {
         Some(rest) => Some((byte, rest)),
         None => other,
     }

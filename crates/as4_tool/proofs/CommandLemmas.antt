@@ -1,27 +1,17 @@
--- Lemmas on words: numbers as they are printed and read, and lists of three.
-use Rattle.std.proofs.Common.{◌≡◌, ℕ, ◌^◌, ◌<◌, Bool, true, not, List, [], ◌∷◌, length, get_or, Result, Ok, refl, sym, ◌∙◌, ap, subst, arith}
+-- Lemmas on words: lists of three, and one command for the words.
+use Rattle.std.proofs.Common.{◌≡◌, ℕ, ◌^◌, ◌<◌, Bool, true, List, [], ◌∷◌, length, get_or, refl, sym, ◌∙◌, ap, arith}
 use Rattle.std.specs.Str.{bytes_eq}
 use Rattle.std.proofs.lemmas.Slice.Eq.{bytes_eq-Decides}
-use Rattle.std.specs.Str.{IsUtf8}
-use Rattle.std.specs.Str.Parse.{ParsesUnsigned, digits_value}
+use Rattle.std.specs.Str.Parse.{digits_value}
 use Rattle.std.specs.Fmt.{decimal}
 use Rattle.as4_tool.specs.declared.command.Command.{Command}
 use Rattle.as4_tool.specs.declared.command.Command.TheVariants.{Help, Version, Answer, Drill, Generate}
 use Rattle.as4_tool.specs.Command.{Spells}
-use Rattle.std.proofs.lemmas.Str.{IsUtf8-from_ascii}
-use Rattle.std.proofs.lemmas.Fmt.{IsAscii-decimal_wide, parse-decimal_wide, decimal_is_IsNumeral_wide}
+use Rattle.std.proofs.lemmas.Fmt.{decimal_is_IsNumeral_wide}
 
 -- a number of 128 bits has at most 64 digits
 short : (n : ℕ) → n < 2 ^ 128 → n < 10 ^ 64
 short n small = omega arith
-
--- a printed number is text
-pub decimal_is_text : (word : List ℕ) (n : ℕ) → n < 2 ^ 128 → word ≡ decimal n → IsUtf8 word
-decimal_is_text word n small printed = subst IsUtf8 (sym printed) (IsUtf8-from_ascii (decimal n) (IsAscii-decimal_wide n (short n small)))
-
--- a printed number is read
-pub decimal_is_read : {E : Type 0} (word : List ℕ) (n : ℕ) (read : Result ℕ E) → n < 2 ^ 128 → word ≡ decimal n → ParsesUnsigned 128 10 word read → read ≡ Ok n
-decimal_is_read word n read small printed parsed = parse-decimal_wide 128 n word read small (short n small) printed parsed
 
 -- a list of three is its items
 pub three_items : {A : Type 0} (xs : List A) (x y z : A) → length xs ≡ 3 → x ≡ get_or xs 0 x → y ≡ get_or xs 1 y → z ≡ get_or xs 2 z → xs ≡ x ∷ y ∷ z ∷ []
@@ -30,14 +20,6 @@ three_items (a ∷ []) x y z three first second third = absurd (omega arith)
 three_items (a ∷ b ∷ []) x y z three first second third = absurd (omega arith)
 three_items (a ∷ b ∷ c ∷ []) x y z three first second third = cc
 three_items (a ∷ b ∷ c ∷ d ∷ rest) x y z three first second third = absurd (omega arith)
-
--- the same bytes are not found unequal
-pub same_is_equal : (xs ys : List ℕ) (unequal : Bool) → unequal ≡ not (bytes_eq xs ys) → unequal ≡ true → xs ≡ ys → ⊥
-same_is_equal xs ys unequal computed found same =
-    let differ : not (bytes_eq xs ys) ≡ true = sym computed ∙ found in
-    let equal : bytes_eq xs ys ≡ true = (bytes_eq-Decides xs ys).1 same in
-    let false_is_true : not true ≡ true = ap not (sym equal) ∙ differ in
-    cc
 
 -- bytes found equal are the same
 pub equal_is_same : (xs ys : List ℕ) (equal : Bool) → equal ≡ bytes_eq xs ys → equal ≡ true → xs ≡ ys

@@ -36,6 +36,6 @@ IsAnswer stamp nonce file answer =
     (signal : Signal) × IsReply stamp nonce file signal × (answer ≡ file_of 0 (message.Signal signal))
 
 -- the file is that of no plain message, and isn't refused
-pub record IsOther (file : List ℕ) : Type 0 where
+pub record IsUnbuilt (file : List ℕ) : Type 0 where
   pub not_plain : (header : PlainHeader) (payload : Payload) → ¬ IsPlainFile file header payload
   pub not_refused : (refusal : Refusal) → ¬ IsRefusedFile file refusal

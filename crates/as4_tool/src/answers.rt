@@ -4,7 +4,7 @@ ghost use Rattle.as4_values.specs.declared.payload.Payload.{Payload as PayloadVa
 ghost use Rattle.message_model.specs.Wire.{file_of};
 ghost use Rattle.exchange_model.specs.ErrorCodes.{error_row};
 ghost use Rattle.exchange_model.specs.Signals.{IsReceiptOf, IsErrorSignalOf};
-ghost use Rattle.as4_tool.specs.Answer.{IsReply, IsAnswer, IsOther};
+ghost use Rattle.as4_tool.specs.Answer.{IsReply, IsAnswer, IsUnbuilt};
 ghost use Rattle.as4_tool.specs.declared.answers.Unanswered.TheVariants as unanswered;
 
 use as4_message::{MessageRefusal, Refusal, read_message_file, refusal_signal, write_signal_file};
@@ -38,7 +38,7 @@ pub fn answer_file(
 ) -> Result<Octets, Unanswered>
     requires { stamp ≤ MAX_MOMENT }
     ensures answers { IfOk result (λ answer. IsAnswer stamp nonce file.now answer) }
-    ensures unbuilt { IsErrOf result Unanswered.Unbuilt → IsOther file.now }
+    ensures unbuilt { IsErrOf result Unanswered.Unbuilt → IsUnbuilt file.now }
 {
     let signal = reply_to(alloc, stamp, nonce, file)?;
     let answer = file_of(alloc, &signal);
@@ -57,7 +57,7 @@ fn file_of(alloc: Global, signal: &Signal) -> Result<Octets, Unanswered>
 fn reply_to(alloc: Global, stamp: u64, nonce: u128, file: &[u8]) -> Result<Signal, Unanswered>
     requires { stamp ≤ MAX_MOMENT }
     ensures answers { IfOk result (λ signal. IsReply stamp nonce file.now signal) }
-    ensures unbuilt { IsErrOf result Unanswered.Unbuilt → IsOther file.now }
+    ensures unbuilt { IsErrOf result Unanswered.Unbuilt → IsUnbuilt file.now }
 {
     match read_message_file(alloc, file) {
         Ok(message) => {

@@ -9,8 +9,7 @@ ghost use Rattle.std.specs.Prelude.{◌≡◌, ℕ, List, [], ◌∷◌, ◌<◌
 ghost use Rattle.std.specs.Fmt.{decimal};
 
 use as4_values::{MAX_MOMENT, Octets, Seq};
-use itoa::Buffer;
-use std::str;
+use drill_script::decimal_of;
 
 /// The most messages of a generated script.
 const MAX_COUNT: u64 = 1_000;
@@ -82,8 +81,8 @@ fn answer_of(stamp: &[u8], nonce: &[u8]) -> Option<Command>
     ensures found { IfSome result (Spells (codes "answer" ∷ stamp.now ∷ nonce.now ∷ [])) }
     ensures only { (command : Command) → Spells (codes "answer" ∷ stamp.now ∷ nonce.now ∷ []) command → result ≡ Some command }
 {
-    let stamp = number_of(stamp)?;
-    let nonce = number_of(nonce)?;
+    let stamp = decimal_of(stamp)?;
+    let nonce = decimal_of(nonce)?;
     if stamp > u128::from(MAX_MOMENT) {
         return None;
     }
@@ -114,8 +113,8 @@ fn numbers_of(seed: &[u8], count: &[u8]) -> Option<Command>
     ensures only { (command : Command) → Spells (codes "drill" ∷ codes "--generate" ∷ seed.now ∷ count.now ∷ []) command
         → result ≡ Some command }
 {
-    let seed = number_of(seed)?;
-    let count = number_of(count)?;
+    let seed = decimal_of(seed)?;
+    let count = decimal_of(count)?;
     if seed > u128::from(u64::MAX) {
         return None;
     }
@@ -126,23 +125,4 @@ fn numbers_of(seed: &[u8], count: &[u8]) -> Option<Command>
         seed: seed as u64,
         count: count as u64,
     })
-}
-
-// Reads a decimal number without sign and without leading zeros: one that is printed as this word.
-fn number_of(word: &[u8]) -> Option<u128>
-    ensures found { IfSome result (λ number. word.now ≡ decimal number) }
-    ensures range { IfSome result (λ number. number < 2 ^ 128) }
-    ensures only { (number : ℕ) → number < 2 ^ 128 → word.now ≡ decimal number → result ≡ Some number }
-{
-    let Ok(text) = str::from_utf8(word) else {
-        return None;
-    };
-    let Ok(number) = text.parse::<u128>() else {
-        return None;
-    };
-    let mut buffer = Buffer::new();
-    if buffer.format(number).as_bytes() != word {
-        return None;
-    }
-    Some(number)
 }

@@ -5,8 +5,8 @@
 //!     drill                           what the lines of the script lead to           0, 2, 3, 4, 5, 6
 //!     drill --generate SEED COUNT     the numbers that a generated script leads to   0, 4, 5, 6
 //!     other words                                                                    64
-ghost use Rattle.std.specs.Prelude.{◌≡◌, ◌≢◌, ℕ, [], ◌<◌, ◌≤◌, ◌↔◌, List, None, length, IfOk, IsErrOf, MatchResult};
-ghost use Rattle.as4_flow.specs.Told.{Told};
+ghost use Rattle.std.specs.Prelude.{◌≡◌, ◌≢◌, ℕ, [], ◌+◌, ◌<◌, ◌≤◌, ◌↔◌, List, None, length, IfOk, IsErrOf, MatchResult};
+ghost use Rattle.as4_flow.specs.Told.{Told, LosesFront};
 ghost use Rattle.as4_flow.specs.Faults.{Rose};
 ghost use Rattle.drill.specs.Generated.{GeneratedEnds};
 ghost use Rattle.drill.specs.Transcript.{PlaysAll, Stage, new_stage};
@@ -15,7 +15,7 @@ ghost use Rattle.drill_script.specs.declared.line.Line.{Line};
 ghost use Rattle.exchange_model.specs.DeliveredOnce.{BothDeliverOnce};
 ghost use Rattle.as4_tool.specs.Command.{Spells, IsCommand, AsksAnswer, AsksDrill};
 ghost use Rattle.as4_tool.specs.Status.{code_of, lines_of, status_of};
-ghost use Rattle.as4_tool.specs.Answer.{IsOther};
+ghost use Rattle.as4_tool.specs.Answer.{IsUnbuilt};
 ghost use Rattle.as4_tool.specs.Ends.{Writes, Ends};
 ghost use Rattle.as4_tool.specs.Telling.{Tells};
 
@@ -61,7 +61,10 @@ pub fn run<I: Source, O: Sink, E: Sink>(
     ensures write_fault { result ≡ code_of Status.WriteFault → Rose (O.faults output.old) (O.faults output.new) }
     ensures too_long { result ≡ code_of Status.TooLong → Told (I.left input.old) (λ file. LIMIT < length file) }
     ensures unbuilt { result ≡ code_of Status.Unbuilt →
-        Told (I.left input.old) (λ file. (length file ≤ LIMIT) × IsOther file) × Told (I.left input.new) (λ rest. rest ≡ []) }
+        Told (I.left input.old) (λ file. (length file ≤ LIMIT) × IsUnbuilt file) × Told (I.left input.new) (λ rest. rest ≡ []) }
+
+    // Of the input of an answer a front is read, of one byte above the limit at most.
+    ensures reads { AsksAnswer words.now → LosesFront (LIMIT + 1) (I.left input.old) (I.left input.new) }
 
     // What stays as it was.
     ensures silent { ¬ AsksDrill words.now → result ≢ code_of Status.Done → result ≢ code_of Status.WriteFault →
@@ -103,8 +106,9 @@ fn obey<I: Source, O: Sink>(
     ensures write_fault { code_of result ≡ code_of Status.WriteFault → Rose (O.faults output.old) (O.faults output.new) }
     ensures too_long { code_of result ≡ code_of Status.TooLong → Told (I.left input.old) (λ file. LIMIT < length file) }
     ensures unbuilt { code_of result ≡ code_of Status.Unbuilt →
-        Told (I.left input.old) (λ file. (length file ≤ LIMIT) × IsOther file) × Told (I.left input.new) (λ rest. rest ≡ []) }
+        Told (I.left input.old) (λ file. (length file ≤ LIMIT) × IsUnbuilt file) × Told (I.left input.new) (λ rest. rest ≡ []) }
 
+    ensures reads { AsksAnswer words.now → LosesFront (LIMIT + 1) (I.left input.old) (I.left input.new) }
     ensures silent { ¬ AsksDrill words.now → code_of result ≢ code_of Status.Done →
         code_of result ≢ code_of Status.WriteFault → O.taken output.new ≡ O.taken output.old }
     ensures untouched { ¬ AsksAnswer words.now → ¬ AsksDrill words.now → input.new ≡ input.old }
@@ -155,8 +159,9 @@ fn answer<I: Source, O: Sink>(
     ensures write_fault { code_of result ≡ code_of Status.WriteFault → Rose (O.faults output.old) (O.faults output.new) }
     ensures too_long { code_of result ≡ code_of Status.TooLong → Told (I.left input.old) (λ file. LIMIT < length file) }
     ensures unbuilt { code_of result ≡ code_of Status.Unbuilt →
-        Told (I.left input.old) (λ file. (length file ≤ LIMIT) × IsOther file) × Told (I.left input.new) (λ rest. rest ≡ []) }
+        Told (I.left input.old) (λ file. (length file ≤ LIMIT) × IsUnbuilt file) × Told (I.left input.new) (λ rest. rest ≡ []) }
 
+    ensures reads { LosesFront (LIMIT + 1) (I.left input.old) (I.left input.new) }
     ensures silent { code_of result ≢ code_of Status.Done → code_of result ≢ code_of Status.WriteFault →
         O.taken output.new ≡ O.taken output.old }
     ensures counted { (I.faults input.old ≤ I.faults input.new) × (O.faults output.old ≤ O.faults output.new) }

@@ -5,7 +5,9 @@ pub mod MatchLemmas
 pub mod ModeLemmas
 pub mod MomentLemmas
 pub mod MomentTextLemmas
+pub mod PayloadLemmas
 pub mod SignalLemmas
 pub mod StampLemmas
 pub mod TextLemmas
 pub mod XmlLemmas
+pub mod XmlTests

@@ -1,6 +1,6 @@
 -- What names and types a part of a package.
-use Rattle.std.specs.Prelude.{◌≡◌, ℕ, ◌-◌, ◌<◌, ◌≤◌, List, Bool, false, not, ◌||◌, ◌==◌, IsTrue, length, slice_index}
-use Rattle.std.specs.List.{AllWithin}
+use Rattle.std.specs.Prelude.{ℕ, ◌-◌, List, Bool, not, ◌&&◌, ◌||◌, ◌==◌, nat_lt, nat_le, length, slice_index}
+use Rattle.std.specs.List.{list_all}
 use Rattle.as4_values.specs.Word.{IsWord}
 use Rattle.as4_values.specs.declared.word.Word.TheVariants.{Identifier}
 
@@ -12,9 +12,9 @@ IsContentId bytes = IsWord Identifier bytes
 abbrev pub is_space : ℕ → Bool
 is_space b = (b == 32) || (b == 9)
 
--- the media text of a part (RFC 2045, section 5.1): one line, without a space or tab at either end
-pub record IsMediaText (bytes : List ℕ) : Type 0 where
-  pub limited : length bytes ≤ 1024
-  pub line : AllWithin (λ b. IsTrue (not ((b == 10) || (b == 13)))) bytes 0 (length bytes)
-  pub first : 0 < length bytes → is_space (slice_index bytes 0) ≡ false
-  pub last : 0 < length bytes → is_space (slice_index bytes (length bytes - 1)) ≡ false
+-- the media text of a part (RFC 2045, section 5.1): one line of at most 1,024 bytes, without a space or tab at either end
+unfoldable pub is_media_text : List ℕ → Bool
+is_media_text text =
+    nat_le (length text) 1024
+    && (list_all (λ b. not ((b == 10) || (b == 13))) text
+    && not (nat_lt 0 (length text) && (is_space (slice_index text 0) || is_space (slice_index text (length text - 1)))))

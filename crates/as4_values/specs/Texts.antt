@@ -1,6 +1,7 @@
 -- Texts of a header; the limit is this handler's own.
 use Rattle.std.specs.Prelude.{◌≡◌, ◌≢◌, ℕ, ◌+◌, ◌-◌, ◌<◌, ◌≤◌, ◌⊎◌, List, ◌++◌, Bool, false, ◌&&◌, ◌||◌, ◌==◌, nat_le, IsTrue, length, take, drop, slice_index, encode_utf8, encode_utf8_all}
-use Rattle.std.specs.List.{AllWithin}
+use Rattle.std.specs.List.{AllWithin, list_all}
+use Rattle.std.specs.Str.{bytes_eq, chars}
 
 -- how many bytes a text has at most
 abbrev pub text_limit : ℕ
@@ -21,6 +22,10 @@ abbrev pub IsXml : List ℕ → Type 0
 IsXml bytes =
     (chars : List ℕ) × AllWithin (λ c. IsTrue (is_xml_char c)) chars 0 (length chars)
     × (encode_utf8_all chars ≡ bytes)
+
+-- the same, as a test
+unfoldable pub is_xml : List ℕ → Bool
+is_xml bytes = list_all is_xml_char (chars bytes) && bytes_eq (encode_utf8_all (chars bytes)) bytes
 
 -- nothing but blanks
 abbrev pub IsBlank : List ℕ → Type 0

@@ -173,41 +173,43 @@ impl PlainData for PartInfo {
 
 impl PlainData for UserHeader {
     fn try_clone(&self, alloc: Global) -> Result<UserHeader, NoMemory> {
-        let (mpc, stamp, id, ref_to) = try_clone_four(
-            alloc,
-            &self.mpc,
-            &self.stamp,
-            &self.id,
-            &self.ref_to,
-        )?;
-        let (from, to, agreement, service) = try_clone_four(
-            alloc,
-            &self.from,
-            &self.to,
-            &self.agreement,
-            &self.service,
-        )?;
-        let (action, conversation, properties, parts) = try_clone_four(
-            alloc,
-            &self.action,
-            &self.conversation,
-            &self.properties,
-            &self.parts,
-        )?;
-        Ok(UserHeader {
-            mpc,
-            stamp,
-            id,
-            ref_to,
-            from,
-            to,
-            agreement,
-            service,
-            action,
-            conversation,
-            properties,
-            parts,
-        })
+        match (
+            try_clone_four(alloc, &self.mpc, &self.stamp, &self.id, &self.ref_to),
+            try_clone_four(alloc, &self.from, &self.to, &self.agreement, &self.service),
+            try_clone_four(
+                alloc,
+                &self.action,
+                &self.conversation,
+                &self.properties,
+                &self.parts,
+            ),
+        ) {
+            (Ok(front), Ok(business), Ok(rest)) => {
+                let (mpc, stamp, id, ref_to) = front;
+                let (from, to, agreement, service) = business;
+                let (action, conversation, properties, parts) = rest;
+                Ok(UserHeader {
+                    mpc,
+                    stamp,
+                    id,
+                    ref_to,
+                    from,
+                    to,
+                    agreement,
+                    service,
+                    action,
+                    conversation,
+                    properties,
+                    parts,
+                })
+            }
+            (front, business, rest) => {
+                drop(front);
+                drop(business);
+                drop(rest);
+                Err(NoMemory)
+            }
+        }
     }
 
     fn same(&self, other: &UserHeader) -> bool {

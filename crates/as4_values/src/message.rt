@@ -2,7 +2,7 @@ use crate::header::UserHeader;
 use crate::lists::Seq;
 use crate::memory::NoMemory;
 use crate::payload::Payload;
-use crate::plain_data::PlainData;
+use crate::plain_data::{PlainData, try_clone_two};
 use crate::signal::Signal;
 use std::alloc::Global;
 
@@ -44,10 +44,10 @@ impl PlainData for Unit {
 impl PlainData for Message {
     fn try_clone(&self, alloc: Global) -> Result<Message, NoMemory> {
         match self {
-            Message::User { header, payloads } => Ok(Message::User {
-                header: header.try_clone(alloc)?,
-                payloads: payloads.try_clone(alloc)?,
-            }),
+            Message::User { header, payloads } => {
+                let (header, payloads) = try_clone_two(alloc, header, payloads)?;
+                Ok(Message::User { header, payloads })
+            }
             Message::Signal(signal) => Ok(Message::Signal(signal.try_clone(alloc)?)),
         }
     }

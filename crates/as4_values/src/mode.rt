@@ -41,28 +41,35 @@ pub struct Mode {
 
 impl PlainData for Mode {
     fn try_clone(&self, alloc: Global) -> Result<Mode, NoMemory> {
-        let (name, from, to, service) = try_clone_four(
-            alloc,
-            &self.name,
-            &self.from,
-            &self.to,
-            &self.service,
-        )?;
-        let action = self.action.try_clone(alloc)?;
-        let agreement = self.agreement.try_clone(alloc)?;
-        let route = self.route.try_clone(alloc)?;
-        Ok(Mode {
-            name,
-            from,
-            to,
-            service,
-            action,
-            agreement,
-            route,
-            retries: self.retries,
-            period: self.period,
-            collect: self.collect,
-        })
+        match (
+            try_clone_four(alloc, &self.name, &self.from, &self.to, &self.service),
+            self.action.try_clone(alloc),
+            self.agreement.try_clone(alloc),
+            self.route.try_clone(alloc),
+        ) {
+            (Ok(ends), Ok(action), Ok(agreement), Ok(route)) => {
+                let (name, from, to, service) = ends;
+                Ok(Mode {
+                    name,
+                    from,
+                    to,
+                    service,
+                    action,
+                    agreement,
+                    route,
+                    retries: self.retries,
+                    period: self.period,
+                    collect: self.collect,
+                })
+            }
+            (ends, action, agreement, route) => {
+                drop(ends);
+                drop(action);
+                drop(agreement);
+                drop(route);
+                Err(NoMemory)
+            }
+        }
     }
 
     fn same(&self, other: &Mode) -> bool {

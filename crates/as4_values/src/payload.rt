@@ -1,4 +1,5 @@
-ghost use Rattle.as4_values.specs.Payload.{IsContentId, IsMediaText};
+ghost use Rattle.std.specs.Prelude.{IsTrue};
+ghost use Rattle.as4_values.specs.Payload.{IsContentId, is_media_text};
 
 use crate::lists::Octets;
 use crate::memory::NoMemory;
@@ -17,7 +18,7 @@ pub struct Payload {
     /// The part's bytes, as they came.
     pub content: Octets,
     pub ghost named: { IsContentId cid },
-    pub ghost typed: { IsMediaText media },
+    pub ghost typed: { IsTrue (is_media_text media) },
 }
 
 /// What is handed in to be sent as a payload.

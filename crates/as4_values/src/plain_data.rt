@@ -31,21 +31,48 @@ impl<T: PlainData> PlainData for Option<T> {
     }
 }
 
-/// Copies of four values, for structs of many fields.
-pub fn try_clone_four<A: PlainData + Drop, B: PlainData + Drop, C: PlainData + Drop, D: PlainData>(
+/// Copies of two values. Where one lacks, the other is let go by name: one way out is proved sooner than one for each
+/// value.
+pub fn try_clone_two<A: PlainData + Drop, B: PlainData + Drop>(
     alloc: Global,
     first: &A,
     second: &B,
-    third: &C,
-    fourth: &D,
-) -> Result<(A, B, C, D), NoMemory>
+) -> Result<(A, B), NoMemory>
+    ensures { IfOk result (λ copies. (copies.0 ≡ first.now) × (copies.1 ≡ second.now)) }
+{
+    match (first.try_clone(alloc), second.try_clone(alloc)) {
+        (Ok(first), Ok(second)) => Ok((first, second)),
+        (first, second) => {
+            drop(first);
+            drop(second);
+            Err(NoMemory)
+        }
+    }
+}
+
+/// Copies of four values, for structs of many fields.
+pub fn try_clone_four<
+    A: PlainData + Drop,
+    B: PlainData + Drop,
+    C: PlainData + Drop,
+    D: PlainData + Drop,
+>(alloc: Global, first: &A, second: &B, third: &C, fourth: &D) -> Result<(A, B, C, D), NoMemory>
     ensures { IfOk result (λ copies. (copies.0 ≡ first.now) × (copies.1 ≡ second.now)
         × (copies.2 ≡ third.now) × (copies.3 ≡ fourth.now)) }
 {
-    Ok((
-        first.try_clone(alloc)?,
-        second.try_clone(alloc)?,
-        third.try_clone(alloc)?,
-        fourth.try_clone(alloc)?,
-    ))
+    match (
+        try_clone_two(alloc, first, second),
+        try_clone_two(alloc, third, fourth),
+    ) {
+        (Ok(front), Ok(back)) => {
+            let (first, second) = front;
+            let (third, fourth) = back;
+            Ok((first, second, third, fourth))
+        }
+        (front, back) => {
+            drop(front);
+            drop(back);
+            Err(NoMemory)
+        }
+    }
 }

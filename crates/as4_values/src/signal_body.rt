@@ -55,30 +55,42 @@ impl PlainData for Severity {
 
 impl PlainData for ErrorItem {
     fn try_clone(&self, alloc: Global) -> Result<ErrorItem, NoMemory> {
-        let (code, severity, origin, category) = try_clone_four(
-            alloc,
-            &self.code,
-            &self.severity,
-            &self.origin,
-            &self.category,
-        )?;
-        let (about, short, description, detail) = try_clone_four(
-            alloc,
-            &self.about,
-            &self.short,
-            &self.description,
-            &self.detail,
-        )?;
-        Ok(ErrorItem {
-            code,
-            severity,
-            origin,
-            category,
-            about,
-            short,
-            description,
-            detail,
-        })
+        match (
+            try_clone_four(
+                alloc,
+                &self.code,
+                &self.severity,
+                &self.origin,
+                &self.category,
+            ),
+            try_clone_four(
+                alloc,
+                &self.about,
+                &self.short,
+                &self.description,
+                &self.detail,
+            ),
+        ) {
+            (Ok(front), Ok(rest)) => {
+                let (code, severity, origin, category) = front;
+                let (about, short, description, detail) = rest;
+                Ok(ErrorItem {
+                    code,
+                    severity,
+                    origin,
+                    category,
+                    about,
+                    short,
+                    description,
+                    detail,
+                })
+            }
+            (front, rest) => {
+                drop(front);
+                drop(rest);
+                Err(NoMemory)
+            }
+        }
     }
 
     fn same(&self, other: &ErrorItem) -> bool {

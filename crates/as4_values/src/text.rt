@@ -1,5 +1,6 @@
 ghost use Rattle.std.specs.Prelude.{◌≡◌, ℕ, ◌-◌, ◌<◌, ◌≤◌, ◌↔◌, List, false, IfOk, IfErr, IsTrue, length, slice_index};
 ghost use Rattle.std.specs.List.{AllWithin};
+ghost use Rattle.as4_values.specs.PlainTexts.{IsPlainText};
 ghost use Rattle.as4_values.specs.Texts.{IsText, Spells, TextGoesWrong, is_blank};
 
 use crate::lists::Octets;
@@ -53,6 +54,19 @@ impl Text {
                 }),
                 Err(_) => Err(TextRefusal::NoMemory),
             },
+        }
+    }
+
+    /// The text that plain bytes are: printable ASCII without `"`, `%`, `&`, `<` and `>`, and without a space at either
+    /// end.
+    pub fn plain(alloc: Global, bytes: &[u8]) -> Result<Text, NoMemory>
+        requires { IsPlainText bytes.now }
+        ensures { IfOk result (λ text. text ≡ bytes.now) }
+    {
+        match Text::read(alloc, bytes) {
+            Ok(text) => Ok(text),
+            Err(TextRefusal::NoMemory) => Err(NoMemory),
+            Err(TextRefusal::BadText { .. }) => unreachable!(),
         }
     }
 

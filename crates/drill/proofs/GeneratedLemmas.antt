@@ -8,12 +8,12 @@ use Rattle.std.proofs.lemmas.List.{append-nil}
 use Rattle.std.proofs.Math.Nat.{mod-add-mod}
 use Rattle.as4_effects.specs.declared.queue.Queue.TheVariants as queue
 use Rattle.drill.specs.Events.{Doing, Sets, Does, Says}
-use Rattle.drill.specs.Generated.{IsRound, Leads, LegStops, RoundStops, Rounds, RoundsStop, Stops, Taken, leg, carried, counted, submissions, invoice, next_number, size_by}
-use Rattle.drill.specs.Generating.{Goes, IsHead, Legs, Runs, Turns, carried_both, nothing_line}
-use Rattle.drill.specs.Stages.{IsAtEnd}
+use Rattle.drill.specs.Generated.{Leads, LegStops, RoundRuns, RoundStops, Rounds, RoundsStop, Stops, Taken, leg, carried, carried_both, counted, submissions, invoice, next_number, size_by}
+use Rattle.drill.specs.Generating.{Goes, IsHead, Legs, Runs, Turns, nothing_line}
 use Rattle.drill.specs.declared.refused.Refused.{Refused}
 use Rattle.drill.specs.declared.refused.Refused.TheVariants as refused
-use Rattle.drill.specs.Transcript.{Plays, PlaysAll, Stage, doing_of, events_limit, is_placed, is_right, is_too_many, new_stage}
+use Rattle.drill.specs.Transcript.{Plays, PlaysAll, Stage, doing_of, events_limit, is_right, is_too_many, new_stage}
+use Rattle.drill.proofs.StageLemmas.{right_at_end}
 use Rattle.drill_script.specs.LineText.{line_text, line_limit, is_line, is_name, load_text}
 use Rattle.drill_script.specs.declared.line.EndName.{EndName}
 use Rattle.drill_script.specs.declared.line.EndName.TheVariants as name
@@ -141,15 +141,6 @@ pub runs_more : {X : Type 0} (result : Result X Refused) (xs ys : List Line) (ol
 runs_more result xs ys old mid new leads runs =
     goes_on result (λ _. Leads ys mid new) (λ _. Leads (xs ++ ys) old new) (Stops ys mid) (Stops (xs ++ ys) old)
     (λ _ more. leads_append xs ys old mid new leads more) (stops_behind xs ys old mid leads) runs
-
-pub right_at_end : (l : Line) (stage : Stage) → IsAtEnd l → IsTrue (is_line l) → length (line_text l) ≤ line_limit → is_right l stage ≡ true
-right_at_end l stage at said short =
-    and_from (is_line l) (nat_le (length (line_text l)) line_limit && is_placed l stage) said
-    (and_from (nat_le (length (line_text l)) line_limit) (is_placed l stage) (le-leb (length (line_text l)) line_limit short) (placed l at))
-  where
-    placed : (k : Line) → IsAtEnd k → is_placed k stage ≡ true
-    placed (line.Mode name way retries period) never = absurd never
-    placed k is = refl
 
 -- a package that is carried
 
@@ -386,7 +377,7 @@ counted_most c false is = rw is (omega arith)
 pub leg_few : (c later : ℕ) (old new : Stage) → c ≤ 2 * old.events → Legs c old new (Some later)
     → (later ≤ 2 * new.events) × ((old.events + 1 ≤ new.events) × (old.events < events_limit))
 leg_few c later old new few leg =
-    let rises = take_rises (if c % 3 == 2 then [] else carried c name.B (length old.world.left.said) ++ carried (c + 1) name.A (length old.world.right.said)) old new leg.2 in
+    let rises = take_rises (carried_both c (length old.world.left.said) (length old.world.right.said)) old new leg.2 in
     let most : counted c ≤ c + 2 = counted_most c (c % 3 == 2) refl in
     let more : old.events + 1 ≤ new.events = rises.0 in
     let is : later ≡ counted c = leg.0 in
@@ -498,7 +489,7 @@ one_later round more = omega arith
 next_round : (round : ℕ) → round + 1 ≡ suc round
 next_round round = omega arith
 
-pub rounds_more : (old : Stage) (round c later : ℕ) (mid new : Stage) → RoundsOn old round c mid → IsRound round c mid later new
+pub rounds_more : (old : Stage) (round c later : ℕ) (mid new : Stage) → RoundsOn old round c mid → RoundRuns round c mid later new
     → RoundsOn old (round + 1) later new
 rounds_more old round c later mid new on played more last rounds =
     let rest : Rounds more (suc round) later new last = subst (λ (n : ℕ). Rounds more n later new last) (next_round round) rounds in
@@ -515,7 +506,7 @@ RoundsStopOn old round c mid = (more : ℕ) → RoundsStop more round c mid → 
 pub stops_none : (old : Stage) → RoundsStopOn old 0 0 old
 stops_none old more stops = subst (λ (n : ℕ). RoundsStop n 0 0 old) (none_more more) stops
 
-pub stops_more : (old : Stage) (round c later : ℕ) (mid new : Stage) → RoundsStopOn old round c mid → IsRound round c mid later new
+pub stops_more : (old : Stage) (round c later : ℕ) (mid new : Stage) → RoundsStopOn old round c mid → RoundRuns round c mid later new
     → RoundsStopOn old (round + 1) later new
 stops_more old round c later mid new on played more stops =
     let rest : RoundsStop more (suc round) later new = subst (λ (n : ℕ). RoundsStop more n later new) (next_round round) stops in

@@ -1,41 +1,20 @@
--- The names of a script are plain texts, and a mode of a new name may join the others.
-use Rattle.std.proofs.Common.{◌≡◌, ◌≢◌, inl, inr, ℕ, zero, suc, ◌<◌, ◌≤◌, List, [], ◌∷◌, ◌++◌, Bool, true, false, ◌&&◌, ◌||◌, nat_le, length, length-append, refl, sym, ◌∙◌, subst, arith}
-use Rattle.std.specs.Prelude.{IsTrue, codes, slice_index}
-use Rattle.std.specs.List.{All, AllPairs, list_all, list_any}
+-- The conversation of a drill is plain text, and a mode of a new name may join the others.
+use Rattle.std.proofs.Common.{◌≡◌, ◌≢◌, inl, inr, ℕ, zero, suc, ◌<◌, ◌≤◌, List, [], ◌∷◌, ◌++◌, true, false, length, length-append, refl, sym, ◌∙◌, subst, arith}
+use Rattle.std.specs.Prelude.{IsTrue, codes}
+use Rattle.std.specs.List.{All, AllPairs, list_any}
 use Rattle.std.specs.Str.{bytes_eq}
 use Rattle.std.proofs.Math.Nat.{eq-or-lt_of_le}
 use Rattle.std.proofs.Math.Seq.{get_or-append_seam}
-use Rattle.std.proofs.lemmas.Bool.{and_parts, or_parts, leb-true}
-use Rattle.std.proofs.lemmas.Bool.Decides.{nat_tests}
+use Rattle.std.proofs.lemmas.Bool.{or_parts}
 use Rattle.std.proofs.lemmas.List.{get_or_append_left}
 use Rattle.std.proofs.lemmas.List.Elements.{All-append}
-use Rattle.std.proofs.lemmas.List.Sums.{AllPass-from_list_all}
 use Rattle.std.proofs.lemmas.Slice.Eq.{bytes_eq-Decides}
-use Rattle.as4_values.specs.PlainTexts.{IsPlainText, allows_at}
+use Rattle.as4_values.specs.PlainTexts.{IsPlainText}
 use Rattle.as4_values.specs.declared.mode.Mode.{Mode}
 use Rattle.drill_script.specs.LineText.{is_name}
 use Rattle.drill_script.specs.declared.line.Way.{Way}
 use Rattle.drill_texts.specs.Modes.{AreDrillModes, IsDrillMode, IsSomeDrillMode}
-
--- a to z and 0 to 9
-abbrev is_name_byte : ℕ → Bool
-is_name_byte b = (nat_le 97 b && nat_le b 122) || (nat_le 48 b && nat_le b 57)
-
-name_byte_allowed : (bytes : List ℕ) (at : ℕ) → is_name_byte (slice_index bytes at) ≡ true → IsTrue (allows_at bytes at)
-name_byte_allowed bytes at named = grind (arith, nat_tests)
-
-pub name_is_plain : (name : List ℕ) → IsTrue (is_name name) → IsPlainText name
-unfolding is_name
-name_is_plain name named =
-    let outer = and_parts (nat_le 1 (length name)) _ named in
-    let inner = and_parts (nat_le (length name) 32) (list_all is_name_byte name) outer.1 in
-    let some : 1 ≤ length name = leb-true 1 (length name) outer.0 in
-    let short : length name ≤ 32 = leb-true (length name) 32 inner.0 in
-    record {
-      some = omega arith;
-      limited = omega arith;
-      each = λ at within. name_byte_allowed name at (AllPass-from_list_all is_name_byte name inner.1 at 0 within);
-    }
+use Rattle.drill_texts.proofs.ModeLemmas.{name_is_plain}
 
 c_is_name : IsTrue (is_name (codes "c"))
 unfolding is_name

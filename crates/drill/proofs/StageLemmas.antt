@@ -1,13 +1,13 @@
 -- What happens at one end of a stage is what its line asks for.
 use Rattle.std.proofs.Common.{◌≡◌, ◌≢◌, ℕ, ◌+◌, List, [], ◌∷◌, ◌++◌, Bool, true, false, ◌&&◌, nat_le, refl, sym, ◌∙◌, ap, subst}
-use Rattle.std.specs.Prelude.{◌≤◌, Ok, Err, IfOk, IsTrue, Result, length}
+use Rattle.std.specs.Prelude.{◌≤◌, Option, Ok, Err, IfOk, IsTrue, Result, length}
 use Rattle.std.specs.Option.{unwrap_or}
 use Rattle.std.proofs.lemmas.Bool.{and_from, and_parts, le-leb, leb-true}
 use Rattle.as4_values.specs.declared.mode.Mode.{Mode}
 use Rattle.drill.specs.Events.{Asked, Doing, Sets, Does, Says, side_of}
 use Rattle.drill.specs.Players.{Meets, Seat}
-use Rattle.drill.specs.Stages.{Acts, Happens, IsAtEnd, Performs}
-use Rattle.drill.specs.Transcript.{Makes, Plays, Stage, doing_of, is_placed, is_right, is_too_many}
+use Rattle.drill.specs.Stages.{IsAtEnd, Performs}
+use Rattle.drill.specs.Transcript.{Acts, Makes, Plays, Stage, doing_of, is_placed, is_right, is_too_many}
 use Rattle.drill.specs.declared.refused.Refused.{Refused}
 use Rattle.drill.specs.declared.refused.Refused.TheVariants as refused
 use Rattle.drill_script.specs.LineText.{is_line, is_name, line_limit, line_text}
@@ -19,7 +19,7 @@ use Rattle.drill_script.specs.declared.line.Way.{Way}
 use Rattle.drill_texts.specs.Modes.{IsDrillMode}
 use Rattle.exchange_model.specs.LosslessRound.{across, party_at}
 use Rattle.exchange_model.specs.Table.{Step}
-use Rattle.exchange_model.specs.World.{IsHeard, Left, Right, World}
+use Rattle.exchange_model.specs.World.{IsHeard, Left, Right}
 use Rattle.exchange_model.specs.declared.event.Event.{Event}
 
 -- a stage by its parts
@@ -27,90 +27,75 @@ abbrev pub staged : Seat → Seat → List Mode → ℕ → Bool → Stage
 staged left right modes events begun =
     record { world = record { left = left.party; right = right.party }; modes = modes; events = events; begun = begun }
 
+-- a line of this moment asks for the event
+abbrev pub asks_for : EndName → Event → Option ℕ → Bool → ℕ → Asked
+asks_for at event moment lost number = record { end = at; what = event.what; moment = moment; lost = lost; number = number }
+
 -- at the end a
-pub left_happens : (event : Event) (number : ℕ) (lost : Bool) (left right new : Seat) (text : List ℕ) (modes : List Mode) (events : ℕ) (begun : Bool)
-    → Meets name.A event number lost left text new → left.modes ≡ modes → IsHeard right.party.said event.what
-    → Happens name.A event number lost (staged left right modes events begun) text (staged new right modes events begun)
-left_happens event number lost left right new text modes events begun meets shared heard = record {
+left_makes : (moment : Option ℕ) (event : Event) (number : ℕ) (lost : Bool) (left right new : Seat) (text : List ℕ) (modes : List Mode) (events : ℕ)
+    (begun : Bool) → begun ≡ true → Meets name.A event number lost left text new → left.modes ≡ modes → event.nonce ≡ events
+    → event.stamp ≡ unwrap_or moment left.party.end.moment → IsHeard right.party.said event.what
+    → Makes (asks_for name.A event moment lost number) (staged left right modes events begun) text (staged new right modes (events + 1) begun)
+left_makes moment event number lost left right new text modes events begun on meets shared nonce stamp heard = record {
   act = record { side = Left; modes = modes; event = event; outcome = meets.outcome; lost = lost };
-  here = refl;
+  at = refl;
   modes = refl;
-  meets = refl;
-  loses = refl;
+  does = refl;
+  stamp = stamp;
+  nonce = nonce;
+  lost = refl;
   may = record { heard = heard; step = subst (λ (m : List Mode). Step m left.party.end event meets.outcome) shared meets.step };
   says = meets.says;
-  leads = rw meets.leads refl;
+  leads = rw (meets.leads, on) refl;
 }
 
 -- at the end b
-pub right_happens : (event : Event) (number : ℕ) (lost : Bool) (left right new : Seat) (text : List ℕ) (modes : List Mode) (events : ℕ) (begun : Bool)
-    → Meets name.B event number lost right text new → right.modes ≡ modes → IsHeard left.party.said event.what
-    → Happens name.B event number lost (staged left right modes events begun) text (staged left new modes events begun)
-right_happens event number lost left right new text modes events begun meets shared heard = record {
+right_makes : (moment : Option ℕ) (event : Event) (number : ℕ) (lost : Bool) (left right new : Seat) (text : List ℕ) (modes : List Mode) (events : ℕ)
+    (begun : Bool) → begun ≡ true → Meets name.B event number lost right text new → right.modes ≡ modes → event.nonce ≡ events
+    → event.stamp ≡ unwrap_or moment right.party.end.moment → IsHeard left.party.said event.what
+    → Makes (asks_for name.B event moment lost number) (staged left right modes events begun) text (staged left new modes (events + 1) begun)
+right_makes moment event number lost left right new text modes events begun on meets shared nonce stamp heard = record {
   act = record { side = Right; modes = modes; event = event; outcome = meets.outcome; lost = lost };
-  here = refl;
+  at = refl;
   modes = refl;
-  meets = refl;
-  loses = refl;
+  does = refl;
+  stamp = stamp;
+  nonce = nonce;
+  lost = refl;
   may = record { heard = heard; step = subst (λ (m : List Mode). Step m right.party.end event meets.outcome) shared meets.step };
   says = meets.says;
-  leads = rw meets.leads refl;
+  leads = rw (meets.leads, on) refl;
 }
 
 pub left_met : {E : Type 0} (at : EndName) (event : Event) (number : ℕ) (lost : Bool) (left right new : Seat) (result : Result (List ℕ) E)
-    (modes : List Mode) (events : ℕ) (begun : Bool) (stage : Stage) → at ≡ name.A → staged left right modes events begun ≡ stage
-    → IfOk result (λ text. Meets at event number lost left text new) → left.modes ≡ modes
+    (modes : List Mode) (events : ℕ) (begun : Bool) (stage : Stage) → at ≡ name.A → staged left right modes events begun ≡ stage → begun ≡ true
+    → IfOk result (λ text. Meets at event number lost left text new) → left.modes ≡ modes → event.nonce ≡ stage.events
     → IsHeard (party_at (across (side_of at)) stage.world).said event.what
-    → IfOk result (λ text. Happens at event number lost stage text (staged new right modes events begun))
-left_met at event number lost left right new (Ok text) modes events begun stage is seen meets shared heard =
-    let here : Meets name.A event number lost left text new = subst (λ (n : EndName). Meets n event number lost left text new) is meets in
-    let there : IsHeard (party_at (across (side_of name.A)) stage.world).said event.what =
-    subst (λ (n : EndName). IsHeard (party_at (across (side_of n)) stage.world).said event.what) is heard in
-    let from : IsHeard right.party.said event.what = subst (λ (s : Stage). IsHeard s.world.right.said event.what) (sym seen) there in
-    subst (λ (n : EndName). Happens n event number lost stage text (staged new right modes events begun)) (sym is)
-    (subst (λ (s : Stage). Happens name.A event number lost s text (staged new right modes events begun)) seen
-    (left_happens event number lost left right new text modes events begun here shared from))
-left_met at event number lost left right new (Err error) modes events begun stage is seen meets shared heard = tt
+    → IfOk result (λ text. (moment : Option ℕ) → event.stamp ≡ unwrap_or moment (party_at (side_of at) stage.world).end.moment
+    → Makes (asks_for at event moment lost number) stage text (staged new right modes (events + 1) begun))
+left_met name.A event number lost left right new (Ok text) modes events begun stage is seen on meets shared nonce heard = λ moment stamp.
+    subst (λ (s : Stage). Makes (asks_for name.A event moment lost number) s text (staged new right modes (events + 1) begun)) seen
+    (left_makes moment event number lost left right new text modes events begun on meets shared
+    (nonce ∙ sym (ap (λ (s : Stage). s.events) seen))
+    (stamp ∙ sym (ap (λ (s : Stage). unwrap_or moment s.world.left.end.moment) seen))
+    (subst (λ (s : Stage). IsHeard s.world.right.said event.what) (sym seen) heard))
+left_met name.B event number lost left right new (Ok text) modes events begun stage is seen on meets shared nonce heard = absurd (cc is)
+left_met at event number lost left right new (Err error) modes events begun stage is seen on meets shared nonce heard = tt
 
 pub right_met : {E : Type 0} (at : EndName) (event : Event) (number : ℕ) (lost : Bool) (left right new : Seat) (result : Result (List ℕ) E)
-    (modes : List Mode) (events : ℕ) (begun : Bool) (stage : Stage) → at ≡ name.B → staged left right modes events begun ≡ stage
-    → IfOk result (λ text. Meets at event number lost right text new) → right.modes ≡ modes
+    (modes : List Mode) (events : ℕ) (begun : Bool) (stage : Stage) → at ≡ name.B → staged left right modes events begun ≡ stage → begun ≡ true
+    → IfOk result (λ text. Meets at event number lost right text new) → right.modes ≡ modes → event.nonce ≡ stage.events
     → IsHeard (party_at (across (side_of at)) stage.world).said event.what
-    → IfOk result (λ text. Happens at event number lost stage text (staged left new modes events begun))
-right_met at event number lost left right new (Ok text) modes events begun stage is seen meets shared heard =
-    let here : Meets name.B event number lost right text new = subst (λ (n : EndName). Meets n event number lost right text new) is meets in
-    let there : IsHeard (party_at (across (side_of name.B)) stage.world).said event.what =
-    subst (λ (n : EndName). IsHeard (party_at (across (side_of n)) stage.world).said event.what) is heard in
-    let from : IsHeard left.party.said event.what = subst (λ (s : Stage). IsHeard s.world.left.said event.what) (sym seen) there in
-    subst (λ (n : EndName). Happens n event number lost stage text (staged left new modes events begun)) (sym is)
-    (subst (λ (s : Stage). Happens name.B event number lost s text (staged left new modes events begun)) seen
-    (right_happens event number lost left right new text modes events begun here shared from))
-right_met at event number lost left right new (Err error) modes events begun stage is seen meets shared heard = tt
-
--- the event that a line asks for
-pub record IsAskedAt (ask : Asked) (old : Stage) (event : Event) : Type 0 where
-  pub does : event.what ≡ ask.what
-  pub stamp : event.stamp ≡ unwrap_or ask.moment (party_at (side_of ask.end) old.world).end.moment
-  pub nonce : event.nonce ≡ old.events
-
-counted_on : (old mid new : Stage) (world : World) → old.begun ≡ true → mid ≡ record old { world = world } → new ≡ record mid { events = mid.events + 1 }
-    → new ≡ record old { world = world; events = old.events + 1; begun = true }
-counted_on old mid new world begun led counted = counted ∙ rw (led, begun) refl
-
-pub happened_makes : (ask : Asked) (event : Event) (old mid new : Stage) (text : List ℕ) → Happens ask.end event ask.number ask.lost old text mid
-    → old.begun ≡ true → IsAskedAt ask old event → new ≡ record mid { events = mid.events + 1 } → Makes ask old text new
-happened_makes ask event old mid new text happens begun is counted = record {
-  act = happens.act;
-  at = happens.here;
-  modes = happens.modes;
-  does = ap (λ (e : Event). e.what) happens.meets ∙ is.does;
-  stamp = ap (λ (e : Event). e.stamp) happens.meets ∙ is.stamp;
-  nonce = ap (λ (e : Event). e.nonce) happens.meets ∙ is.nonce;
-  lost = happens.loses;
-  may = happens.may;
-  says = happens.says;
-  leads = counted_on old mid new _ begun happens.leads counted;
-}
+    → IfOk result (λ text. (moment : Option ℕ) → event.stamp ≡ unwrap_or moment (party_at (side_of at) stage.world).end.moment
+    → Makes (asks_for at event moment lost number) stage text (staged left new modes (events + 1) begun))
+right_met name.B event number lost left right new (Ok text) modes events begun stage is seen on meets shared nonce heard = λ moment stamp.
+    subst (λ (s : Stage). Makes (asks_for name.B event moment lost number) s text (staged left new modes (events + 1) begun)) seen
+    (right_makes moment event number lost left right new text modes events begun on meets shared
+    (nonce ∙ sym (ap (λ (s : Stage). s.events) seen))
+    (stamp ∙ sym (ap (λ (s : Stage). unwrap_or moment s.world.right.end.moment) seen))
+    (subst (λ (s : Stage). IsHeard s.world.left.said event.what) (sym seen) heard))
+right_met name.A event number lost left right new (Ok text) modes events begun stage is seen on meets shared nonce heard = absurd (cc is)
+right_met at event number lost left right new (Err error) modes events begun stage is seen on meets shared nonce heard = tt
 
 -- where the modes are shared from this line on
 
@@ -145,7 +130,7 @@ performs_from l old mid new result begun performs =
 
 -- a line that does something at an end is played
 
-right_at_end : (l : Line) (stage : Stage) → IsAtEnd l → IsTrue (is_line l) → length (line_text l) ≤ line_limit → is_right l stage ≡ true
+pub right_at_end : (l : Line) (stage : Stage) → IsAtEnd l → IsTrue (is_line l) → length (line_text l) ≤ line_limit → is_right l stage ≡ true
 right_at_end l stage at said short =
     and_from (is_line l) (nat_le (length (line_text l)) line_limit && is_placed l stage) said
     (and_from (nat_le (length (line_text l)) line_limit) (is_placed l stage) (le-leb (length (line_text l)) line_limit short) (placed l at))
@@ -156,9 +141,7 @@ right_at_end l stage at said short =
 
 plays_at_end : (l : Line) (doing : Doing) (old new : Stage) (text : List ℕ) → IsAtEnd l → Acts doing old text new → Plays l doing old text new
 plays_at_end (line.Mode name way retries period) doing old new text never acts = absurd never
-plays_at_end l (Does ask) old new text at acts = acts
-plays_at_end l (Says end words) old new text at acts = acts
-plays_at_end l Sets old new text at never = absurd never
+plays_at_end l doing old new text at acts = acts
 
 -- what is said of a line that is played, or isn't
 pub record Turns (l : Line) (old new : Stage) (result : Result (List ℕ) Refused) : Type 0 where

@@ -45,11 +45,14 @@ abbrev pub carried : ℕ → EndName → ℕ → List Line
 carried c end place =
     if c % 3 == 2 then [] else line.Came end place ∷ (if c % 5 == 4 then line.Lost end place ∷ [] else [])
 
+-- a's package of the first place is carried to end b, and what b answers to it, b's of the second place, to end a
+abbrev pub carried_both : ℕ → ℕ → ℕ → List Line
+carried_both c place answer = if c % 3 == 2 then [] else carried c name.B place ++ carried (c + 1) name.A answer
+
 -- end a takes a package, which gets the first place among a's, and it is carried; what end b answers to it gets the
 -- second place, among b's
 abbrev pub leg : ℕ → ℕ → ℕ → List Line
-leg c place answer =
-    line.Take name.A ∷ (if c % 3 == 2 then [] else carried c name.B place ++ carried (c + 1) name.A answer)
+leg c place answer = line.Take name.A ∷ carried_both c place answer
 
 -- the counter behind such a leg
 abbrev pub counted : ℕ → ℕ
@@ -89,15 +92,15 @@ abbrev pub ticks_a : ℕ → List Line
 ticks_a moment = line.Tick name.A moment ∷ []
 
 -- one round
-abbrev pub IsRound : ℕ → ℕ → Stage → ℕ → Stage → Type 0
-IsRound round c old later new =
+abbrev pub RoundRuns : ℕ → ℕ → Stage → ℕ → Stage → Type 0
+RoundRuns round c old later new =
     (begun : Stage) × (takes : ℕ) × Leads (ticks_a (3000 * round)) old begun × TakesAll takes c begun later new
 
 -- so many rounds from this one on
 abbrev pub Rounds : ℕ → ℕ → ℕ → Stage → Stage → Type 0
 Rounds zero round c old new = new ≡ old
 Rounds (suc rounds) round c old new =
-    (later : ℕ) × (done : Stage) × IsRound round c old later done × Rounds rounds (suc round) later done new
+    (later : ℕ) × (done : Stage) × RoundRuns round c old later done × Rounds rounds (suc round) later done new
 
 -- what the seed and the count lead to
 abbrev pub IsGenerated : ℕ → ℕ → Stage → Type 0
@@ -129,7 +132,7 @@ abbrev pub RoundsStop : ℕ → ℕ → ℕ → Stage → Type 0
 RoundsStop zero round c old = ⊥
 RoundsStop (suc rounds) round c old =
     RoundStops round c old
-    ⊎ ((later : ℕ) × (done : Stage) × IsRound round c old later done × RoundsStop rounds (suc round) later done)
+    ⊎ ((later : ℕ) × (done : Stage) × RoundRuns round c old later done × RoundsStop rounds (suc round) later done)
 
 -- a line behind the submissions
 abbrev pub RestStops : Stage → Type 0

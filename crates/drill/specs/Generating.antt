@@ -1,7 +1,7 @@
 -- On the way to the world that a seed and a count generate.
-use Rattle.std.specs.Prelude.{◌≡◌, ℕ, ◌+◌, List, [], ◌∷◌, ◌++◌, ◌%◌, ◌==◌, Bool, true, false, if◌then◌else◌, None, Option, Some, IsSome, Ok, Err, Result, codes, length}
+use Rattle.std.specs.Prelude.{◌≡◌, ℕ, List, [], ◌∷◌, ◌++◌, Bool, true, false, None, Option, Some, IsSome, Ok, Err, Result, codes, length}
 use Rattle.as4_effects.specs.declared.queue.Queue.TheVariants as queue
-use Rattle.drill.specs.Generated.{Leads, Stops, carried, counted, leg}
+use Rattle.drill.specs.Generated.{Leads, Stops, counted, leg}
 use Rattle.drill.specs.Transcript.{Plays, Stage, doing_of}
 use Rattle.drill.specs.declared.refused.Refused.{Refused}
 use Rattle.drill.specs.declared.refused.Refused.TheVariants as refused
@@ -21,11 +21,6 @@ Goes (Err refused.NoMemory) P S = Unit {0}
 -- the lines are played, or memory ran out, or one of them is one event too many
 abbrev pub Runs : {X : Type 0} → Result X Refused → List Line → Stage → Stage → Type 0
 Runs result lines old new = Goes result (λ _. Leads lines old new) (Stops lines old)
-
--- what a package and what is answered to it lead to
-abbrev pub carried_both : ℕ → ℕ → ℕ → List Line
-carried_both c place answer =
-    if c % 3 == 2 then [] else carried c name.B place ++ carried (c + 1) name.A answer
 
 -- a leg was played, with the counter behind it, or there was nothing to take
 abbrev pub Legs : ℕ → Stage → Stage → Option ℕ → Type 0

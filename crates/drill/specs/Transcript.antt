@@ -57,24 +57,24 @@ pub record Makes (ask : Asked) (old : Stage) (text : List ℕ) (new : Stage) : T
       (reply_text ask.number ask.lost (length (party_at (side_of ask.end) old.world).said) act.outcome.reply)
   pub leads : new ≡ record old { world = world_at (side_of ask.end) act old.world; events = old.events + 1; begun = true }
 
+-- what is done at an end, and what is written of it
+abbrev pub Acts : Doing → Stage → List ℕ → Stage → Type 0
+Acts Sets old text new = ⊥
+Acts (Does ask) old text new = Makes ask old text new
+Acts (Says end words) old text new = (text ≡ said_line end words) × (new ≡ record old { begun = true })
+
 -- what a line leads to, and what it writes
 abbrev pub Plays : Line → Doing → Stage → List ℕ → Stage → Type 0
 Plays (line.Mode name way retries period) doing old text new =
     (mode : Mode) × IsDrillMode name way retries period mode × (text ≡ [])
     × (new ≡ record old { modes = old.modes ++ mode ∷ [] })
-Plays l (Does ask) old text new = Makes ask old text new
-Plays l (Says end words) old text new = (text ≡ said_line end words) × (new ≡ record old { begun = true })
-Plays l Sets old text new = ⊥
+Plays l doing old text new = Acts doing old text new
 
 -- modes come first, at most 1,024, each name once
 abbrev pub is_placed : Line → Stage → Bool
 is_placed (line.Mode name way retries period) stage =
     not stage.begun && (nat_lt (length stage.modes) 1024 && not (list_any (λ (mode : Mode). bytes_eq mode.name name) stage.modes))
 is_placed l stage = true
-
-abbrev pub is_event : Doing → Bool
-is_event (Does ask) = true
-is_event other = false
 
 -- how many events a script may make
 abbrev pub events_limit : ℕ
@@ -84,9 +84,14 @@ events_limit = 100000
 abbrev pub is_right : Line → Stage → Bool
 is_right l stage = is_line l && (nat_le (length (line_text l)) line_limit && is_placed l stage)
 
+-- where so many events were made, this would be one too many
+abbrev pub is_full_for : Doing → ℕ → Bool
+is_full_for (Does ask) events = nat_le events_limit events
+is_full_for other events = false
+
 -- the line would make one event too many
 abbrev pub is_too_many : Line → Stage → Bool
-is_too_many l stage = is_event (doing_of stage.world l) && nat_le events_limit stage.events
+is_too_many l stage = is_full_for (doing_of stage.world l) stage.events
 
 -- these lines, one after another
 abbrev pub PlaysAll : List Line → Stage → List ℕ → Stage → Type 0

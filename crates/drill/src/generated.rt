@@ -1,8 +1,8 @@
 //! A world that a seed and a count generate, run.
 ghost use Rattle.std.specs.Prelude.{◌≡◌, ◌≢◌, ℕ, ◌+◌, ◌*◌, ◌%◌, ◌≤◌, ◌<◌, ◌∷◌, [], IfOk, IsTrue, None, Some, length, true, false};
 ghost use Rattle.as4_effects.specs.declared.queue.Queue.TheVariants as queue;
-ghost use Rattle.drill.specs.Generated.{GeneratedEnds, IsGenerated, IsRound, IsTooLong, Leads, LegStops, RestStops, RoundStops, Rounds, RoundsStop, Stops, TakesAll, TakesStop, carried, counted, invoice, next_number, size_by, submissions, ticks_a};
-ghost use Rattle.drill.specs.Generating.{Goes, IsHead, Legs, Runs, Turns, carried_both, nothing_line};
+ghost use Rattle.drill.specs.Generated.{GeneratedEnds, IsGenerated, IsTooLong, Leads, LegStops, RestStops, RoundRuns, RoundStops, Rounds, RoundsStop, Stops, TakesAll, TakesStop, carried, carried_both, counted, invoice, next_number, size_by, submissions, ticks_a};
+ghost use Rattle.drill.specs.Generating.{Goes, IsHead, Legs, Runs, Turns, nothing_line};
 ghost use Rattle.drill.specs.Transcript.{Stage as StageValue, is_right, new_stage};
 ghost use Rattle.drill_script.specs.LineText.{is_line, line_limit, line_text};
 ghost use Rattle.drill_script.specs.declared.line.EndName.TheVariants as name;
@@ -184,7 +184,7 @@ fn play_round(stage: &mut Stage, round: u64, counter: u64) -> Result<u64, Refuse
     requires rounds { round ≤ 11 }
     requires few { counter ≤ 2 * stage.old.events }
     ensures { Goes result (λ later. (later ≤ 2 * stage.new.events)
-        × IsRound round counter stage.old later stage.new) (RoundStops round counter stage.old) }
+        × RoundRuns round counter stage.old later stage.new) (RoundStops round counter stage.old) }
 {
     tick(stage, 3000 * round)?;
     take_all(stage, counter)

@@ -2,12 +2,11 @@
 ghost use Rattle.std.specs.Prelude.{◌≡◌, ◌<◌, ◌≤◌, ◌++◌, ◌∷◌, [], IfOk, IsTrue, OnErr, OnOk, length};
 ghost use Rattle.std.specs.List.{list_any};
 ghost use Rattle.std.specs.Str.{bytes_eq};
-ghost use Rattle.as4_values.specs.PlainTexts.{IsPlainText};
 ghost use Rattle.as4_values.specs.declared.mode.Mode.{Mode as ModeValue};
 ghost use Rattle.drill_script.specs.LineText.{is_name};
 ghost use Rattle.drill_texts.specs.Modes.{IsDrillMode};
 
-use as4_values::{Mode, NoMemory, Octets, PlainData, Seq, Text, TextRefusal};
+use as4_values::{Mode, NoMemory, Octets, PlainData, Seq, Text};
 use drill_script::Way;
 use drill_texts::drill_mode;
 use std::alloc::Global;
@@ -54,22 +53,10 @@ pub(crate) fn add_mode(
 }
 
 /// The text that a name is.
-#[tactic(auto, using(crate::proofs::NameLemmas::name_is_plain))]
+#[tactic(auto, using(drill_texts::proofs::ModeLemmas::name_is_plain))]
 pub(crate) fn name_text(alloc: Global, name: &Octets) -> Result<Text, NoMemory>
     requires { IsTrue (is_name name.now) }
     ensures { IfOk result (λ text. text ≡ name.now) }
 {
-    plain_text(alloc, name.bytes())
-}
-
-/// The text that plain bytes are.
-pub(crate) fn plain_text(alloc: Global, bytes: &[u8]) -> Result<Text, NoMemory>
-    requires { IsPlainText bytes.now }
-    ensures { IfOk result (λ text. text ≡ bytes.now) }
-{
-    match Text::read(alloc, bytes) {
-        Ok(text) => Ok(text),
-        Err(TextRefusal::NoMemory) => Err(NoMemory),
-        Err(TextRefusal::BadText { .. }) => unreachable!(),
-    }
+    Text::plain(alloc, name.bytes())
 }

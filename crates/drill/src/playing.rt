@@ -14,10 +14,10 @@ ghost use Rattle.exchange_model.specs.LosslessRound.{across, party_at};
 ghost use Rattle.exchange_model.specs.World.{IsHeard};
 ghost use Rattle.exchange_model.specs.declared.what.What.TheVariants as what;
 
-use crate::naming::{add_mode, is_named, name_text, plain_text};
+use crate::naming::{add_mode, is_named, name_text};
 use crate::refused::Refused;
 use crate::stage::Stage;
-use as4_values::{MAX_MOMENT, NoMemory, Octets, PlainData};
+use as4_values::{MAX_MOMENT, NoMemory, Octets, PlainData, Text};
 use drill_script::{EndName, Line, ScriptLoad, Way};
 use drill_texts::{loads_of, no_package_line, unknown_line};
 use exchange_model::{Event, What};
@@ -206,13 +206,7 @@ impl Stage {
         };
         let said = self.meet(end, &event, number, lost);
         drop(event);
-        match said {
-            Ok(text) => {
-                self.events += 1;
-                Ok(text)
-            }
-            Err(_) => Err(Refused::NoMemory),
-        }
+        Ok(said?)
     }
 }
 
@@ -224,7 +218,7 @@ fn submission(alloc: Global, mode: &Octets, load: &ScriptLoad) -> Result<What, N
     ensures { IfOk result (λ w. w ≡ what.Submit mode.now (Some (codes "c")) (loads_of load.now)) }
 {
     let mode = name_text(alloc, mode)?;
-    let conversation = plain_text(alloc, b"c")?;
+    let conversation = Text::plain(alloc, b"c")?;
     let loads = loads_of(alloc, load)?;
     Ok(What::Submit {
         mode,

@@ -1,9 +1,9 @@
 //! Two ends with their processing modes, the packages that each has sent, and the count of events.
-ghost use Rattle.std.specs.Prelude.{◌≡◌, ◌<◌, ◌≤◌, ◌∷◌, ◌++◌, IfOk, IfSome, IsTrue, OnOk, length, option_copied, true};
+ghost use Rattle.std.specs.Prelude.{◌≡◌, ℕ, ◌+◌, ◌<◌, ◌≤◌, ◌∷◌, ◌++◌, IfOk, IfSome, IsTrue, OnOk, Option, length, option_copied, true};
 ghost use Rattle.std.specs.List.{Contains};
+ghost use Rattle.std.specs.Option.{unwrap_or};
 ghost use Rattle.drill.specs.Events.{id_at, package_for, side_of};
-ghost use Rattle.drill.specs.Stages.{Happens};
-ghost use Rattle.drill.specs.Transcript.{end_lines, new_stage};
+ghost use Rattle.drill.specs.Transcript.{Makes, end_lines, events_limit, new_stage};
 ghost use Rattle.exchange_model.specs.Coming.{may_come};
 ghost use Rattle.exchange_model.specs.LosslessRound.{across, party_at};
 ghost use Rattle.exchange_model.specs.World.{IsHeard};
@@ -78,7 +78,8 @@ impl Stage {
         Ok(())
     }
 
-    /// The event happens at the end. It gives what is written at a line that names the number.
+    /// The event, whose nonce is its number among all, happens at the end. It gives what is written at a line that names
+    /// the number.
     pub(crate) fn meet(
         &mut self,
         end: EndName,
@@ -87,9 +88,14 @@ impl Stage {
         lost: bool,
     ) -> Result<Octets, NoMemory>
         requires begun { self.old.begun ≡ true }
+        requires few { self.old.events < events_limit }
+        requires nonce { event.now.nonce ≡ self.old.events }
         requires heard { IsHeard (party_at (across (side_of end)) self.old.world).said event.now.what }
-        ensures { IfOk result (λ text. Happens end event.now number lost self.old text self.new) }
+        ensures { IfOk result (λ text. (moment : Option ℕ)
+            → event.now.stamp ≡ unwrap_or moment (party_at (side_of end) self.old.world).end.moment
+            → Makes (record { end = end; what = event.now.what; moment = moment; lost = lost; number = number }) self.old text self.new) }
     {
+        self.events += 1;
         match end {
             EndName::A => self.left.meet(self.alloc, end, event, number, lost),
             EndName::B => self.right.meet(self.alloc, end, event, number, lost),

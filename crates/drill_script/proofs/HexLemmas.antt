@@ -6,8 +6,7 @@ use Rattle.std.proofs.lemmas.Bool.Decides.{nat_tests}
 use Rattle.std.proofs.lemmas.List.{append-nil}
 use Rattle.std.proofs.lemmas.List.Concat.{flat_map-append}
 use Rattle.std.proofs.lemmas.List.Folds.{list_all-append}
-use Rattle.drill_script.specs.LineText.{hex_digit, hex_text}
-use Rattle.drill_script.specs.LineParts.{are_bytes}
+use Rattle.drill_script.specs.LineText.{are_bytes, hex_digit, hex_text}
 
 -- a digit has one value
 pub one_digit : (m n : ℕ) → m < 16 → n < 16 → hex_digit m ≡ hex_digit n → m ≡ n
@@ -33,17 +32,11 @@ unfolding hex_text
 hex_text-append front rest = flat_map-append (λ b. hex_digit (b / 16) ∷ hex_digit (b % 16) ∷ []) front rest
 
 are_bytes-cons : (b : ℕ) (bytes : List ℕ) → IsTrue (are_bytes (b ∷ bytes)) → (b < 256) × IsTrue (are_bytes bytes)
-unfolding are_bytes
 are_bytes-cons b bytes each =
     let parts = and_parts (nat_lt b 256) (list_all (λ b. nat_lt b 256) bytes) each in
     (ltb-true b 256 parts.0, parts.1)
 
-pub are_bytes_none : IsTrue (are_bytes [])
-unfolding are_bytes
-are_bytes_none = refl
-
 pub are_bytes_push : (bytes : List ℕ) (b : ℕ) → IsTrue (are_bytes bytes) → b < 256 → IsTrue (are_bytes (bytes ++ b ∷ []))
-unfolding are_bytes
 are_bytes_push bytes b each small = rw (list_all-append (λ b. nat_lt b 256) bytes (b ∷ []), each, lt-ltb b 256 small)
 
 -- bytes whose digits begin with those of others begin with these

@@ -1,11 +1,8 @@
 -- Lemmas on the text of a line: its first word, a space, and its tail.
-use Rattle.std.proofs.Common.{◌≡◌, ℕ, ◌==◌, if◌then◌else◌, List, ◌++◌, get_or, codes, refl, sym, ◌∙◌, ap, append_assoc}
-use Rattle.std.specs.Fmt.{decimal}
-use Rattle.drill_script.specs.Lacking.{Lacks, spaced, parted}
-use Rattle.drill_script.specs.LineText.{line_text, end_line, end_text, load_text}
+use Rattle.std.proofs.Common.{◌≡◌, ℕ, ◌==◌, if◌then◌else◌, List, get_or, refl, sym, ◌∙◌, ap}
+use Rattle.drill_script.specs.Lacking.{Lacks, parted}
+use Rattle.drill_script.specs.LineText.{line_text}
 use Rattle.drill_script.specs.LineParts.{Spells, verb_of, verb_text, tail_text}
-use Rattle.drill_script.specs.declared.line.EndName.{EndName}
-use Rattle.drill_script.specs.declared.line.EndName.TheVariants.{A, B}
 use Rattle.drill_script.specs.declared.line.Line.{Line}
 use Rattle.drill_script.specs.declared.line.Line.TheVariants as line
 use Rattle.drill_script.specs.declared.verb.Counted.TheVariants.{Tick, Came, Lost, Read, Confirm, Status}
@@ -25,25 +22,19 @@ verb_unspaced (Count Read) = Lacks_tested 32 _ refl
 verb_unspaced (Count Confirm) = Lacks_tested 32 _ refl
 verb_unspaced (Count Status) = Lacks_tested 32 _ refl
 
--- a word, an end and the rest
-end_line_parts : (word : List ℕ) (end : EndName) (rest : List ℕ) → end_line word end rest ≡ parted 32 word (spaced (end_text end) rest)
-end_line_parts word A rest = simp append_assoc
-end_line_parts word B rest = simp append_assoc
-
+-- the first word, a space and the rest
 pub line_parts : (said : Line) → line_text said ≡ parted 32 (verb_text (verb_of said)) (tail_text said)
 unfolding line_text
-line_parts (line.Mode name way retries period) = simp append_assoc
-line_parts (line.Submit end mode load) =
-    end_line_parts (codes "submit") end (mode ++ codes " " ++ load_text load)
-    ∙ ap (λ (l : List ℕ). parted 32 (codes "submit") (spaced (end_text end) l)) (append_assoc mode (codes " ") (load_text load))
-line_parts (line.Tick end moment) = end_line_parts (codes "tick") end (decimal moment)
+line_parts (line.Mode name way retries period) = refl
+line_parts (line.Submit end mode load) = refl
+line_parts (line.Tick end moment) = refl
 line_parts (line.Take end) = refl
-line_parts (line.Ask end mode) = end_line_parts (codes "ask") end mode
-line_parts (line.Came end number) = end_line_parts (codes "came") end (decimal number)
-line_parts (line.Lost end number) = end_line_parts (codes "lost") end (decimal number)
-line_parts (line.Read end number) = end_line_parts (codes "read") end (decimal number)
-line_parts (line.Confirm end number) = end_line_parts (codes "confirm") end (decimal number)
-line_parts (line.Status end number) = end_line_parts (codes "status") end (decimal number)
+line_parts (line.Ask end mode) = refl
+line_parts (line.Came end number) = refl
+line_parts (line.Lost end number) = refl
+line_parts (line.Read end number) = refl
+line_parts (line.Confirm end number) = refl
+line_parts (line.Status end number) = refl
 
 -- bytes cut at a space are a line's text where the line has the verb and the tail
 pub spelled_text : (bytes word tail : List ℕ) (verb : Verb) (said : Line) → bytes ≡ parted 32 word tail → word ≡ verb_text verb → Spells verb tail said → bytes ≡ line_text said

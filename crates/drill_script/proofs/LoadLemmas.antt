@@ -4,7 +4,7 @@ use Rattle.std.specs.Fmt.{decimal}
 use Rattle.std.proofs.lemmas.Bool.{leb-true, le-leb}
 use Rattle.drill_script.specs.Lacking.{Lacks, parted}
 use Rattle.drill_script.specs.LineText.{load_text, is_load, hex_text}
-use Rattle.drill_script.specs.LineParts.{IsKeyed, are_bytes}
+use Rattle.drill_script.specs.LineParts.{IsKeyed}
 use Rattle.drill_script.specs.declared.line.ScriptLoad.{ScriptLoad}
 use Rattle.drill_script.specs.declared.line.ScriptLoad.TheVariants.{Nothing, Hex, Size}
 use Rattle.drill_script.proofs.LackingLemmas.{Lacks_tested, Lacks_unparted, one_cut}
@@ -21,18 +21,10 @@ pub size_load_text : (size : ℕ) → load_text (Size size) ≡ parted 61 (codes
 unfolding load_text
 size_load_text size = refl
 
-pub hex_in_range : (bytes : List ℕ) → IsTrue (is_load (Hex bytes)) → IsTrue (are_bytes bytes)
-unfolding are_bytes
-hex_in_range bytes each = each
-
-hex_is_load : (bytes : List ℕ) → IsTrue (are_bytes bytes) → IsTrue (is_load (Hex bytes))
-unfolding are_bytes
-hex_is_load bytes each = each
-
 -- what is keyed so has this text
 pub keyed_text : (word key value : List ℕ) (load : ScriptLoad) → word ≡ parted 61 key value → IsKeyed key value load → (word ≡ load_text load) × IsTrue (is_load load)
 keyed_text word key value Nothing parts keyed = absurd keyed
-keyed_text word key value (Hex bytes) parts keyed = (cc (parts, keyed.0, keyed.1, hex_load_text bytes), hex_is_load bytes keyed.2)
+keyed_text word key value (Hex bytes) parts keyed = (cc (parts, keyed.0, keyed.1, hex_load_text bytes), keyed.2)
 keyed_text word key value (Size size) parts keyed = (cc (parts, keyed.0, keyed.1, size_load_text size), le-leb size 16777216 keyed.2)
 
 -- and what has this text is keyed so
@@ -40,7 +32,7 @@ pub text_keyed : (word key value : List ℕ) (load : ScriptLoad) → word ≡ pa
 text_keyed word key value Nothing parts lacks other is small = other (is ∙ none_text)
 text_keyed word key value (Hex bytes) parts lacks other is small =
     let same = one_cut 61 key value (codes "hex") (hex_text bytes) (sym parts ∙ is ∙ hex_load_text bytes) lacks (Lacks_tested 61 _ refl) in
-    (same.0, same.1, hex_in_range bytes small)
+    (same.0, same.1, small)
 text_keyed word key value (Size size) parts lacks other is small =
     let same = one_cut 61 key value (codes "size") (decimal size) (sym parts ∙ is ∙ size_load_text size) lacks (Lacks_tested 61 _ refl) in
     (same.0, same.1, leb-true size 16777216 small)

@@ -19,7 +19,7 @@ use Rattle.drill_script.specs.declared.verb.Verb.TheVariants.{Mode, Submit, Take
 use Rattle.drill_script.proofs.HexLemmas.{hex_done}
 use Rattle.drill_script.proofs.LackingLemmas.{one_cut}
 use Rattle.drill_script.proofs.LineLemmas.{line_parts, verb_unspaced, one_verb}
-use Rattle.drill_script.proofs.LoadLemmas.{none_only, none_text, hex_load_text, size_load_text, hex_in_range}
+use Rattle.drill_script.proofs.LoadLemmas.{none_only, none_text, hex_load_text, size_load_text}
 use Rattle.drill_script.proofs.SpellLemmas.{take_spelled, ask_spelled, submit_spelled, mode_spelled, counted_spelled}
 use Rattle.drill_script.proofs.WordLemmas.{end_unspaced, way_unspaced, decimal_unspaced, name_unspaced}
 
@@ -43,7 +43,7 @@ one_load Nothing other first second same = none_only (load_text Nothing) other n
 one_load load Nothing first second same = sym (none_only (load_text Nothing) load none_text (sym same))
 one_load (Hex bytes) (Hex others) first second same =
     let text : hex_text bytes ≡ hex_text others = append_cancel_left (codes "hex=") (hex_text bytes) (hex_text others) (sym (hex_load_text bytes) ∙ same ∙ hex_load_text others) in
-    ap Hex (hex_done (hex_text bytes) bytes others [] (sym (append-nil (hex_text bytes))) text (hex_in_range bytes first) (hex_in_range others second) refl)
+    ap Hex (hex_done (hex_text bytes) bytes others [] (sym (append-nil (hex_text bytes))) text first second refl)
 one_load (Hex bytes) (Size size) first second same = absurd (hex_is_not_size bytes size same)
 one_load (Size size) (Hex bytes) first second same = absurd (hex_is_not_size bytes size (sym same))
 one_load (Size size) (Size other) first second same =

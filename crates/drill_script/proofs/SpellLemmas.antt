@@ -120,6 +120,7 @@ pub record CountedIs (counted : Counted) (tail : List ℕ) (said : Line) (end : 
 
 -- a number in range fits 64 bits
 is_counted_small : (counted : Counted) (number : ℕ) → is_counted counted number ≡ true → number < 2 ^ 64
+unfolding is_line
 is_counted_small Tick number within = let low : number ≤ 253402300799999 = leb-true number 253402300799999 within in omega arith
 is_counted_small Came number within = ltb-true number (2 ^ 64) within
 is_counted_small Lost number within = ltb-true number (2 ^ 64) within

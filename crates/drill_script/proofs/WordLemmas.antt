@@ -1,16 +1,16 @@
 -- Lemmas on the words of a line: none of them has a space.
-use Rattle.std.proofs.Common.{◌≡◌, ℕ, ◌^◌, ◌<◌, Bool, true, false, not, ◌&&◌, ◌||◌, nat_le, List, [], ◌∷◌, length, IsTrue, Result, Ok, refl, sym, ◌∙◌, ap, subst, arith}
+use Rattle.std.proofs.Common.{◌≡◌, ℕ, ◌^◌, ◌<◌, Bool, true, false, not, nat_le, List, [], ◌∷◌, length, IsTrue, Result, Ok, refl, sym, ◌∙◌, ap, subst, arith}
 use Rattle.std.specs.Fmt.{decimal}
 use Rattle.std.specs.List.{list_all}
 use Rattle.std.specs.Str.{IsUtf8, bytes_eq}
 use Rattle.std.specs.Str.Parse.{AllDigits, ParsesUnsigned}
 use Rattle.std.specs.Char.{digit_value}
 use Rattle.std.proofs.lemmas.Bool.{and_parts}
-use Rattle.std.proofs.lemmas.Fmt.{decimal_is_IsNumeral, IsAscii-decimal, parse-decimal}
+use Rattle.std.proofs.lemmas.Fmt.{decimal_is_IsNumeral, IsAscii-decimal_wide, parse-decimal_wide}
 use Rattle.std.proofs.lemmas.Slice.Eq.{bytes_eq-Decides}
 use Rattle.std.proofs.lemmas.Str.{IsUtf8-from_ascii}
 use Rattle.drill_script.specs.Lacking.{Lacks}
-use Rattle.drill_script.specs.LineText.{end_text, way_text, is_name}
+use Rattle.drill_script.specs.LineText.{end_text, way_text, is_drill_byte, is_name}
 use Rattle.drill_script.specs.declared.line.EndName.{EndName}
 use Rattle.drill_script.specs.declared.line.EndName.TheVariants.{A, B}
 use Rattle.drill_script.specs.declared.line.Way.{Way}
@@ -32,31 +32,32 @@ digits_unspaced (d ∷ digits) each = Lacks_more 32 d digits (λ (is : d ≡ 32)
 pub decimal_unspaced : (n : ℕ) → n < 2 ^ 64 → Lacks 32 (decimal n)
 decimal_unspaced n small = digits_unspaced (decimal n) (decimal_is_IsNumeral n small).0.1
 
-abbrev is_name_byte : ℕ → Bool
-is_name_byte b = (nat_le 97 b && nat_le b 122) || (nat_le 48 b && nat_le b 57)
-
-name_bytes_unspaced : (bytes : List ℕ) → list_all is_name_byte bytes ≡ true → Lacks 32 bytes
+name_bytes_unspaced : (bytes : List ℕ) → list_all is_drill_byte bytes ≡ true → Lacks 32 bytes
 name_bytes_unspaced [] each = Lacks_none 32
 name_bytes_unspaced (b ∷ bytes) each =
-    let parts = and_parts (is_name_byte b) (list_all is_name_byte bytes) each in
+    let parts = and_parts (is_drill_byte b) (list_all is_drill_byte bytes) each in
     Lacks_more 32 b bytes
-    (λ (is : b ≡ 32). let tested : is_name_byte 32 ≡ true = subst (λ (b : ℕ). is_name_byte b ≡ true) is parts.0 in cc)
+    (λ (is : b ≡ 32). let tested : is_drill_byte 32 ≡ true = subst (λ (b : ℕ). is_drill_byte b ≡ true) is parts.0 in cc)
     (name_bytes_unspaced bytes parts.1)
 
 pub name_unspaced : (name : List ℕ) → IsTrue (is_name name) → Lacks 32 name
 unfolding is_name
 name_unspaced name named =
     let outer = and_parts (nat_le 1 (length name)) _ named in
-    let inner = and_parts (nat_le (length name) 32) (list_all is_name_byte name) outer.1 in
+    let inner = and_parts (nat_le (length name) 32) (list_all is_drill_byte name) outer.1 in
     name_bytes_unspaced name inner.1
 
+-- a number of 128 bits has at most 64 digits
+short : (n : ℕ) → n < 2 ^ 128 → n < 10 ^ 64
+short n small = omega arith
+
 -- a printed number is text
-pub decimal_is_text : (word : List ℕ) (n : ℕ) → n < 2 ^ 64 → word ≡ decimal n → IsUtf8 word
-decimal_is_text word n small printed = subst IsUtf8 (sym printed) (IsUtf8-from_ascii (decimal n) (IsAscii-decimal n small))
+pub decimal_is_text : (word : List ℕ) (n : ℕ) → n < 2 ^ 128 → word ≡ decimal n → IsUtf8 word
+decimal_is_text word n small printed = subst IsUtf8 (sym printed) (IsUtf8-from_ascii (decimal n) (IsAscii-decimal_wide n (short n small)))
 
 -- a printed number is read
-pub decimal_is_read : {E : Type 0} (word : List ℕ) (n : ℕ) (read : Result ℕ E) → n < 2 ^ 64 → word ≡ decimal n → ParsesUnsigned 64 10 word read → read ≡ Ok n
-decimal_is_read word n read small printed parsed = parse-decimal 64 n word read small small printed parsed
+pub decimal_is_read : {E : Type 0} (word : List ℕ) (n : ℕ) (read : Result ℕ E) → n < 2 ^ 128 → word ≡ decimal n → ParsesUnsigned 128 10 word read → read ≡ Ok n
+decimal_is_read word n read small printed parsed = parse-decimal_wide 128 n word read small (short n small) printed parsed
 
 -- the same bytes are not found unequal
 pub same_is_equal : (xs ys : List ℕ) (unequal : Bool) → unequal ≡ not (bytes_eq xs ys) → unequal ≡ true → xs ≡ ys → ⊥

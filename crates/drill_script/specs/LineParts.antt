@@ -1,10 +1,11 @@
 -- A line by its first word and what stands behind it.
-use Rattle.std.specs.Prelude.{◌≡◌, ℕ, ◌^◌, ◌≤◌, Bool, nat_le, nat_lt, List, IsTrue, codes}
-use Rattle.std.specs.List.{list_all}
+use Rattle.std.specs.Prelude.{◌≡◌, ℕ, ◌≤◌, Bool, List, IsTrue, codes, drop}
+use Rattle.std.specs.List.{join_with_byte}
 use Rattle.std.specs.Fmt.{decimal}
 use Rattle.drill_script.specs.Lacking.{spaced}
-use Rattle.drill_script.specs.LineText.{is_line, end_text, way_text, load_text, hex_text}
+use Rattle.drill_script.specs.LineText.{are_bytes, is_line, line_words, way_text, hex_text}
 use Rattle.drill_script.specs.declared.line.EndName.{EndName}
+use Rattle.drill_script.specs.declared.line.EndName.TheVariants.{A}
 use Rattle.drill_script.specs.declared.line.Line.{Line}
 use Rattle.drill_script.specs.declared.line.Line.TheVariants as line
 use Rattle.drill_script.specs.declared.line.ScriptLoad.{ScriptLoad}
@@ -41,18 +42,9 @@ counted_line Read end number = line.Read end number
 counted_line Confirm end number = line.Confirm end number
 counted_line Status end number = line.Status end number
 
--- the number is in range behind this verb
+-- the number is in range behind this verb, at either end
 abbrev pub is_counted : Counted → ℕ → Bool
-is_counted Tick number = nat_le number 253402300799999
-is_counted Came number = nat_lt number (2 ^ 64)
-is_counted Lost number = nat_lt number (2 ^ 64)
-is_counted Read number = nat_lt number (2 ^ 64)
-is_counted Confirm number = nat_lt number (2 ^ 64)
-is_counted Status number = nat_lt number (2 ^ 64)
-
--- each is below 256
-unfoldable pub are_bytes : List ℕ → Bool
-are_bytes bytes = list_all (λ b. nat_lt b 256) bytes
+is_counted counted number = is_line (counted_line counted A number)
 
 -- what a message carries, by what stands before and behind a `=`
 abbrev pub IsKeyed : List ℕ → List ℕ → ScriptLoad → Type 0
@@ -79,16 +71,7 @@ settings_text way retries period = spaced (way_text way) (spaced (decimal retrie
 
 -- what stands behind the first word
 abbrev pub tail_text : Line → List ℕ
-tail_text (line.Mode name way retries period) = spaced name (settings_text way retries period)
-tail_text (line.Submit end mode load) = spaced (end_text end) (spaced mode (load_text load))
-tail_text (line.Tick end moment) = spaced (end_text end) (decimal moment)
-tail_text (line.Take end) = end_text end
-tail_text (line.Ask end mode) = spaced (end_text end) mode
-tail_text (line.Came end number) = spaced (end_text end) (decimal number)
-tail_text (line.Lost end number) = spaced (end_text end) (decimal number)
-tail_text (line.Read end number) = spaced (end_text end) (decimal number)
-tail_text (line.Confirm end number) = spaced (end_text end) (decimal number)
-tail_text (line.Status end number) = spaced (end_text end) (decimal number)
+tail_text l = join_with_byte 32 (drop 1 (line_words l))
 
 -- the line has this verb and this tail, and is in range
 pub record Spells (verb : Verb) (tail : List ℕ) (line : Line) : Type 0 where

@@ -15,7 +15,7 @@
 -- leading zeros.
 use Rattle.std.specs.Prelude.{ℕ, ◌+◌, ◌/◌, ◌%◌, ◌^◌, List, [], ◌∷◌, ◌++◌, Bool, true, ◌&&◌, ◌||◌, nat_le, nat_lt, if◌then◌else◌, length, codes}
 use Rattle.std.specs.Fmt.{decimal}
-use Rattle.std.specs.List.{flat_map, list_all}
+use Rattle.std.specs.List.{flat_map, join_with_byte, list_all}
 use Rattle.drill_script.specs.declared.line.EndName.{EndName}
 use Rattle.drill_script.specs.declared.line.EndName.TheVariants.{A, B}
 use Rattle.drill_script.specs.declared.line.Line.{Line}
@@ -46,32 +46,38 @@ load_text Nothing = codes "none"
 load_text (Hex bytes) = codes "hex=" ++ hex_text bytes
 load_text (Size size) = codes "size=" ++ decimal size
 
--- a word, an end and a word
-abbrev pub end_line : List ℕ → EndName → List ℕ → List ℕ
-end_line word end rest = word ++ codes " " ++ end_text end ++ codes " " ++ rest
+-- the words of a line
+abbrev pub line_words : Line → List (List ℕ)
+line_words (line.Mode name way retries period) = codes "mode" ∷ name ∷ way_text way ∷ decimal retries ∷ decimal period ∷ []
+line_words (line.Submit end mode load) = codes "submit" ∷ end_text end ∷ mode ∷ load_text load ∷ []
+line_words (line.Tick end moment) = codes "tick" ∷ end_text end ∷ decimal moment ∷ []
+line_words (line.Take end) = codes "take" ∷ end_text end ∷ []
+line_words (line.Ask end mode) = codes "ask" ∷ end_text end ∷ mode ∷ []
+line_words (line.Came end number) = codes "came" ∷ end_text end ∷ decimal number ∷ []
+line_words (line.Lost end number) = codes "lost" ∷ end_text end ∷ decimal number ∷ []
+line_words (line.Read end number) = codes "read" ∷ end_text end ∷ decimal number ∷ []
+line_words (line.Confirm end number) = codes "confirm" ∷ end_text end ∷ decimal number ∷ []
+line_words (line.Status end number) = codes "status" ∷ end_text end ∷ decimal number ∷ []
 
+-- they are parted by one space
 unfoldable pub line_text : Line → List ℕ
-line_text (line.Mode name way retries period) =
-    codes "mode " ++ name ++ codes " " ++ way_text way ++ codes " " ++ decimal retries ++ codes " " ++ decimal period
-line_text (line.Submit end mode load) = end_line (codes "submit") end (mode ++ codes " " ++ load_text load)
-line_text (line.Tick end moment) = end_line (codes "tick") end (decimal moment)
-line_text (line.Take end) = codes "take " ++ end_text end
-line_text (line.Ask end mode) = end_line (codes "ask") end mode
-line_text (line.Came end number) = end_line (codes "came") end (decimal number)
-line_text (line.Lost end number) = end_line (codes "lost") end (decimal number)
-line_text (line.Read end number) = end_line (codes "read") end (decimal number)
-line_text (line.Confirm end number) = end_line (codes "confirm") end (decimal number)
-line_text (line.Status end number) = end_line (codes "status") end (decimal number)
+line_text l = join_with_byte 32 (line_words l)
 
--- 1 to 32 of a to z and 0 to 9
+-- a to z and 0 to 9
+abbrev pub is_drill_byte : ℕ → Bool
+is_drill_byte b = (nat_le 97 b && nat_le b 122) || (nat_le 48 b && nat_le b 57)
+
+-- 1 to 32 of these bytes
 unfoldable pub is_name : List ℕ → Bool
-is_name name =
-    nat_le 1 (length name) && (nat_le (length name) 32
-    && list_all (λ b. (nat_le 97 b && nat_le b 122) || (nat_le 48 b && nat_le b 57)) name)
+is_name name = nat_le 1 (length name) && (nat_le (length name) 32 && list_all is_drill_byte name)
+
+-- each is below 256
+abbrev pub are_bytes : List ℕ → Bool
+are_bytes bytes = list_all (λ b. nat_lt b 256) bytes
 
 abbrev pub is_load : ScriptLoad → Bool
 is_load Nothing = true
-is_load (Hex bytes) = list_all (λ b. nat_lt b 256) bytes
+is_load (Hex bytes) = are_bytes bytes
 is_load (Size size) = nat_le size 16777216
 
 -- what it says is in range

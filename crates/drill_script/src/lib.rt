@@ -13,3 +13,4 @@ mod words;
 pub use line::{EndName, Line, ScriptLoad, Way};
 pub use lines::{LINE_LIMIT, LineGot, LineReader};
 pub use reading::{line_of, one_line};
+pub use words::decimal_of;

@@ -148,6 +148,7 @@ fn counted_of(counted: Counted, tail: &[u8]) -> Option<Line>
 }
 
 // A moment has a last value, and the other numbers have not.
+#[tactic(auto, unfolding(crate::specs::LineText::is_line))]
 fn may_count(counted: Counted, number: u64) -> bool
     ensures { result ≡ is_counted counted number }
 {

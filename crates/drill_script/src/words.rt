@@ -1,10 +1,10 @@
 //! The words of a line, one at a time.
-ghost use Rattle.std.specs.Prelude.{◌≡◌, ℕ, Some, List, ◌∷◌, ◌++◌, ◌<◌, ◌^◌, ◌&&◌, ◌||◌, nat_le, IfSome, IsTrue};
+ghost use Rattle.std.specs.Prelude.{◌≡◌, ℕ, Some, List, ◌∷◌, ◌++◌, ◌<◌, ◌^◌, IfSome, IsTrue};
 ghost use Rattle.std.specs.List.{list_all};
 ghost use Rattle.std.specs.Option.{IfNone, IsSomeAnd};
 ghost use Rattle.std.specs.Fmt.{decimal};
 ghost use Rattle.drill_script.specs.Lacking.{Lacks, parted, spaced};
-ghost use Rattle.drill_script.specs.LineText.{end_text, way_text, is_name};
+ghost use Rattle.drill_script.specs.LineText.{end_text, way_text, is_drill_byte, is_name};
 
 use crate::line::{EndName, Way};
 use itoa::Buffer;
@@ -24,15 +24,15 @@ pub(crate) fn cut(byte: u8, bytes: &[u8]) -> Option<(&[u8], &[u8])>
 }
 
 /// Reads a decimal number without sign and without leading zeros: one that is printed as this word.
-pub(crate) fn number_of(word: &[u8]) -> Option<u64>
+pub fn decimal_of(word: &[u8]) -> Option<u128>
     ensures found { IfSome result (λ number. word.now ≡ decimal number) }
-    ensures range { IfSome result (λ number. number < 2 ^ 64) }
-    ensures only { (number : ℕ) → number < 2 ^ 64 → word.now ≡ decimal number → result ≡ Some number }
+    ensures range { IfSome result (λ number. number < 2 ^ 128) }
+    ensures only { (number : ℕ) → number < 2 ^ 128 → word.now ≡ decimal number → result ≡ Some number }
 {
     let Ok(text) = str::from_utf8(word) else {
         return None;
     };
-    let Ok(number) = text.parse::<u64>() else {
+    let Ok(number) = text.parse::<u128>() else {
         return None;
     };
     let mut buffer = Buffer::new();
@@ -40,6 +40,15 @@ pub(crate) fn number_of(word: &[u8]) -> Option<u64>
         return None;
     }
     Some(number)
+}
+
+/// Reads such a number of 64 bits.
+pub(crate) fn number_of(word: &[u8]) -> Option<u64>
+    ensures found { IfSome result (λ number. word.now ≡ decimal number) }
+    ensures range { IfSome result (λ number. number < 2 ^ 64) }
+    ensures only { (number : ℕ) → number < 2 ^ 64 → word.now ≡ decimal number → result ≡ Some number }
+{
+    u64::try_from(decimal_of(word)?).ok()
 }
 
 /// Whether these bytes name a mode: 1 to 32 of a to z and 0 to 9.
@@ -55,7 +64,7 @@ pub(crate) fn may_name(word: &[u8]) -> bool
 
 // Whether each byte is one of a to z or 0 to 9.
 fn has_name_bytes(word: &[u8]) -> bool
-    ensures { result ≡ list_all (λ b. (nat_le 97 b && nat_le b 122) || (nat_le 48 b && nat_le b 57)) word.now }
+    ensures { result ≡ list_all is_drill_byte word.now }
 {
     word.iter().all(|byte| (97 <= *byte && *byte <= 122) || (48 <= *byte && *byte <= 57))
 }

@@ -1,3 +1,3 @@
 pub mod ListLemmas
-mod ModeLemmas
+pub mod ModeLemmas
 mod PatternLemmas

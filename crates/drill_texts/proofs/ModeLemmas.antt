@@ -1,5 +1,5 @@
 -- The texts of a drill's modes are in range.
-use Rattle.std.proofs.Common.{◌≡◌, ℕ, ◌+◌, ◌≤◌, List, [], ◌∷◌, ◌++◌, Bool, true, false, not, ◌&&◌, ◌||◌, nat_le, ◌==◌, length, length-append, refl, arith}
+use Rattle.std.proofs.Common.{◌≡◌, ℕ, ◌+◌, ◌≤◌, List, [], ◌∷◌, ◌++◌, Bool, true, false, not, ◌&&◌, nat_le, ◌==◌, length, length-append, refl, arith}
 use Rattle.std.specs.Prelude.{IsTrue, None, codes, slice_index}
 use Rattle.std.specs.List.{list_all}
 use Rattle.std.proofs.lemmas.Bool.{and_parts, and_from, le-leb, leb-true}
@@ -12,7 +12,7 @@ use Rattle.as4_values.specs.PlainTexts.{IsPlainText, is_plain, allows_at}
 use Rattle.as4_values.specs.declared.header.Side.{Side}
 use Rattle.as4_values.specs.declared.route.Route.{Route}
 use Rattle.as4_values.specs.declared.route.Route.TheVariants as route
-use Rattle.drill_script.specs.LineText.{is_name}
+use Rattle.drill_script.specs.LineText.{is_drill_byte, is_name}
 use Rattle.drill_script.specs.declared.line.Way.{Way}
 use Rattle.drill_script.specs.declared.line.Way.TheVariants.{Push, Pull}
 use Rattle.drill_texts.specs.Modes.{IsDrillSide, drill_address, route_of}
@@ -39,10 +39,6 @@ word_is_plain bytes word =
       limited = omega arith;
       each = λ at within. allowed bytes at (AllPass-from_list_all is_word_byte bytes parts.1 at 0 within);
     }
-
--- a to z and 0 to 9
-abbrev is_drill_byte : ℕ → Bool
-is_drill_byte b = (nat_le 97 b && nat_le b 122) || (nat_le 48 b && nat_le b 57)
 
 record Named (name : List ℕ) : Type 0 where
   some : 1 ≤ length name

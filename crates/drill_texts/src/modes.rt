@@ -10,7 +10,7 @@ ghost use Rattle.as4_values.specs.PlainTexts.{IsPlainText};
 ghost use Rattle.drill_script.specs.LineText.{is_name};
 ghost use Rattle.drill_texts.specs.Modes.{AreDrillModes, IsDrillMode, IsDrillSide, route_of};
 
-use as4_values::{Mode, NoMemory, Octets, Party, Route, Seq, Service, Side, Text, TextRefusal};
+use as4_values::{Mode, NoMemory, Octets, Party, Route, Seq, Service, Side, Text};
 use drill_script::Way;
 use pmodes::{ModeRefusal, Modes};
 use std::alloc::Global;
@@ -30,27 +30,36 @@ pub fn drill_mode(
     requires period { period ≤ 1000000000 }
     ensures { IfOk result (IsDrillMode name.now way retries period) }
 {
-    let action = text_of(alloc, name.bytes())?;
-    let service = text_of(alloc, b"drill")?;
-    let from = side_of(alloc, b"drill-a", b"sender")?;
-    let to = side_of(alloc, b"drill-b", b"receiver")?;
-    let route = route_of(alloc, name.bytes(), way)?;
-    let name = text_of(alloc, name.bytes())?;
-    Ok(Mode {
-        name,
-        from,
-        to,
-        service: Service {
-            value: service,
-            kind: None,
-        },
-        action,
-        agreement: None,
-        route,
-        retries,
-        period,
-        collect: false,
-    })
+    match (
+        Text::plain(alloc, name.bytes()),
+        side_of(alloc, b"drill-a", b"sender"),
+        side_of(alloc, b"drill-b", b"receiver"),
+        Text::plain(alloc, b"drill"),
+        Text::plain(alloc, name.bytes()),
+        route_of(alloc, name.bytes(), way),
+    ) {
+        (Ok(name), Ok(from), Ok(to), Ok(value), Ok(action), Ok(route)) => Ok(Mode {
+            name,
+            from,
+            to,
+            service: Service { value, kind: None },
+            action,
+            agreement: None,
+            route,
+            retries,
+            period,
+            collect: false,
+        }),
+        (name, from, to, value, action, route) => {
+            drop(name);
+            drop(from);
+            drop(to);
+            drop(value);
+            drop(action);
+            drop(route);
+            Err(NoMemory)
+        }
+    }
 }
 
 /// The modes of a script: no message belongs to two of them.
@@ -73,8 +82,8 @@ fn side_of(alloc: Global, id: &[u8], role: &[u8]) -> Result<Side, NoMemory>
     ensures { IfOk result (IsDrillSide id.now role.now) }
 {
     let mut parties = Vec::with_capacity(alloc, 1)?;
-    let id = text_of(alloc, id)?;
-    let role = text_of(alloc, role)?;
+    let id = Text::plain(alloc, id)?;
+    let role = Text::plain(alloc, role)?;
     parties.push_reserved(Party { id, kind: None });
     Ok(Side {
         parties: Seq::of(parties),
@@ -88,26 +97,14 @@ fn route_of(alloc: Global, name: &[u8], way: Way) -> Result<Route, NoMemory>
     requires { IsTrue (is_name name.now) }
     ensures { IfOk result (λ route. route ≡ route_of name.now way) }
 {
-    let address = text_of(alloc, b"http://drill/")?;
+    let address = Text::plain(alloc, b"http://drill/")?;
     match way {
         Way::Push => Ok(Route::Push { address }),
         Way::Pull => {
             let mut mpc = Vec::from_slice(alloc, b"drill-")?;
             mpc.extend_from_slice(name)?;
-            let mpc = text_of(alloc, mpc.as_slice())?;
+            let mpc = Text::plain(alloc, mpc.as_slice())?;
             Ok(Route::Pull { mpc, address })
         }
-    }
-}
-
-/// The text that plain bytes are.
-fn text_of(alloc: Global, bytes: &[u8]) -> Result<Text, NoMemory>
-    requires { IsPlainText bytes.now }
-    ensures { IfOk result (λ text. text ≡ bytes.now) }
-{
-    match Text::read(alloc, bytes) {
-        Ok(text) => Ok(text),
-        Err(TextRefusal::NoMemory) => Err(NoMemory),
-        Err(TextRefusal::BadText { .. }) => unreachable!(),
     }
 }

@@ -2,14 +2,14 @@
 use Rattle.std.proofs.Common.{◌≡◌, ℕ, ◌+◌, ◌<◌, List, [], ◌∷◌, Bool, true, false, cond, Option, Some, None, option_map, length, take, count_by, refl, ap, sym, ◌∙◌, arith, zero, suc, add-one, add-zero, fold}
 use Rattle.std.specs.List.{slice_get}
 use Rattle.exchange_model.specs.Apply.{is_one}
+use Rattle.exchange_model.specs.Numbered.{AreNumberedFrom}
 use Rattle.exchange_model.specs.Questions.{sent_at, standing_of}
 use Rattle.exchange_model.specs.declared.sent.Mark.{Mark}
 use Rattle.exchange_model.specs.declared.sent.Mark.TheVariants as mark
 use Rattle.exchange_model.specs.declared.sent.Sent.{Sent}
+use Rattle.exchange_model.proofs.NumberedLemmas.{place}
 use Rattle.end_tables.specs.Totals.{AreCounted, counted, is_failed_mark, is_receipted_mark, is_refused_mark}
 use Rattle.end_tables.specs.declared.totals.Totals.{Totals}
-use Rattle.end_tables.specs.Numbered.{AreNumberedFrom}
-use Rattle.outbox.proofs.NumberedLemmas.{place}
 
 next_from : (p : Sent → Bool) (a k : ℕ) (sent : List Sent) → k < length sent
     → fold (λ n s. n + cond (p s) 1 0) a (take (suc k) sent) ≡ fold (λ n s. n + cond (p s) 1 0) a (take k sent) + cond (is_one p (slice_get sent k)) 1 0

@@ -7,17 +7,18 @@ use Rattle.as4_effects.specs.declared.submission.Submission.{Submission}
 use Rattle.channels.specs.Queues.{inserted, waiting_at, without}
 use Rattle.channels.specs.declared.waiting.Waiting.{Waiting}
 use Rattle.end_tables.specs.Again.{with_again}
-use Rattle.end_tables.specs.Numbered.{AreNumberedFrom}
 use Rattle.end_tables.specs.Rooms.{queue_at, queue_of_sent}
 use Rattle.end_tables.specs.Waiting.{waiting_in, waiting_of}
 use Rattle.end_tables.proofs.KeptLemmas.{tried_queue}
-use Rattle.end_tables.proofs.NumberLemmas.{number_at, none_behind}
+use Rattle.end_tables.proofs.NumberLemmas.{none_behind}
 use Rattle.end_tables.proofs.QueueLemmas.{at_without, without_none}
 use Rattle.end_tables.proofs.WaitingLemmas.{changed_with, failed_waits, submitted_waits, waited, waiting_there}
 use Rattle.exchange_model.specs.Apply.{changed, failed_if_spent, is_one, marked, tried, unsent}
+use Rattle.exchange_model.specs.Numbered.{AreNumberedFrom}
 use Rattle.exchange_model.specs.Questions.{due, is_pending, is_pending_mark, is_waiting, queue_of, sent_at}
 use Rattle.exchange_model.specs.declared.sent.Mark.{Mark}
 use Rattle.exchange_model.specs.declared.sent.Sent.{Sent}
+use Rattle.exchange_model.proofs.FoundLemmas.{sent_at_has}
 
 -- one that isn't there yet doesn't wait
 pub new_waits : (k : ℕ) (sent : List Sent) (waiting : List Waiting) → waiting ≡ waiting_in sent → AreNumberedFrom 0 sent → k ≡ length sent
@@ -60,7 +61,7 @@ pub waits_there : (k : ℕ) (sent : List Sent) (waiting : List Waiting) (queue :
     → waiting_at k waiting ≡ Some (record { queue = queue; due = d; number = k })
 waits_there k sent waiting queue d step stand w e q =
     ap (waiting_at k) step ∙ waiting_there k sent stand
-    ∙ there_of k (sent_at k sent) queue d (λ s at. number_at k sent s at) w e q
+    ∙ there_of k (sent_at k sent) queue d (λ s at. (sent_at_has k sent s at).1) w e q
 
 not_waited : (o : Option Sent) → is_one is_waiting o ≡ false → waited o ≡ None
 not_waited None w = refl
@@ -85,7 +86,7 @@ pub put_again : (k : ℕ) (sent : List Sent) (queue : Queue) (d : ℕ) (waiting 
     → is_one is_waiting (sent_at k sent) ≡ true → Some d ≡ option_map due (sent_at k sent) → queue ≡ queue_at k sent
     → inserted (record { queue = queue; due = d; number = k }) waiting ≡ with_again (sent_at k sent) waiting
 put_again k sent queue d waiting w e q =
-    again_of k (sent_at k sent) queue d waiting (λ s at. number_at k sent s at) w e q
+    again_of k (sent_at k sent) queue d waiting (λ s at. (sent_at_has k sent s at).1) w e q
 
 sent_at-changed : (k : ℕ) (f : Sent → Sent) → ((s : Sent) → (f s).submission ≡ s.submission) → (sent : List Sent)
     → sent_at k (changed k f sent) ≡ option_map f (sent_at k sent)
@@ -106,7 +107,7 @@ changed_of : (k : ℕ) (f : Sent → Sent) → ((s : Sent) → (f s).submission 
     → sent_at k sent ≡ o → is_one (λ s. true) o ≡ true → waiting_in (changed k f sent) ≡ with_again (option_map f o) (without k (waiting_in sent))
 changed_of k f same sent h None at one = cc
 changed_of k f same sent h (Some s) at one =
-    changed_with 0 k f sent s h at (ap (λ (x : Submission). x.number) (same s) ∙ number_at k sent s at)
+    changed_with 0 k f sent s h at (ap (λ (x : Submission). x.number) (same s) ∙ (sent_at_has k sent s at).1)
 
 is_there_if : (test : Sent → Bool) (o : Option Sent) → IsTrue (is_one test o) → is_one (λ s. true) o ≡ true
 is_there_if test None h = h

@@ -1,20 +1,21 @@
 -- What becomes of what waits where a submission changes.
 use Rattle.std.proofs.Common.{◌≡◌, ℕ, suc, ◌+◌, ◌<◌, ◌≤◌, List, [], ◌∷◌, ◌++◌, true, false, cond, eqb, Option, Some, None, map, length, refl, ap, sym, ◌∙◌, arith, inl, inr, subst}
-use Rattle.std.proofs.lemmas.Bool.{eq-eqb, ne_eqb, cond-true, cond-false, cases_eq, cases_lt, cases_Bool, le-leb}
+use Rattle.std.proofs.lemmas.Bool.{eq-eqb, ne_eqb, cond-true, cond-false, cases_eq, cases_Bool, le-leb}
 use Rattle.std.proofs.lemmas.Option.{none-some, same_Some}
 use Rattle.std.proofs.lemmas.Bool.Decides.{nat_tests}
 use Rattle.as4_effects.specs.declared.submission.Submission.{Submission}
 use Rattle.channels.specs.Queues.{inserted, waiting_at, without}
 use Rattle.channels.specs.declared.waiting.Waiting.{Waiting}
 use Rattle.exchange_model.specs.Apply.{changed, failed_if_spent, marked, unsent}
+use Rattle.exchange_model.specs.Numbered.{AreNumberedFrom}
 use Rattle.exchange_model.specs.Questions.{is_spent, is_waiting, sent_at}
 use Rattle.exchange_model.specs.declared.sent.Mark.TheVariants as mark
 use Rattle.exchange_model.specs.declared.sent.Sent.{Sent}
+use Rattle.exchange_model.proofs.FoundLemmas.{sent_at_has}
+use Rattle.exchange_model.proofs.NumberedLemmas.{changed_before, number_least}
 use Rattle.end_tables.specs.Again.{with_again}
-use Rattle.end_tables.specs.Numbered.{AreNumberedFrom}
 use Rattle.end_tables.specs.Waiting.{waiting_in, waiting_of}
 use Rattle.end_tables.proofs.QueueLemmas.{AreAbove, above_at, above_inserted, above_without, inserted_after, without_other, without_same}
-use Rattle.outbox.proofs.NumberedLemmas.{changed_before, number_below}
 
 waits_first : (s : Sent) (sent : List Sent) → is_waiting s ≡ true → waiting_in (s ∷ sent) ≡ waiting_of s ∷ waiting_in sent
 unfolding waiting_in
@@ -57,8 +58,7 @@ rest_without n s sent e h =
     ]
 
 behind : (n k : ℕ) (sent : List Sent) (s : Sent) → AreNumberedFrom n sent → sent_at k sent ≡ Some s → n ≤ k
-behind n k sent s h e =
-    elim (cases_lt k n) [ inl l ↦ absurd (none-some s (sym (number_below n k sent h l) ∙ e)) | inr l ↦ l ]
+behind n k sent s h e = let there = sent_at_has k sent s e in omega (arith, there.1, number_least n sent s h there.0)
 
 with_first : (s : Sent) (sent : List Sent) (n : ℕ) → s.submission.number ≡ n → AreNumberedFrom (suc n) sent → waiting_in (s ∷ sent) ≡ with_again (Some s) (waiting_in sent)
 with_first s sent n e h =

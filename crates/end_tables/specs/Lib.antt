@@ -1,5 +1,4 @@
 pub mod Again
-pub mod Numbered
 pub mod Reading
 pub mod Rooms
 pub mod Standing

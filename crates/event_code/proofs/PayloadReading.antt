@@ -1,8 +1,10 @@
 -- Payloads and routes in bodies.
 use Rattle.std.proofs.Common.{◌≡◌, ℕ, List, ◌∷◌, ◌++◌, drop, get_or, refl, ap, sym, subst, arith, ◌∙◌}
 use Rattle.std.proofs.Props.{props}
+use Rattle.std.specs.Prelude.{IsTrue}
+use Rattle.as4_values.proofs.PayloadLemmas.{media_limited}
 use Rattle.as4_effects.specs.Bodies.{text_body, payload_body, route_body}
-use Rattle.as4_values.specs.Payload.{IsContentId, IsMediaText}
+use Rattle.as4_values.specs.Payload.{IsContentId, is_media_text}
 use Rattle.as4_values.specs.Texts.{IsText}
 use Rattle.as4_values.specs.declared.word.Word.TheVariants.{Identifier}
 use Rattle.as4_values.specs.declared.payload.Payload.{Payload}
@@ -37,7 +39,7 @@ payload_parts p = ((p.cid, p.media), p.content)
 
 -- the facts that a payload keeps
 abbrev pub IsNamedThree : Three → Type 0
-IsNamedThree t = IsContentId t.0.0 × IsMediaText t.0.1
+IsNamedThree t = IsContentId t.0.0 × IsTrue (is_media_text t.0.1)
 
 payload_of : (t : Three) → IsNamedThree t → Payload
 payload_of t is = record { cid = t.0.0; media = t.0.1; content = t.1; named = is.0; typed = is.1 }
@@ -57,7 +59,7 @@ payload_told a b e =
 
 payload_kept : (p : Payload) → IsSpelledPayload p → IsThree (payload_parts p)
 unfolding IsSpelledPayload
-payload_kept p is = let media = p.typed.limited in ((word_counted Identifier p.cid p.named, omega (arith, media)), is)
+payload_kept p is = let media = media_limited p.media p.typed in ((word_counted Identifier p.cid p.named, omega (arith, media)), is)
 
 payload_same : (p : Payload) → payload_body p ≡ three_body (payload_parts p)
 unfolding payload_body

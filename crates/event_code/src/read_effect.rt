@@ -12,7 +12,7 @@ use crate::refusal::BodyRefusal;
 use crate::rest::Rest;
 use crate::whole::{Sent, is_delivery, is_submission};
 use as4_effects::{Delivery, Effect, Submission, Tick};
-use as4_values::{Code, MAX_MOMENT, Payload, Seq, UserHeader};
+use as4_values::{Code, MAX_MOMENT, NoMemory, Payload, Seq, UserHeader};
 use std::alloc::Global;
 
 impl Readable for Effect {
@@ -53,20 +53,28 @@ fn read_submission(alloc: Global, rest: &mut Rest) -> Result<Submission, BodyRef
         → Refuses IsSpelledSubmission submission_body (1 ∷ rest.old)) }
 {
     let sent = Sent::read(alloc, rest)?;
-    let whole = is_submission(alloc, &sent)?;
-    if !whole {
-        return Err(BodyRefusal::NotBody);
+    match is_submission(alloc, &sent) {
+        Ok(true) => {
+            let (((number, header), (payloads, route)), (retries, (period, moment))) = sent;
+            Ok(Submission {
+                number,
+                header,
+                payloads,
+                route,
+                retries,
+                period,
+                moment,
+            })
+        }
+        Ok(false) => {
+            drop(sent);
+            Err(BodyRefusal::NotBody)
+        }
+        Err(NoMemory) => {
+            drop(sent);
+            Err(BodyRefusal::NoMemory)
+        }
     }
-    let (((number, header), (payloads, route)), (retries, (period, moment))) = sent;
-    Ok(Submission {
-        number,
-        header,
-        payloads,
-        route,
-        retries,
-        period,
-        moment,
-    })
 }
 
 /// Reads a delivery behind its byte.
@@ -77,12 +85,20 @@ fn read_delivery(alloc: Global, rest: &mut Rest) -> Result<Delivery, BodyRefusal
         → Refuses IsSpelledDelivery delivery_body (4 ∷ rest.old)) }
 {
     let came = <(UserHeader, Seq<Payload>)>::read(alloc, rest)?;
-    let whole = is_delivery(alloc, &came)?;
-    if !whole {
-        return Err(BodyRefusal::NotBody);
+    match is_delivery(alloc, &came) {
+        Ok(true) => {
+            let (header, payloads) = came;
+            Ok(Delivery { header, payloads })
+        }
+        Ok(false) => {
+            drop(came);
+            Err(BodyRefusal::NotBody)
+        }
+        Err(NoMemory) => {
+            drop(came);
+            Err(BodyRefusal::NoMemory)
+        }
     }
-    let (header, payloads) = came;
-    Ok(Delivery { header, payloads })
 }
 
 /// Reads a tick behind its byte.

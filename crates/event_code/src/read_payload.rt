@@ -3,7 +3,7 @@
 
 ghost use Rattle.std.specs.Prelude.{◌≡◌, IsTrue, ◌↔◌};
 ghost use Rattle.as4_effects.specs.Bodies.{payload_body, route_body};
-ghost use Rattle.as4_values.specs.Payload.{IsContentId, IsMediaText};
+ghost use Rattle.as4_values.specs.Payload.{IsContentId, is_media_text};
 ghost use Rattle.event_code.specs.Spelled.{IsSpelledPayload, IsSpelledRoute};
 
 use crate::reading::Readable;
@@ -35,7 +35,7 @@ impl Readable for Payload {
 
 /// Whether a payload may have this Content-ID and this media text.
 fn may_describe(cid: &Octets, media: &Octets) -> bool
-    ensures { IsTrue result ↔ (IsContentId cid.now × IsMediaText media.now) }
+    ensures { IsTrue result ↔ (IsContentId cid.now × IsTrue (is_media_text media.now)) }
 {
     Word::Identifier.first_wrong(cid.bytes()).is_none() && is_media_text(media.bytes())
 }

@@ -31,10 +31,12 @@ impl Readable for UserHeader {
     ghost is_one = { IsSpelledHeader };
 
     fn read(alloc: Global, rest: &mut Rest) -> Result<UserHeader, BodyRefusal> {
-        let (names, (sides, (texts, lists))) = <(Names, (Sides, Ending))>::read(alloc, rest)?;
-        if !are_counted(&lists) {
+        let fields = <(Names, (Sides, Ending))>::read(alloc, rest)?;
+        if !are_counted(&fields.1.1.1) {
+            drop(fields);
             return Err(BodyRefusal::NotBody);
         }
+        let (names, (sides, (texts, lists))) = fields;
         let ((mpc, stamp), (id, ref_to)) = names;
         let ((from, to), (agreement, service)) = sides;
         let (action, conversation) = texts;

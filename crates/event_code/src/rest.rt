@@ -1,6 +1,6 @@
 //! The bytes that are still to be read, and numbers and octets off their front.
 
-ghost use Rattle.std.specs.Prelude.{◌≡◌, ℕ, ◌<◌, ◌≤◌, ◌==◌, ◌^◌, ◌++◌, ◌∷◌, [], List, length, IfOk, OnErr};
+ghost use Rattle.std.specs.Prelude.{◌≡◌, ℕ, ◌<◌, ◌≤◌, ◌==◌, ◌^◌, ◌++◌, ◌∷◌, [], List, length, IfErr, IfOk, OnErr};
 ghost use Rattle.as4_effects.specs.Bodies.{number_body, text_body};
 ghost use Rattle.event_code.specs.Reading.{IsCounted, Refuses};
 
@@ -36,6 +36,7 @@ impl<'a> Rest<'a> {
     fn take(&mut self, len: usize) -> Result<&'a [u8], BodyRefusal>
         ensures found { IfOk result (λ front. (length front.now ≡ len) × (self.old ≡ front.now ++ self.new)) }
         ensures short { OnErr result (length self.old < len) }
+        ensures cause { IfErr result (λ e. e ≡ BodyRefusal.NotBody) }
     {
         let bytes = self.bytes;
         if bytes.len() < len {
@@ -49,6 +50,7 @@ impl<'a> Rest<'a> {
     pub fn take_byte(&mut self) -> Result<u8, BodyRefusal>
         ensures found { IfOk result (λ byte. self.old ≡ byte ∷ self.new) }
         ensures short { OnErr result (self.old ≡ []) }
+        ensures cause { IfErr result (λ e. e ≡ BodyRefusal.NotBody) }
     {
         let bytes = self.bytes;
         let Some((byte, rest)) = bytes.split_first() else {
@@ -63,6 +65,7 @@ impl<'a> Rest<'a> {
         requires { places ≤ 8 }
         ensures found { IfOk result (λ number. (number < 256 ^ places) × (self.old ≡ number_body places number ++ self.new)) }
         ensures short { OnErr result (length self.old < places) }
+        ensures cause { IfErr result (λ e. e ≡ BodyRefusal.NotBody) }
     {
         Ok(number_of(self.take(places)?))
     }
@@ -71,6 +74,7 @@ impl<'a> Rest<'a> {
     pub fn take_octets(&mut self) -> Result<&'a [u8], BodyRefusal>
         ensures found { IfOk result (λ octets. IsCounted octets.now × (self.old ≡ text_body octets.now ++ self.new)) }
         ensures not_body { OnErr result (Refuses IsCounted text_body self.old) }
+        ensures cause { IfErr result (λ e. e ≡ BodyRefusal.NotBody) }
     {
         let len = self.take_number(4)?;
         let octets = self.take(len as usize)?;

@@ -5,12 +5,12 @@ use Rattle.as4_effects.specs.declared.submission.Submission.{Submission}
 use Rattle.exchange_model.specs.Alone.{MayHappenTo, end_after}
 use Rattle.exchange_model.specs.Apply.{applied}
 use Rattle.exchange_model.specs.End.{End}
+use Rattle.exchange_model.specs.Numbered.{AreNumberedFrom}
 use Rattle.exchange_model.specs.Table.{Step}
 use Rattle.exchange_model.specs.World.{Act}
 use Rattle.exchange_model.specs.declared.sent.Mark.TheVariants as mark
 use Rattle.exchange_model.specs.declared.sent.Sent.{Sent}
-use Rattle.exchange_laws.proofs.ListLemmas.{Has}
-use Rattle.exchange_laws.proofs.SentLemmas.{Numbered}
+use Rattle.exchange_model.proofs.ListLemmas.{Has}
 use Rattle.exchange_laws.proofs.SentSteps.{Receipts}
 use Rattle.exchange_laws.proofs.InboxLemmas.{ids, Apart}
 use Rattle.exchange_laws.proofs.EndSteps.{EndGoes}
@@ -19,7 +19,7 @@ use Rattle.exchange_laws.proofs.SettleLemmas.{settled_or_stood}
 
 -- the submissions are numbered, the inbox has no identifier twice, and each receipted submission is one for which P holds
 pub record EndHolds (P : Submission → Type 0) (end : End) : Type 0 where
-  pub numbered : Numbered 0 end.sent
+  pub numbered : AreNumberedFrom 0 end.sent
   pub apart : Apart (ids end.inbox)
   pub receipted : (s : Sent) → Has end.sent s → s.mark ≡ mark.Receipted → P s.submission
 
@@ -55,15 +55,15 @@ end_holds P (act ∷ acts) end holds may brings =
     (λ later h. brings later (inr h))
 
 -- whatever happens, the submissions stay numbered
-pub stays_numbered : (acts : List Act) (end : End) → Numbered 0 end.sent → MayHappenTo acts end
-    → Numbered 0 (end_after acts end).sent
+pub stays_numbered : (acts : List Act) (end : End) → AreNumberedFrom 0 end.sent → MayHappenTo acts end
+    → AreNumberedFrom 0 (end_after acts end).sent
 stays_numbered [] end numbered may = numbered
 stays_numbered (act ∷ acts) end numbered may =
     let goes = step_goes act.modes end act.event act.outcome numbered may.0 in
     stays_numbered acts (applied act.outcome.effects end) goes.sent.numbered may.1
 
 -- and what is receipted stays as it is
-pub stays_receipted : (acts : List Act) (end : End) (s : Sent) → Numbered 0 end.sent → MayHappenTo acts end → Has end.sent s
+pub stays_receipted : (acts : List Act) (end : End) (s : Sent) → AreNumberedFrom 0 end.sent → MayHappenTo acts end → Has end.sent s
     → s.mark ≡ mark.Receipted → Has (end_after acts end).sent s
 stays_receipted [] end s numbered may h m = h
 stays_receipted (act ∷ acts) end s numbered may h m =

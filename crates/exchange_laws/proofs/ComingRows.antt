@@ -17,6 +17,7 @@ use Rattle.as4_values.specs.declared.signal_body.SignalBody.TheVariants as body
 use Rattle.exchange_model.specs.Apply.{after, after_all}
 use Rattle.exchange_model.specs.End.{End}
 use Rattle.exchange_model.specs.ErrorCodes.{ErrorRow, error_row, error_item}
+use Rattle.exchange_model.specs.Numbered.{AreNumberedFrom}
 use Rattle.exchange_model.specs.Questions.{head_of, is_known, is_pending, sent_of}
 use Rattle.exchange_model.specs.Refusing.{Refusal, refusal_of, refusals_of, once}
 use Rattle.exchange_model.specs.Table.{Errs, Receipts as Answers, Delivers, UserComes, PullComes, Settles, IsOther, ReceiptComes, SignalComes, Comes}
@@ -27,8 +28,9 @@ use Rattle.exchange_model.specs.declared.reply.Reply.TheVariants as reply
 use Rattle.exchange_model.specs.declared.sent.Sent.{Sent}
 use Rattle.exchange_model.specs.declared.what.What.{What}
 use Rattle.exchange_model.specs.declared.what.What.TheVariants.{Came}
-use Rattle.exchange_laws.proofs.ListLemmas.{Has, had_mapped, had_right}
-use Rattle.exchange_laws.proofs.SentLemmas.{Numbered, sent_of_has}
+use Rattle.exchange_model.proofs.FoundLemmas.{sent_of_has}
+use Rattle.exchange_model.proofs.ListLemmas.{Has}
+use Rattle.exchange_laws.proofs.ListLemmas.{had_mapped, had_right}
 use Rattle.exchange_laws.proofs.SentSteps.{Receipts, sent_stays, sent_then}
 use Rattle.exchange_laws.proofs.SentChanges.{NoneReceipted, none_by_refusal, sent_receipted, sent_refused}
 use Rattle.exchange_laws.proofs.RefusalLemmas.{refusals_spare}
@@ -45,7 +47,7 @@ errors_back inbox ref_to about b (Some row) e =
     let same : body.Errors (error_item row about ∷ []) ≡ b = cc in subst (BacksSignal inbox ref_to) same tt
 
 -- an error is told
-errs : (what : What) (code : ℕ) (about : List ℕ) (end : End) (event : Event) (outcome : Outcome) → Numbered 0 end.sent
+errs : (what : What) (code : ℕ) (about : List ℕ) (end : End) (event : Event) (outcome : Outcome) → AreNumberedFrom 0 end.sent
     → Errs code about event outcome
     → Goes what end outcome
 errs what code about end event outcome numbered h =
@@ -61,7 +63,7 @@ receipt_backs inbox header signal refers copies h =
 
 -- a user message
 user_comes : (modes : List Mode) (end : End) (event : Event) (header : UserHeader) (payloads : List Payload) (outcome : Outcome)
-    → Numbered 0 end.sent
+    → AreNumberedFrom 0 end.sent
     → UserComes modes end event header payloads outcome → Goes (Came (message.User header payloads)) end outcome
 unfolding UserComes after
 user_comes modes end event header payloads outcome numbered h =
@@ -95,7 +97,7 @@ user_comes modes end event header payloads outcome numbered h =
 
 -- a pull request
 pull_comes : (what : What) (modes : List Mode) (end : End) (event : Event) (id mpc : List ℕ) (outcome : Outcome)
-    → Numbered 0 end.sent
+    → AreNumberedFrom 0 end.sent
     → PullComes modes end event id mpc outcome → Goes what end outcome
 unfolding PullComes
 pull_comes what modes end event id mpc outcome numbered h =
@@ -112,7 +114,7 @@ reference sent (Some id) s e = (id, refl, e)
 -- a receipt
 receipt_comes : (signal : Signal) (copy : Option UserHeader) (end : End) (event : Event) (outcome : Outcome)
     → signal.body ≡ body.Receipt copy
-    → Numbered 0 end.sent → ReceiptComes end event signal.id signal.ref_to copy outcome
+    → AreNumberedFrom 0 end.sent → ReceiptComes end event signal.id signal.ref_to copy outcome
     → Goes (Came (message.Signal signal)) end outcome
 unfolding ReceiptComes after
 receipt_comes signal copy end event outcome receipt numbered h =
@@ -144,7 +146,7 @@ receipt_comes signal copy end event outcome receipt numbered h =
         settles s there.0 brought own.1
 
 -- the refusals, one after another, where none names a receipted submission
-refuses : (what : What) (refusals : List Refusal) (end : End) → Numbered 0 end.sent
+refuses : (what : What) (refusals : List Refusal) (end : End) → AreNumberedFrom 0 end.sent
     → ((refusal : Refusal) → Has refusals refusal → NoneReceipted refusal.number end.sent)
     → EndGoes what reply.Quiet end (after_all (map (λ (refusal : Refusal). effect.Refused refusal.number refusal.code) refusals) end)
 unfolding after
@@ -158,7 +160,7 @@ refuses what (refusal ∷ refusals) end numbered spare =
 
 -- errors
 errors_come : (what : What) (items : List ErrorItem) (ref_to : Option (List ℕ)) (end : End) (outcome : Outcome)
-    → Numbered 0 end.sent
+    → AreNumberedFrom 0 end.sent
     → outcome ≡ record { effects = refusals_of ref_to end.sent items; reply = reply.Quiet } → Goes what end outcome
 unfolding refusals_of
 errors_come what items ref_to end outcome numbered h = goes_by what reply.Quiet _ end outcome h
@@ -167,7 +169,7 @@ errors_come what items ref_to end outcome numbered h = goes_by what reply.Quiet 
 
 -- a signal, by what it holds
 signal_comes : (modes : List Mode) (end : End) (event : Event) (signal : Signal) (b : SignalBody) (outcome : Outcome)
-    → signal.body ≡ b → Numbered 0 end.sent
+    → signal.body ≡ b → AreNumberedFrom 0 end.sent
     → SignalComes modes end event signal.id signal.ref_to b outcome → Goes (Came (message.Signal signal)) end outcome
 signal_comes modes end event signal (body.Pull mpc) outcome e numbered h =
     pull_comes (Came (message.Signal signal)) modes end event signal.id mpc outcome numbered h
@@ -176,7 +178,7 @@ signal_comes modes end event signal (body.Errors items) outcome e numbered h =
     errors_come (Came (message.Signal signal)) items signal.ref_to end outcome numbered h
 
 -- what comes
-pub comes : (modes : List Mode) (end : End) (event : Event) (m : Message) (outcome : Outcome) → Numbered 0 end.sent
+pub comes : (modes : List Mode) (end : End) (event : Event) (m : Message) (outcome : Outcome) → AreNumberedFrom 0 end.sent
     → Comes modes end event m outcome → Goes (Came m) end outcome
 comes modes end event (message.User header payloads) outcome numbered h = user_comes modes end event header payloads outcome numbered h
 comes modes end event (message.Signal signal) outcome numbered h = signal_comes modes end event signal signal.body outcome refl numbered h

@@ -9,6 +9,7 @@ use Rattle.as4_values.specs.declared.signal_body.SignalBody.{SignalBody}
 use Rattle.as4_values.specs.declared.signal_body.SignalBody.TheVariants as body
 use Rattle.exchange_model.specs.Apply.{after_all, applied}
 use Rattle.exchange_model.specs.End.{End}
+use Rattle.exchange_model.specs.Numbered.{AreNumberedFrom}
 use Rattle.exchange_model.specs.Table.{Rests}
 use Rattle.exchange_model.specs.World.{sends}
 use Rattle.exchange_model.specs.declared.inbox_entry.InboxEntry.{InboxEntry}
@@ -16,8 +17,7 @@ use Rattle.exchange_model.specs.declared.outcome.Outcome.{Outcome}
 use Rattle.exchange_model.specs.declared.reply.Reply.{Reply}
 use Rattle.exchange_model.specs.declared.sent.Sent.{Sent}
 use Rattle.exchange_model.specs.declared.what.What.{What}
-use Rattle.exchange_laws.proofs.ListLemmas.{Has}
-use Rattle.exchange_laws.proofs.SentLemmas.{Numbered}
+use Rattle.exchange_model.proofs.ListLemmas.{Has}
 use Rattle.exchange_laws.proofs.SentSteps.{SentGoes, sent_stays}
 use Rattle.exchange_laws.proofs.InboxLemmas.{ids}
 use Rattle.exchange_laws.proofs.InboxSteps.{InboxGoes, inbox_stays}
@@ -55,7 +55,7 @@ goes_by what r effects end outcome e g =
     subst (λ (o : Outcome). EndGoes what o.reply end (applied o.effects end)) (sym e) (goes_applied what r effects end g)
 
 -- nothing changes
-pub rests : (what : What) (r : Reply) (end : End) (outcome : Outcome) → Numbered 0 end.sent → Rests r outcome
+pub rests : (what : What) (r : Reply) (end : End) (outcome : Outcome) → AreNumberedFrom 0 end.sent → Rests r outcome
     → ((m : Message) → Has (sends r) m → Backs end.sent end.inbox m)
     → EndGoes what outcome.reply end (applied outcome.effects end)
 rests what r end outcome numbered e says =
@@ -66,7 +66,7 @@ rests what r end outcome numbered e says =
     })
 
 -- nothing changes, and no message is sent
-pub rests_silent : (what : What) (r : Reply) (end : End) (outcome : Outcome) → sends r ≡ [] → Numbered 0 end.sent
+pub rests_silent : (what : What) (r : Reply) (end : End) (outcome : Outcome) → sends r ≡ [] → AreNumberedFrom 0 end.sent
     → Rests r outcome
     → EndGoes what outcome.reply end (applied outcome.effects end)
 rests_silent what r end outcome silent numbered e =

@@ -8,7 +8,8 @@ use Rattle.std.proofs.lemmas.List.Sums.{sum_by-cons}
 use Rattle.std.proofs.lemmas.Slice.Eq.{bytes_eq-Decides}
 use Rattle.exchange_model.specs.Questions.{is_known}
 use Rattle.exchange_model.specs.declared.inbox_entry.InboxEntry.{InboxEntry}
-use Rattle.exchange_laws.proofs.ListLemmas.{Has, has_contained, has_either}
+use Rattle.exchange_model.proofs.ListLemmas.{Has}
+use Rattle.exchange_laws.proofs.ListLemmas.{has_contained, has_either}
 
 abbrev pub id_of : InboxEntry → List ℕ
 id_of entry = entry.header.id

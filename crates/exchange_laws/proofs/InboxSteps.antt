@@ -8,7 +8,8 @@ use Rattle.exchange_model.specs.Questions.{is_known}
 use Rattle.exchange_model.specs.declared.inbox_entry.InboxEntry.{InboxEntry}
 use Rattle.exchange_model.specs.declared.what.What.{What}
 use Rattle.exchange_model.specs.declared.what.What.TheVariants.{Came}
-use Rattle.exchange_laws.proofs.ListLemmas.{Has, had_left}
+use Rattle.exchange_model.proofs.ListLemmas.{Has}
+use Rattle.exchange_laws.proofs.ListLemmas.{had_left}
 use Rattle.exchange_laws.proofs.InboxLemmas.{id_of, ids, Apart, apart_push, unknown_new}
 
 -- an entry that stood at this place before; where its payloads still are to stand, they stood before too

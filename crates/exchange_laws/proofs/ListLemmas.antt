@@ -1,11 +1,8 @@
--- Which items a list has, by recursion on the list.
+-- What stands in joined and mapped lists, and which items a list has by `Contains` and by place.
 use Rattle.std.proofs.Common.{◌≡◌, ℕ, zero, suc, ◌<◌, ◌⊎◌, inl, inr, List, [], ◌∷◌, ◌++◌, Bool, true, false, cond, Option, Some, None, length, get_or, map, refl, sym, ap, ◌∙◌, arith}
 use Rattle.std.specs.Prelude.{slice_get}
-use Rattle.std.specs.List.{Contains, find, filter, filter_map, cons_option}
-
-abbrev pub Has : {X : Type 0} → List X → X → Type 0
-Has [] x = ⊥
-Has (y ∷ ys) x = (y ≡ x) ⊎ Has ys x
+use Rattle.std.specs.List.{Contains, find, filter_map, cons_option}
+use Rattle.exchange_model.proofs.ListLemmas.{Has}
 
 -- by its place
 has_at : {X : Type 0} (xs : List X) (k : ℕ) (x : X) → k < length xs → get_or xs k x ≡ x → Has xs x
@@ -55,30 +52,6 @@ pub had_mapped : {X Y : Type 0} (f : X → Y) (xs : List X) (x : X) → Has xs x
 had_mapped f [] x h = absurd h
 had_mapped f (y ∷ xs) x (inl e) = inl (ap f e)
 had_mapped f (y ∷ xs) x (inr h) = inr (had_mapped f xs x h)
-
--- by the first test's answer
-filtered_by : {X : Type 0} (p : X → Bool) (y x : X) (ys : List X) (b : Bool) → p y ≡ b
-    → (Has (filter p ys) x → Has ys x × (p x ≡ true)) → Has (cond b (y ∷ filter p ys) (filter p ys)) x
-    → Has (y ∷ ys) x × (p x ≡ true)
-filtered_by p y x ys true e rest (inl same) = (inl same, sym (ap p same) ∙ e)
-filtered_by p y x ys true e rest (inr h) = (inr (rest h).0, (rest h).1)
-filtered_by p y x ys false e rest h = (inr (rest h).0, (rest h).1)
-
--- what a filter keeps passes
-pub has_filtered : {X : Type 0} (p : X → Bool) (xs : List X) (x : X) → Has (filter p xs) x → Has xs x × (p x ≡ true)
-has_filtered p [] x h = absurd h
-has_filtered p (y ∷ ys) x h = filtered_by p y x ys (p y) refl (has_filtered p ys x) h
-
--- by the first test's answer
-found_by : {X : Type 0} (p : X → Bool) (y x : X) (ys : List X) (b : Bool) → p y ≡ b
-    → (find p ys ≡ Some x → Has ys x × (p x ≡ true)) → cond b (Some y) (find p ys) ≡ Some x → Has (y ∷ ys) x × (p x ≡ true)
-found_by p y x ys true e rest h = let same : y ≡ x = cc in (inl same, sym (ap p same) ∙ e)
-found_by p y x ys false e rest h = (inr (rest h).0, (rest h).1)
-
--- what is found is there, and passes
-pub has_found : {X : Type 0} (p : X → Bool) (xs : List X) (x : X) → find p xs ≡ Some x → Has xs x × (p x ≡ true)
-has_found p [] x h = absurd cc
-has_found p (y ∷ ys) x h = found_by p y x ys (p y) refl (has_found p ys x) h
 
 -- by the first test's answer
 finds_by : {X : Type 0} (p : X → Bool) (y x : X) (ys : List X) (b : Bool) → p y ≡ b → p x ≡ true

@@ -14,6 +14,7 @@ use Rattle.as4_values.specs.declared.route.Route.{Route}
 use Rattle.as4_values.specs.declared.route.Route.TheVariants as route
 use Rattle.exchange_model.specs.Apply.{after, applied}
 use Rattle.exchange_model.specs.End.{End}
+use Rattle.exchange_model.specs.Numbered.{AreNumberedFrom}
 use Rattle.exchange_model.specs.Questions.{head_of}
 use Rattle.exchange_model.specs.Submitting.{are_too_large}
 use Rattle.exchange_model.specs.Table.{Rests, Gives, Submits, TakesIn, Ticks, Takes, Asks, AsksBy, Confirms, message_of, read_reply, entry_reply, standing_reply, mark_reply}
@@ -27,8 +28,8 @@ use Rattle.exchange_model.specs.declared.sent.Mark.{Mark}
 use Rattle.exchange_model.specs.declared.sent.Mark.TheVariants as mark
 use Rattle.exchange_model.specs.declared.sent.Sent.{Sent}
 use Rattle.exchange_model.specs.declared.what.What.{What}
-use Rattle.exchange_laws.proofs.ListLemmas.{Has}
-use Rattle.exchange_laws.proofs.SentLemmas.{Numbered, head_has}
+use Rattle.exchange_model.proofs.FoundLemmas.{head_has}
+use Rattle.exchange_model.proofs.ListLemmas.{Has}
 use Rattle.exchange_laws.proofs.SentSteps.{sent_stays, sent_push}
 use Rattle.exchange_laws.proofs.SentChanges.{sent_ticked, sent_tried}
 use Rattle.exchange_laws.proofs.InboxSteps.{inbox_stays, inbox_emptied}
@@ -47,7 +48,7 @@ says_one sent inbox m b x (inr none) = absurd none
 -- Submit
 pub submits : (what : What) (modes : List Mode) (end : End) (event : Event) (name : List ℕ) (conversation : Option (List ℕ))
     (loads : List Load) (outcome : Outcome)
-    → Numbered 0 end.sent → Submits modes end event name conversation loads outcome → Goes what end outcome
+    → AreNumberedFrom 0 end.sent → Submits modes end event name conversation loads outcome → Goes what end outcome
 unfolding Submits after
 submits what modes end event name conversation loads outcome numbered h =
     by_option _ _ _ (mode_named modes name) h (rests_silent what reply.NoMode end outcome refl numbered) (λ mode _ k.
@@ -64,7 +65,7 @@ submits what modes end event name conversation loads outcome numbered h =
         })
 
 -- Tick
-pub ticks : (what : What) (end : End) (event : Event) (outcome : Outcome) → Numbered 0 end.sent → Ticks end event outcome
+pub ticks : (what : What) (end : End) (event : Event) (outcome : Outcome) → AreNumberedFrom 0 end.sent → Ticks end event outcome
     → Goes what end outcome
 unfolding Ticks after
 ticks what end event outcome numbered h =
@@ -77,7 +78,7 @@ ticks what end event outcome numbered h =
     }))
 
 -- a head is handed out
-pub hands_out : (what : What) (q : Queue) (end : End) (s : Sent) (r : Reply) (outcome : Outcome) → Numbered 0 end.sent
+pub hands_out : (what : What) (q : Queue) (end : End) (s : Sent) (r : Reply) (outcome : Outcome) → AreNumberedFrom 0 end.sent
     → head_of q end ≡ Some s
     → sends r ≡ message_of s.submission ∷ [] → Gives (effect.Tried s.submission.number) r outcome → Goes what end outcome
 unfolding after
@@ -94,14 +95,14 @@ hands_out what q end s r outcome numbered head says h =
     })
 
 -- Take
-pub takes : (what : What) (end : End) (outcome : Outcome) → Numbered 0 end.sent → Takes end outcome → Goes what end outcome
+pub takes : (what : What) (end : End) (outcome : Outcome) → AreNumberedFrom 0 end.sent → Takes end outcome → Goes what end outcome
 unfolding Takes
 takes what end outcome numbered h =
     by_option _ _ _ (head_of queue.Push end) h (rests_silent what reply.Nothing end outcome refl numbered) (λ s head g.
     hands_out what queue.Push end s _ outcome numbered head refl g)
 
 -- Ask
-pub asks : (what : What) (modes : List Mode) (end : End) (event : Event) (name : List ℕ) (outcome : Outcome) → Numbered 0 end.sent
+pub asks : (what : What) (modes : List Mode) (end : End) (event : Event) (name : List ℕ) (outcome : Outcome) → AreNumberedFrom 0 end.sent
     → Asks modes event name outcome → Goes what end outcome
 unfolding Asks
 asks what modes end event name outcome numbered h =
@@ -127,7 +128,7 @@ read_silent end n = silent_by (nat_lt n end.confirmed)
     silent_by false = silent_entry (slice_get end.inbox n)
 
 -- Read
-pub reads : (what : What) (end : End) (n : ℕ) (outcome : Outcome) → Numbered 0 end.sent → Rests (read_reply end n) outcome
+pub reads : (what : What) (end : End) (n : ℕ) (outcome : Outcome) → AreNumberedFrom 0 end.sent → Rests (read_reply end n) outcome
     → Goes what end outcome
 reads what end n outcome numbered h = rests_silent what (read_reply end n) end outcome (read_silent end n) numbered h
 
@@ -135,7 +136,7 @@ at_least : (upto confirmed : ℕ) → nat_lt upto confirmed ≡ false → confir
 at_least upto confirmed h = grind (arith, nat_tests)
 
 -- Confirm
-pub confirms : (what : What) (end : End) (upto : ℕ) (outcome : Outcome) → Numbered 0 end.sent → Confirms end upto outcome
+pub confirms : (what : What) (end : End) (upto : ℕ) (outcome : Outcome) → AreNumberedFrom 0 end.sent → Confirms end upto outcome
     → Goes what end outcome
 unfolding Confirms after
 confirms what end upto outcome numbered h =
@@ -160,6 +161,6 @@ standing_silent (Some s) = silent_mark s.tries s.mark
     silent_mark tries (mark.Refused code) = refl
 
 -- Status
-pub tells_status : (what : What) (end : End) (o : Option Sent) (outcome : Outcome) → Numbered 0 end.sent
+pub tells_status : (what : What) (end : End) (o : Option Sent) (outcome : Outcome) → AreNumberedFrom 0 end.sent
     → Rests (standing_reply o) outcome → Goes what end outcome
 tells_status what end o outcome numbered h = rests_silent what (standing_reply o) end outcome (standing_silent o) numbered h

@@ -6,11 +6,13 @@ use Rattle.std.specs.Option.{option_and_then, option_or}
 use Rattle.as4_values.specs.declared.signal_body.ErrorItem.{ErrorItem}
 use Rattle.as4_values.specs.declared.signal_body.Severity.{Severity}
 use Rattle.as4_values.specs.declared.signal_body.Severity.TheVariants.{Failure, Warning}
+use Rattle.exchange_model.specs.Numbered.{AreNumberedFrom}
 use Rattle.exchange_model.specs.Questions.{is_pending, sent_of}
 use Rattle.exchange_model.specs.Refusing.{Refusal, refusal_with, refusal_by, refusal_of, once}
 use Rattle.exchange_model.specs.declared.sent.Sent.{Sent}
-use Rattle.exchange_laws.proofs.ListLemmas.{Has, has_filtered, has_filter_mapped}
-use Rattle.exchange_laws.proofs.SentLemmas.{Numbered, sent_of_has}
+use Rattle.exchange_model.proofs.FoundLemmas.{sent_of_has}
+use Rattle.exchange_model.proofs.ListLemmas.{Has, has_filtered}
+use Rattle.exchange_laws.proofs.ListLemmas.{has_filter_mapped}
 use Rattle.exchange_laws.proofs.SentChanges.{NoneReceipted, none_by_pending}
 
 -- what stands once stands there
@@ -52,7 +54,7 @@ by_severity sent refusal Warning code about e = absurd cc
 by_severity sent refusal Failure code about e = by_name sent refusal code about e
 
 -- no submission that it names is receipted
-pub refusals_spare : (sent : List Sent) (ref_to : Option (List ℕ)) (items : List ErrorItem) → Numbered 0 sent
+pub refusals_spare : (sent : List Sent) (ref_to : Option (List ℕ)) (items : List ErrorItem) → AreNumberedFrom 0 sent
     → (refusal : Refusal) → Has (once (filter_map (refusal_of ref_to sent) items)) refusal → NoneReceipted refusal.number sent
 refusals_spare sent ref_to items numbered refusal h =
     let given = has_filter_mapped (refusal_of ref_to sent) items refusal

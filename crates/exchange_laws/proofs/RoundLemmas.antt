@@ -18,6 +18,7 @@ use Rattle.as4_values.specs.declared.signal_body.SignalBody.TheVariants as body
 use Rattle.exchange_model.specs.Apply.{tried, marked, changed, after, applied}
 use Rattle.exchange_model.specs.End.{End}
 use Rattle.exchange_model.specs.LosslessRound.{IsFull, IsAskedFor}
+use Rattle.exchange_model.specs.Numbered.{AreNumberedFrom}
 use Rattle.exchange_model.specs.Questions.{head_of, is_known, is_pending, sent_of}
 use Rattle.exchange_model.specs.Table.{Gives, Takes, UserComes, Delivers, PullComes, SignalComes, ReceiptComes, Settles, IsOther, Errs, RowOf, Step, has_room, message_of}
 use Rattle.exchange_model.specs.World.{Act}
@@ -30,8 +31,10 @@ use Rattle.exchange_model.specs.declared.sent.Mark.TheVariants as mark
 use Rattle.exchange_model.specs.declared.sent.Sent.{Sent}
 use Rattle.exchange_model.specs.declared.what.What.{What}
 use Rattle.exchange_model.specs.declared.what.What.TheVariants as what
-use Rattle.exchange_laws.proofs.ListLemmas.{Has, had_mapped, had_right}
-use Rattle.exchange_laws.proofs.SentLemmas.{Numbered, head_has, sent_of_own, and_left}
+use Rattle.exchange_model.proofs.FoundLemmas.{head_has}
+use Rattle.exchange_model.proofs.ListLemmas.{Has}
+use Rattle.exchange_laws.proofs.ListLemmas.{had_mapped, had_right}
+use Rattle.exchange_laws.proofs.SentLemmas.{sent_of_own, and_left}
 use Rattle.exchange_laws.proofs.EndSteps.{by_bool}
 
 -- a reply that the journal is not full comes from the event's row
@@ -149,7 +152,7 @@ pub back_settles : (act : Act) (end : End) (t : Sent) (signal : Signal) → Step
     → (IsFull act.outcome.reply → ⊥)
     → act.event.what ≡ what.Came (message.Signal signal) → signal.ref_to ≡ Some t.submission.header.id
     → signal.body ≡ body.Receipt (Some t.submission.header)
-    → Numbered 0 end.sent → Has end.sent t → is_pending t ≡ true
+    → AreNumberedFrom 0 end.sent → Has end.sent t → is_pending t ≡ true
     → Has (applied act.outcome.effects end).sent (marked mark.Receipted t)
 unfolding ReceiptComes applied after
 back_settles act end t signal step roomy came refers copies numbered h pending =

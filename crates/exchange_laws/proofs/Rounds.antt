@@ -19,7 +19,8 @@ use Rattle.exchange_model.specs.declared.reply.Reply.TheVariants as reply
 use Rattle.exchange_model.specs.declared.sent.Mark.TheVariants as mark
 use Rattle.exchange_model.specs.declared.sent.Sent.{Sent}
 use Rattle.exchange_model.specs.declared.what.What.TheVariants as what
-use Rattle.exchange_laws.proofs.ListLemmas.{Has, contains_had}
+use Rattle.exchange_model.proofs.ListLemmas.{Has}
+use Rattle.exchange_laws.proofs.ListLemmas.{contains_had}
 use Rattle.exchange_laws.proofs.SentLemmas.{sent_of_own}
 use Rattle.exchange_laws.proofs.RoundLemmas.{IsPendingAt, out_pends, IsDelivered, over_delivers, back_settles}
 use Rattle.exchange_laws.proofs.WorldLemmas.{PartyHolds, party_acts, WorldHolds}

@@ -32,7 +32,7 @@ use Rattle.exchange_model.specs.declared.reply.Reply.TheVariants as reply
 use Rattle.exchange_model.specs.declared.sent.Sent.{Sent}
 use Rattle.exchange_model.specs.declared.what.What.{What}
 use Rattle.exchange_model.specs.declared.what.What.TheVariants as what
-use Rattle.exchange_laws.proofs.ListLemmas.{Has}
+use Rattle.exchange_model.proofs.ListLemmas.{Has}
 use Rattle.exchange_laws.proofs.EndSteps.{by_option, by_bool}
 use Rattle.exchange_laws.proofs.OwnRows.{read_silent, standing_silent}
 

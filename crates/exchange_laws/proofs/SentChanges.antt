@@ -3,13 +3,15 @@ use Rattle.std.proofs.Common.{◌≡◌, ℕ, ◌+◌, ◌⊎◌, inl, inr, List
 use Rattle.std.specs.Prelude.{◌==◌, if◌then◌else◌}
 use Rattle.std.proofs.lemmas.Bool.Decides.{nat_tests}
 use Rattle.exchange_model.specs.Apply.{tried, marked, failed_if_spent, changed}
+use Rattle.exchange_model.specs.Numbered.{AreNumberedFrom}
 use Rattle.exchange_model.specs.Questions.{is_waiting, is_pending, is_pending_mark, is_spent}
 use Rattle.exchange_model.specs.declared.sent.Mark.{Mark}
 use Rattle.exchange_model.specs.declared.sent.Mark.TheVariants as mark
 use Rattle.exchange_model.specs.declared.sent.Sent.{Sent}
 use Rattle.exchange_model.specs.declared.what.What.{What}
-use Rattle.exchange_laws.proofs.ListLemmas.{Has, has_mapped}
-use Rattle.exchange_laws.proofs.SentLemmas.{Numbered, one_of_number, and_left, and_right}
+use Rattle.exchange_model.proofs.ListLemmas.{Has}
+use Rattle.exchange_laws.proofs.ListLemmas.{has_mapped}
+use Rattle.exchange_laws.proofs.SentLemmas.{one_of_number, and_left, and_right}
 use Rattle.exchange_laws.proofs.SentSteps.{Receipts, IsSpent, IsChange, SentGoes, sent_map}
 
 -- what the test of numbers says
@@ -58,7 +60,7 @@ one_change what sent number change c = record {
     settled_by s h false e m = refl
 
 -- a change of the submission of one number
-pub sent_changed : (what : What) (sent : List Sent) (number : ℕ) (change : Sent → Sent) → Numbered 0 sent
+pub sent_changed : (what : What) (sent : List Sent) (number : ℕ) (change : Sent → Sent) → AreNumberedFrom 0 sent
     → IsOneChange what sent number change
     → SentGoes what sent (changed number change sent)
 unfolding changed
@@ -77,10 +79,10 @@ abbrev pub NoneReceipted : ℕ → List Sent → Type 0
 NoneReceipted number sent = (s : Sent) → Has sent s → s.submission.number ≡ number → s.mark ≡ mark.Receipted → ⊥
 
 -- none of a pending submission's number is
-pub none_by_pending : (sent : List Sent) (s : Sent) → Numbered 0 sent → Has sent s → is_pending s ≡ true
+pub none_by_pending : (sent : List Sent) (s : Sent) → AreNumberedFrom 0 sent → Has sent s → is_pending s ≡ true
     → NoneReceipted s.submission.number sent
 none_by_pending sent s numbered h pending t k e m =
-    not_receipted s pending (ap (λ (u : Sent). u.mark) (one_of_number 0 sent s t numbered h k (sym e)) ∙ m)
+    not_receipted s pending (ap (λ (u : Sent). u.mark) (one_of_number sent s t numbered h k (sym e)) ∙ m)
 
 -- a refusal makes none receipted
 pub none_by_refusal : (sent : List Sent) (number refused : ℕ) (code : List ℕ) → NoneReceipted number sent
@@ -98,27 +100,27 @@ none_by_refusal sent number refused code none t k =
         none s h (ap (λ (u : Sent). u.submission.number) same ∙ e) (ap (λ (u : Sent). u.mark) same ∙ m)
 
 -- the head is sent once more
-pub sent_tried : (what : What) (sent : List Sent) (s : Sent) (moment : ℕ) → Numbered 0 sent → Has sent s → is_waiting s ≡ true
+pub sent_tried : (what : What) (sent : List Sent) (s : Sent) (moment : ℕ) → AreNumberedFrom 0 sent → Has sent s → is_waiting s ≡ true
     → SentGoes what sent (changed s.submission.number (tried moment) sent)
 sent_tried what sent s moment numbered h waits = sent_changed what sent s.submission.number (tried moment) numbered (record {
   same = λ t. refl;
   receipted = λ t k e m. inl m;
-  spent = λ t k e spent m. absurd (not_failed s waits (ap (λ (u : Sent). u.mark) (one_of_number 0 sent s t numbered h k (sym e)) ∙ m));
+  spent = λ t k e spent m. absurd (not_failed s waits (ap (λ (u : Sent). u.mark) (one_of_number sent s t numbered h k (sym e)) ∙ m));
   settled = λ t k e m. absurd (none_by_pending sent s numbered h (and_left _ _ waits) t k e m);
 })
 
 -- its receipt came
-pub sent_receipted : (what : What) (sent : List Sent) (s : Sent) → Numbered 0 sent → Has sent s → Receipts what s.submission
+pub sent_receipted : (what : What) (sent : List Sent) (s : Sent) → AreNumberedFrom 0 sent → Has sent s → Receipts what s.submission
     → SentGoes what sent (changed s.submission.number (marked mark.Receipted) sent)
 sent_receipted what sent s numbered h came = sent_changed what sent s.submission.number (marked mark.Receipted) numbered (record {
   same = λ t. refl;
-  receipted = λ t k e m. inr (subst (λ (u : Sent). Receipts what u.submission) (one_of_number 0 sent s t numbered h k (sym e)) came);
+  receipted = λ t k e m. inr (subst (λ (u : Sent). Receipts what u.submission) (one_of_number sent s t numbered h k (sym e)) came);
   spent = λ t k e spent m. absurd cc;
   settled = λ t k e m. ap (λ (is : Mark). marked is t) (sym m);
 })
 
 -- an error for it came
-pub sent_refused : (what : What) (sent : List Sent) (number : ℕ) (code : List ℕ) → Numbered 0 sent → NoneReceipted number sent
+pub sent_refused : (what : What) (sent : List Sent) (number : ℕ) (code : List ℕ) → AreNumberedFrom 0 sent → NoneReceipted number sent
     → SentGoes what sent (changed number (marked (mark.Refused code)) sent)
 sent_refused what sent number code numbered none = sent_changed what sent number (marked (mark.Refused code)) numbered (record {
   same = λ t. refl;
@@ -128,7 +130,7 @@ sent_refused what sent number code numbered none = sent_changed what sent number
 })
 
 -- the clock is set
-pub sent_ticked : (what : What) (sent : List Sent) (moment : ℕ) → Numbered 0 sent
+pub sent_ticked : (what : What) (sent : List Sent) (moment : ℕ) → AreNumberedFrom 0 sent
     → SentGoes what sent (map (failed_if_spent moment) sent)
 sent_ticked what sent moment numbered = sent_map what sent (failed_if_spent moment) numbered (record {
   same = λ s. same_by s (is_spent moment s);

@@ -1,18 +1,21 @@
 -- How an event changes what an end was handed in to send.
-use Rattle.std.proofs.Common.{◌≡◌, ◌+◌, ◌⊎◌, inl, inr, List, [], ◌∷◌, ◌++◌, Option, Some, length, map, refl, sym, ap, ◌∙◌, subst, arith}
+use Rattle.std.proofs.Common.{◌≡◌, ◌+◌, ◌⊎◌, inl, inr, List, [], ◌∷◌, ◌++◌, Option, Some, length, map, refl, sym, ap, ◌∙◌, subst}
 use Rattle.as4_effects.specs.declared.submission.Submission.{Submission}
 use Rattle.as4_values.specs.declared.header.UserHeader.{UserHeader}
 use Rattle.as4_values.specs.declared.message.Message.TheVariants as message
 use Rattle.as4_values.specs.declared.signal.Signal.{Signal}
 use Rattle.as4_values.specs.declared.signal_body.SignalBody.TheVariants as body
 use Rattle.exchange_model.specs.Apply.{unsent}
+use Rattle.exchange_model.specs.Numbered.{AreNumberedFrom}
 use Rattle.exchange_model.specs.Table.{IsOther}
 use Rattle.exchange_model.specs.declared.sent.Mark.TheVariants as mark
 use Rattle.exchange_model.specs.declared.sent.Sent.{Sent}
 use Rattle.exchange_model.specs.declared.what.What.{What}
 use Rattle.exchange_model.specs.declared.what.What.TheVariants.{Came}
-use Rattle.exchange_laws.proofs.ListLemmas.{Has, has_mapped, had_mapped, had_left, has_either}
-use Rattle.exchange_laws.proofs.SentLemmas.{Numbered, numbered_push, numbered_map}
+use Rattle.exchange_model.proofs.ListLemmas.{Has}
+use Rattle.exchange_model.proofs.NumberedLemmas.{numbered_push}
+use Rattle.exchange_laws.proofs.ListLemmas.{has_mapped, had_mapped, had_left, has_either}
+use Rattle.exchange_laws.proofs.SentLemmas.{numbered_map}
 
 -- a receipt of the submission comes, with no copy of another header
 pub record Receipts (what : What) (s : Submission) : Type 0 where
@@ -32,7 +35,7 @@ AllSpent sent = (s : Sent) → Has sent s → IsSpent s
 
 -- from before an event to after it
 pub record SentGoes (what : What) (old new : List Sent) : Type 0 where
-  pub numbered : Numbered 0 new
+  pub numbered : AreNumberedFrom 0 new
   pub kept : (s : Sent) → Has old s → (t : Sent) × Has new t × (t.submission ≡ s.submission)
   pub receipted : (t : Sent) → Has new t → t.mark ≡ mark.Receipted
       → ((s : Sent) × Has old s × (s.mark ≡ mark.Receipted) × (s.submission ≡ t.submission)) ⊎ Receipts what t.submission
@@ -41,7 +44,7 @@ pub record SentGoes (what : What) (old new : List Sent) : Type 0 where
   pub settled : (s : Sent) → Has old s → s.mark ≡ mark.Receipted → Has new s
 
 -- nothing changes
-pub sent_stays : (what : What) (sent : List Sent) → Numbered 0 sent → SentGoes what sent sent
+pub sent_stays : (what : What) (sent : List Sent) → AreNumberedFrom 0 sent → SentGoes what sent sent
 sent_stays what sent numbered = record {
   numbered = numbered;
   kept = λ s h. (s, h, refl);
@@ -55,10 +58,10 @@ pending_new s t (inl e) = ap (λ (u : Sent). u.mark) e
 pending_new s t (inr none) = absurd none
 
 -- the next submission
-pub sent_push : (what : What) (sent : List Sent) (s : Submission) → Numbered 0 sent → s.number ≡ length sent
+pub sent_push : (what : What) (sent : List Sent) (s : Submission) → AreNumberedFrom 0 sent → s.number ≡ length sent
     → SentGoes what sent (sent ++ unsent s ∷ [])
 sent_push what sent s numbered e = record {
-  numbered = numbered_push 0 sent (unsent s) numbered (omega arith);
+  numbered = numbered_push sent (unsent s) numbered e;
   kept = λ t h. (t, had_left sent (unsent s ∷ []) t h, refl);
   receipted = λ t h m. elim (has_either sent (unsent s ∷ []) t h)
       [ inl old ↦ inl (t, old, m, refl) | inr new ↦ absurd (no_receipted t new m) ];
@@ -81,7 +84,7 @@ pub record IsChange (what : What) (sent : List Sent) (f : Sent → Sent) : Type 
   pub settled : (s : Sent) → Has sent s → s.mark ≡ mark.Receipted → f s ≡ s
 
 -- each one changed
-pub sent_map : (what : What) (sent : List Sent) (f : Sent → Sent) → Numbered 0 sent → IsChange what sent f
+pub sent_map : (what : What) (sent : List Sent) (f : Sent → Sent) → AreNumberedFrom 0 sent → IsChange what sent f
     → SentGoes what sent (map f sent)
 sent_map what sent f numbered c = record {
   numbered = numbered_map 0 f sent c.same numbered;

@@ -1,5 +1,5 @@
 -- A receipt settles the submission that it names, or changes nothing.
-use Rattle.std.proofs.Common.{◌≡◌, ℕ, ◌⊎◌, inl, inr, List, [], ◌∷◌, Bool, true, false, Option, Some, None, refl, sym, ap, ◌∙◌, subst}
+use Rattle.std.proofs.Common.{◌≡◌, ℕ, ◌⊎◌, inl, inr, List, [], ◌∷◌, Bool, true, false, Option, Some, refl, sym, ap, ◌∙◌, subst}
 use Rattle.std.specs.Prelude.{◌==◌, if◌then◌else◌}
 use Rattle.std.specs.Option.{option_and_then}
 use Rattle.as4_effects.specs.declared.effect.Effect.{Effect}
@@ -13,6 +13,7 @@ use Rattle.as4_values.specs.declared.signal_body.SignalBody.{SignalBody}
 use Rattle.as4_values.specs.declared.signal_body.SignalBody.TheVariants as body
 use Rattle.exchange_model.specs.Apply.{marked, changed, after, applied}
 use Rattle.exchange_model.specs.End.{End}
+use Rattle.exchange_model.specs.Numbered.{AreNumberedFrom}
 use Rattle.exchange_model.specs.Questions.{is_pending, sent_of}
 use Rattle.exchange_model.specs.Table.{Errs, Settles, IsOther, SignalComes, ReceiptComes, RowOf, Step, has_room}
 use Rattle.exchange_model.specs.declared.event.Event.{Event}
@@ -21,8 +22,9 @@ use Rattle.exchange_model.specs.declared.sent.Mark.TheVariants as mark
 use Rattle.exchange_model.specs.declared.sent.Sent.{Sent}
 use Rattle.exchange_model.specs.declared.what.What.{What}
 use Rattle.exchange_model.specs.declared.what.What.TheVariants.{Came}
-use Rattle.exchange_laws.proofs.ListLemmas.{Has, has_mapped}
-use Rattle.exchange_laws.proofs.SentLemmas.{Numbered, sent_of_own}
+use Rattle.exchange_model.proofs.ListLemmas.{Has}
+use Rattle.exchange_laws.proofs.ListLemmas.{has_mapped}
+use Rattle.exchange_laws.proofs.SentLemmas.{sent_of_own}
 use Rattle.exchange_laws.proofs.EndSteps.{by_option, by_bool}
 
 -- nothing is done, or the submission that is referred to is receipted
@@ -79,7 +81,7 @@ before number sent t h =
 
 -- the receipt of a submission settles it, or the submission stood so before
 pub settled_or_stood : (modes : List Mode) (end : End) (event : Event) (outcome : Outcome) (signal : Signal)
-    (copy : Option UserHeader) (t : Sent) → Numbered 0 end.sent
+    (copy : Option UserHeader) (t : Sent) → AreNumberedFrom 0 end.sent
     → Step modes end event outcome → event.what ≡ Came (message.Signal signal) → signal.body ≡ body.Receipt copy
     → signal.ref_to ≡ Some t.submission.header.id → Has (applied outcome.effects end).sent t
     → Has end.sent t ⊎ (outcome.effects ≡ effect.Receipted t.submission.number ∷ [])

@@ -2,19 +2,19 @@
 use Rattle.std.proofs.Common.{List, refl, sym, subst}
 use Rattle.as4_values.specs.declared.mode.Mode.{Mode}
 use Rattle.exchange_model.specs.End.{End}
+use Rattle.exchange_model.specs.Numbered.{AreNumberedFrom}
 use Rattle.exchange_model.specs.Questions.{sent_of}
 use Rattle.exchange_model.specs.Table.{RowOf, IsLimited, Step, has_room}
 use Rattle.exchange_model.specs.declared.event.Event.{Event}
 use Rattle.exchange_model.specs.declared.outcome.Outcome.{Outcome}
 use Rattle.exchange_model.specs.declared.what.What.{What}
 use Rattle.exchange_model.specs.declared.what.What.TheVariants as what
-use Rattle.exchange_laws.proofs.SentLemmas.{Numbered}
 use Rattle.exchange_laws.proofs.EndSteps.{rests_silent, by_bool}
 use Rattle.exchange_laws.proofs.OwnRows.{Goes, submits, ticks, takes, asks, reads, confirms, tells_status}
 use Rattle.exchange_laws.proofs.ComingRows.{comes}
 
 -- by the rows of the event
-row_goes : (modes : List Mode) (end : End) (event : Event) (w : What) (outcome : Outcome) → Numbered 0 end.sent
+row_goes : (modes : List Mode) (end : End) (event : Event) (w : What) (outcome : Outcome) → AreNumberedFrom 0 end.sent
     → RowOf modes end event w outcome → Goes w end outcome
 row_goes modes end event (what.Submit mode conversation loads) outcome numbered h =
     submits _ modes end event mode conversation loads outcome numbered h
@@ -27,13 +27,13 @@ row_goes modes end event (what.Confirm upto) outcome numbered h = confirms _ end
 row_goes modes end event (what.Status id) outcome numbered h = tells_status _ end (sent_of id end.sent) outcome numbered h
 
 -- where the journal has room for it
-limited_goes : (w : What) (end : End) (row outcome : Outcome) → Numbered 0 end.sent → Goes w end row → IsLimited end row outcome
+limited_goes : (w : What) (end : End) (row outcome : Outcome) → AreNumberedFrom 0 end.sent → Goes w end row → IsLimited end row outcome
     → Goes w end outcome
 limited_goes w end row outcome numbered goes h =
     by_bool _ _ _ (has_room end row.effects) h (λ _ same. subst (Goes w end) (sym same) goes) (λ _. rests_silent w _ end outcome refl numbered)
 
 -- a step at an end
-pub step_goes : (modes : List Mode) (end : End) (event : Event) (outcome : Outcome) → Numbered 0 end.sent
+pub step_goes : (modes : List Mode) (end : End) (event : Event) (outcome : Outcome) → AreNumberedFrom 0 end.sent
     → Step modes end event outcome → Goes event.what end outcome
 step_goes modes end event outcome numbered step =
     limited_goes event.what end step.row outcome numbered (row_goes modes end event event.what step.row numbered step.decided) step.limited

@@ -7,6 +7,7 @@ use Rattle.as4_values.specs.declared.signal_body.SignalBody.{SignalBody}
 use Rattle.as4_values.specs.declared.signal_body.SignalBody.TheVariants as body
 use Rattle.exchange_model.specs.DeliveredOnce.{CameFrom}
 use Rattle.exchange_model.specs.End.{End}
+use Rattle.exchange_model.specs.Numbered.{AreNumberedFrom}
 use Rattle.exchange_model.specs.World.{Act, Party, World, Side, Left, Right, new_world, sends, IsHeard, MayAct, acted, MayHappenAt, world_at, MayHappen, world_after}
 use Rattle.exchange_model.specs.declared.inbox_entry.InboxEntry.{InboxEntry}
 use Rattle.exchange_model.specs.declared.reply.Reply.{Reply}
@@ -14,8 +15,9 @@ use Rattle.exchange_model.specs.declared.sent.Mark.TheVariants as mark
 use Rattle.exchange_model.specs.declared.sent.Sent.{Sent}
 use Rattle.exchange_model.specs.declared.what.What.{What}
 use Rattle.exchange_model.specs.declared.what.What.TheVariants as what
-use Rattle.exchange_laws.proofs.ListLemmas.{Has, has_contained, has_either}
-use Rattle.exchange_laws.proofs.SentLemmas.{Numbered}
+use Rattle.exchange_model.proofs.ListLemmas.{Has}
+use Rattle.exchange_model.proofs.NumberedLemmas.{none_numbered}
+use Rattle.exchange_laws.proofs.ListLemmas.{has_contained, has_either}
 use Rattle.exchange_laws.proofs.SentSteps.{Receipts, AllSpent}
 use Rattle.exchange_laws.proofs.InboxLemmas.{ids, Apart}
 use Rattle.exchange_laws.proofs.InboxSteps.{Stood}
@@ -24,7 +26,7 @@ use Rattle.exchange_laws.proofs.StepLemmas.{step_goes}
 
 -- of a party: its submissions are numbered, its inbox has no identifier twice, and it stands by what it said
 pub record PartyHolds (party : Party) : Type 0 where
-  pub numbered : Numbered 0 party.end.sent
+  pub numbered : AreNumberedFrom 0 party.end.sent
   pub spent : AllSpent party.end.sent
   pub apart : Apart (ids party.end.inbox)
   pub said : (m : Message) → Has party.said m → Backs party.end.sent party.end.inbox m
@@ -171,8 +173,8 @@ world_holds (act ∷ acts) world holds may =
 -- at the start
 pub new_world_holds : WorldHolds new_world
 new_world_holds = record {
-  left = record { numbered = tt; spent = λ s h. absurd h; apart = tt; said = λ m h. absurd h };
-  right = record { numbered = tt; spent = λ s h. absurd h; apart = tt; said = λ m h. absurd h };
+  left = record { numbered = none_numbered; spent = λ s h. absurd h; apart = tt; said = λ m h. absurd h };
+  right = record { numbered = none_numbered; spent = λ s h. absurd h; apart = tt; said = λ m h. absurd h };
   to_right = record { submitted = λ n entry at. absurd cc; receipted = λ s h. absurd h };
   to_left = record { submitted = λ n entry at. absurd cc; receipted = λ s h. absurd h };
 }

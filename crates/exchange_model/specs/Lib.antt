@@ -6,6 +6,7 @@ pub mod End
 pub mod ErrorCodes
 pub mod Least
 pub mod LosslessRound
+pub mod Numbered
 pub mod Questions
 pub mod Refusing
 pub mod Signals

@@ -1,11 +1,11 @@
 -- The submission that is made of what is handed in (ebMS 3.0 Core, section 5.2.2; AS4 Profile, section 5.1).
-use Rattle.std.specs.Prelude.{◌≡◌, ℕ, ◌+◌, ◌-◌, List, [], ◌++◌, Bool, not, ◌&&◌, ◌||◌, ◌==◌, nat_lt, nat_le, Option, Some, None, length, map, slice_index, codes}
+use Rattle.std.specs.Prelude.{◌≡◌, ℕ, ◌+◌, List, [], ◌++◌, Bool, not, ◌||◌, nat_lt, Option, Some, None, length, map, codes}
 use Rattle.std.specs.Fmt.{decimal}
 use Rattle.std.specs.List.{All, list_all, range_with_len, sum_by}
 use Rattle.as4_effects.specs.declared.submission.Submission.{Submission}
 use Rattle.as4_values.specs.Identifiers.{submission_id}
 use Rattle.as4_values.specs.Moment.{IsStampOf}
-use Rattle.as4_values.specs.Payload.{is_space}
+use Rattle.as4_values.specs.Payload.{is_media_text}
 use Rattle.as4_values.specs.declared.header.UserHeader.{UserHeader}
 use Rattle.as4_values.specs.declared.header.PartInfo.{PartInfo}
 use Rattle.as4_values.specs.declared.mode.Mode.{Mode}
@@ -13,13 +13,6 @@ use Rattle.as4_values.specs.declared.payload.Load.{Load}
 use Rattle.as4_values.specs.declared.payload.Payload.{Payload}
 use Rattle.as4_values.specs.declared.route.Route.{Route}
 use Rattle.as4_values.specs.declared.route.Route.TheVariants.{Push, Pull}
-
--- a part may have this media text: one line of at most 1,024 bytes, without a space or tab at either end
-unfoldable pub is_media_text : List ℕ → Bool
-is_media_text text =
-    nat_le (length text) 1024
-    && (list_all (λ b. not ((b == 10) || (b == 13))) text
-    && not (nat_lt 0 (length text) && (is_space (slice_index text 0) || is_space (slice_index text (length text - 1)))))
 
 -- more than 64 loads, a media text that no part may have, or more than 15,728,640 bytes together: this handler's own
 -- limits

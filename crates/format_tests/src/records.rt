@@ -125,6 +125,7 @@ fn header(rt: &(impl Abort + AllocGlobal), full: bool, id: &[u8]) -> UserHeader 
 }
 
 /// The one payload that a full header names.
+#[tactic(auto, unfolding(as4_values::specs::Payload::is_media_text))]
 fn payloads(rt: &(impl Abort + AllocGlobal), full: bool) -> Seq<Payload> {
     if !full {
         return Seq::of(Vec::new(rt.alloc()));

@@ -9,7 +9,6 @@ use Rattle.as4_values.specs.declared.header.UserHeader.{UserHeader}
 use Rattle.as4_values.specs.declared.message.Message.TheVariants as message
 use Rattle.as4_values.specs.declared.payload.Payload.{Payload}
 use Rattle.as4_values.specs.declared.signal.Signal.{Signal}
-use Rattle.end_tables.proofs.NumberLemmas.{number_at}
 use Rattle.end_tables.specs.Standing.{CanStand}
 use Rattle.exchange_model.specs.Apply.{is_fit, is_one}
 use Rattle.exchange_model.specs.End.{End}
@@ -21,6 +20,7 @@ use Rattle.exchange_model.specs.declared.event.Event.{Event}
 use Rattle.exchange_model.specs.declared.outcome.Outcome.{Outcome}
 use Rattle.exchange_model.specs.declared.reply.Reply.TheVariants as reply
 use Rattle.exchange_model.specs.declared.sent.Sent.{Sent}
+use Rattle.exchange_model.proofs.FoundLemmas.{sent_at_has}
 use Rattle.machine_rows.proofs.HeadLemmas.{head_fits}
 use Rattle.machine_rows.proofs.StandLemmas.{delivery_fits, gives_stands}
 
@@ -88,7 +88,7 @@ settles number sent outcome pending g = by (sent_at number sent) refl pending
     by : (o : Option Sent) → sent_at number sent ≡ o → is_one is_pending o ≡ true → IfSome o (λ s. Settles s outcome)
     by None at p = tt
     by (Some s) at p =
-        rw p (g ∙ ap (λ n. record { effects = effect.Receipted n ∷ []; reply = reply.Quiet }) (sym (number_at number sent s at)))
+        rw p (g ∙ ap (λ n. record { effects = effect.Receipted n ∷ []; reply = reply.Quiet }) (sym (sent_at_has number sent s at).1))
 
 pub receipt_fits : (number : ℕ) (end : End) → is_one is_pending (sent_at number end.sent) ≡ true
     → is_fit (effect.Receipted number) end ≡ true

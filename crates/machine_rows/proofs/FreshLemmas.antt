@@ -1,30 +1,17 @@
 -- A new submission has a number and an identifier that none before it has.
-use Rattle.std.proofs.Common.{◌≡◌, ℕ, suc, ◌+◌, ◌<◌, ◌≤◌, List, [], ◌∷◌, Bool, true, false, not, None, length, refl, ap, sym, ◌∙◌, arith}
+use Rattle.std.proofs.Common.{◌≡◌, ℕ, suc, ◌+◌, ◌<◌, ◌≤◌, List, [], ◌∷◌, Bool, true, false, not, None, length, refl, ap, ◌∙◌, arith}
 use Rattle.std.specs.Str.{bytes_eq}
-use Rattle.std.proofs.lemmas.Bool.{and_from, and_parts, cond-false, eq-eqb}
+use Rattle.std.proofs.lemmas.Bool.{and_from, cond-false, eq-eqb}
 use Rattle.std.proofs.lemmas.Slice.Eq.{bytes_eq-Decides}
-use Rattle.as4_effects.specs.Sound.{is_id_of, nonce_in}
 use Rattle.as4_effects.specs.declared.effect.Effect.TheVariants as effect
 use Rattle.as4_effects.specs.declared.submission.Submission.{Submission}
-use Rattle.as4_values.proofs.IdentifierLemmas.{submission_number}
-use Rattle.as4_values.specs.Identifiers.{submission_id}
 use Rattle.end_tables.proofs.NumberLemmas.{StandAtNumbers, numbered}
-use Rattle.end_tables.specs.Numbered.{AreNumberedFrom}
 use Rattle.exchange_model.specs.Apply.{is_fit, is_one}
 use Rattle.exchange_model.specs.End.{End}
+use Rattle.exchange_model.specs.Numbered.{AreNumberedFrom}
 use Rattle.exchange_model.specs.Questions.{sent_of}
 use Rattle.exchange_model.specs.declared.sent.Sent.{Sent}
-
--- its identifier is made of its number
-named : (s : Submission) → s.header.id ≡ submission_id s.number (nonce_in s.number s.header.id)
-unfolding is_id_of
-named s = (bytes_eq-Decides s.header.id (submission_id s.number (nonce_in s.number s.header.id))).0 (and_parts _ _ s.identified).1
-
--- submissions of one identifier have one number
-one_number : (s t : Submission) → s.header.id ≡ t.header.id → s.number ≡ t.number
-one_number s t e =
-    submission_number s.number t.number (nonce_in s.number s.header.id) (nonce_in t.number t.header.id)
-    (omega (arith, s.numbered)) (omega (arith, t.numbered)) (sym (named s) ∙ e ∙ named t)
+use Rattle.exchange_model.proofs.NumberedLemmas.{one_number}
 
 not_true : (b : Bool) → (b ≡ true → ⊥) → b ≡ false
 not_true true h = absurd (h refl)

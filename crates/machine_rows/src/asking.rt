@@ -7,7 +7,7 @@ ghost use Rattle.end_tables.specs.Standing.{CanStand};
 use crate::rows::{gives, rests, room_for_one};
 use crate::signals::pull_request;
 use as4_effects::{Effect, Queue, Submission};
-use as4_values::{Message, NoMemory, PlainData, Route, Text};
+use as4_values::{Message, NoMemory, PlainData, Route, Text, try_clone_two};
 use end_tables::EndTables;
 use exchange_model::{Event, Outcome, Reply};
 use pmodes::Modes;
@@ -25,14 +25,33 @@ pub fn take(alloc: Global, tables: &EndTables) -> Result<Outcome, NoMemory>
     let Some(submission) = tables.get(number) else {
         unreachable!()
     };
-    let room = room_for_one(alloc)?;
-    let address = address_of(&submission.route).try_clone(alloc)?;
-    let message = message_of(alloc, submission)?;
-    Ok(gives(
-        room,
-        Effect::Tried { number },
-        Reply::Push { address, message },
-    ))
+    let effect = Effect::Tried { number };
+    match (room_for_one(alloc), push_of(alloc, submission)) {
+        (Ok(room), Ok(reply)) => Ok(gives(room, effect, reply)),
+        (room, reply) => {
+            drop(room);
+            drop(reply);
+            drop(effect);
+            Err(NoMemory)
+        }
+    }
+}
+
+/// The push of a submission's message.
+fn push_of(alloc: Global, submission: &Submission) -> Result<Reply, NoMemory>
+    ensures { IfOk result (λ reply. reply ≡ Reply.Push (address_of submission.now.route) (message_of submission.now)) }
+{
+    match (
+        address_of(&submission.route).try_clone(alloc),
+        message_of(alloc, submission),
+    ) {
+        (Ok(address), Ok(message)) => Ok(Reply::Push { address, message }),
+        (address, message) => {
+            drop(address);
+            drop(message);
+            Err(NoMemory)
+        }
+    }
 }
 
 /// Where messages of the route are sent to.
@@ -49,10 +68,8 @@ fn address_of(route: &Route) -> &Text
 pub fn message_of(alloc: Global, submission: &Submission) -> Result<Message, NoMemory>
     ensures { IfOk result (λ message. message ≡ message_of submission.now) }
 {
-    Ok(Message::User {
-        header: submission.header.try_clone(alloc)?,
-        payloads: submission.payloads.try_clone(alloc)?,
-    })
+    let (header, payloads) = try_clone_two(alloc, &submission.header, &submission.payloads)?;
+    Ok(Message::User { header, payloads })
 }
 
 /// The row of `Ask`.

@@ -12,6 +12,7 @@ use crate::rows::{errs, gives, receipts, rests, room_for_one};
 use as4_effects::{Delivery, Effect, Queue};
 use as4_values::{
     Message, MessageId, NoMemory, Payload, PlainData, Seq, Signal, SignalBody, Text, UserHeader,
+    try_clone_two,
 };
 use end_tables::EndTables;
 use exchange_model::{Event, Outcome, Reply};
@@ -53,15 +54,26 @@ fn deliver(
     requires { IsTrue (is_deliverable header.now payloads.now) }
     ensures { IfOk result (Delivers event.now header.now payloads.now) }
 {
-    let room = room_for_one(alloc)?;
-    let signal = receipt(alloc, header, event.stamp, event.nonce)?;
-    let header = header.try_clone(alloc)?;
-    let payloads = payloads.try_clone(alloc)?;
-    Ok(gives(
-        room,
-        Effect::Delivered(Delivery { header, payloads }),
-        Reply::Answer(Message::Signal(signal)),
-    ))
+    match (
+        room_for_one(alloc),
+        receipt(alloc, header, event.stamp, event.nonce),
+        try_clone_two(alloc, header, payloads),
+    ) {
+        (Ok(room), Ok(signal), Ok(message)) => {
+            let (header, payloads) = message;
+            Ok(gives(
+                room,
+                Effect::Delivered(Delivery { header, payloads }),
+                Reply::Answer(Message::Signal(signal)),
+            ))
+        }
+        (room, signal, message) => {
+            drop(room);
+            drop(signal);
+            drop(message);
+            Err(NoMemory)
+        }
+    }
 }
 
 /// The rows of a signal that comes.

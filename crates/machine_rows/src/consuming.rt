@@ -6,7 +6,7 @@ ghost use Rattle.end_tables.specs.Standing.{CanStand};
 
 use crate::rows::{gives, rests, room_for_one};
 use as4_effects::Effect;
-use as4_values::{MessageId, NoMemory, PlainData};
+use as4_values::{MessageId, NoMemory, PlainData, try_clone_two};
 use end_tables::EndTables;
 use exchange_model::{Outcome, Reply, Standing};
 use inbox::Held;
@@ -28,10 +28,10 @@ fn read_reply(alloc: Global, tables: &EndTables, n: u64) -> Result<Reply, NoMemo
     match tables.read(n) {
         Held::Gone => Ok(Reply::Gone),
         Held::NoEntry => Ok(Reply::NoEntry),
-        Held::Entry { header, payloads } => Ok(Reply::Entry {
-            header: header.try_clone(alloc)?,
-            payloads: payloads.try_clone(alloc)?,
-        }),
+        Held::Entry { header, payloads } => {
+            let (header, payloads) = try_clone_two(alloc, header, payloads)?;
+            Ok(Reply::Entry { header, payloads })
+        }
     }
 }
 

@@ -1,51 +1,15 @@
-ghost use Rattle.std.specs.Prelude.{◌≡◌, IsTrue, IfSome};
-ghost use Rattle.end_tables.specs.Rooms.{HasRoom, queue_for};
-ghost use Rattle.exchange_model.specs.Apply.{is_fit};
-
-mod made;
-
-use as4_effects::{Effect, Queue};
+use as4_effects::Effect;
 use as4_values::{Code, ErrorItem, MessageId, Seq, Severity};
 use end_tables::EndTables;
-use made::submitted;
+use made_messages::{act, submission};
 use refusals::refusals_of;
 use std::alloc::Global;
 use std::test::Fail;
 
-/// Makes room for the effect, where it fits.
-fn ready(tables: &mut EndTables, effect: &Effect) -> Option<Queue>
-    ensures fit { IfSome result (λ queue. IsTrue (is_fit effect.now tables.new.end)) }
-    ensures room { IfSome result (λ queue. HasRoom tables.new.rooms tables.new.end.sent effect.now) }
-    ensures queue { IfSome result (λ queue. queue ≡ queue_for tables.new.end.sent effect.now) }
-{
-    if !tables.fits(effect) {
-        return None;
-    }
-    match tables.reserve(effect) {
-        Ok(()) => tables.queue_for(effect).ok(),
-        Err(_) => None,
-    }
-}
-
-/// Makes the effect's change, where it fits.
-fn act(tables: &mut EndTables, effect: Effect) -> Option<()> {
-    match ready(tables, &effect) {
-        Some(queue) => {
-            tables.apply(effect, &queue);
-            drop(queue);
-            Some(())
-        }
-        None => {
-            drop(effect);
-            None
-        }
-    }
-}
-
 /// Takes in the submission of this number.
 fn takes_in(alloc: Global, tables: &mut EndTables, number: u64) -> Option<()> {
-    match submitted(alloc, number) {
-        Some(effect) => act(tables, effect),
+    match submission(alloc, number, 1) {
+        Some(submission) => act(tables, Effect::Submitted(submission)),
         None => None,
     }
 }

@@ -70,8 +70,10 @@ fn push_dash_boundary(out: &mut Vec<u8>, number: u64) -> Result<(), NoMemory>
 fn media_text(alloc: Global, number: u64) -> Result<Octets, NoMemory>
     ensures { IfOk result (λ media. media ≡ package_media number) }
 {
-    let mut out = Vec::with_capacity(alloc, 128)?;
-    out.extend_from_slice(b"multipart/related; type=\"application/soap+xml\"; boundary=\"as4-")?;
+    let mut out = Vec::from_slice(
+        alloc,
+        b"multipart/related; type=\"application/soap+xml\"; boundary=\"as4-",
+    )?;
     push_hex(&mut out, DIGITS, number)?;
     out.extend_from_slice(b"\"; start=\"<root-")?;
     push_hex(&mut out, DIGITS, number)?;
@@ -134,11 +136,11 @@ fn root_id(alloc: Global, number: u64) -> Result<Vec<u8>, NoMemory>
 }
 
 #[tactic(auto, unfolding(message_model::specs::Package::envelope_media))]
-fn push_root(out: &mut Vec<u8>, number: u64, id: &[u8], root: &[u8]) -> Result<(), NoMemory>
-    requires { id.now ≡ root_id number }
+fn push_root(alloc: Global, out: &mut Vec<u8>, number: u64, root: &[u8]) -> Result<(), NoMemory>
     ensures { OnOk result (out.new.items ≡ out.old.items ++ part_text number (root_id number) envelope_media root.now) }
 {
-    push_part(out, number, id, ENVELOPE_MEDIA, root)
+    let id = root_id(alloc, number)?;
+    push_part(out, number, id.as_slice(), ENVELOPE_MEDIA, root)
 }
 
 #[tactic(auto, unfolding(message_model::specs::Package::payload_text))]
@@ -180,8 +182,25 @@ fn room_for(root: &[u8], payloads: &[Payload]) -> usize
     room
 }
 
-/// The canonical package of an envelope and its payloads, with the boundary of this number.
+/// The body of a package.
 #[tactic(auto, unfolding(message_model::specs::Package::package_body))]
+fn body_of(
+    alloc: Global,
+    number: u64,
+    root: &[u8],
+    payloads: &[Payload],
+) -> Result<Octets, NoMemory>
+    ensures { IfOk result (λ body. body ≡ package_body number root.now payloads.now) }
+{
+    let mut out = Vec::with_capacity(alloc, room_for(root, payloads))?;
+    push_root(alloc, &mut out, number, root)?;
+    push_payloads(&mut out, number, payloads)?;
+    push_dash_boundary(&mut out, number)?;
+    out.extend_from_slice(b"--\r\n")?;
+    Ok(Octets::of(out))
+}
+
+/// The canonical package of an envelope and its payloads, with the boundary of this number.
 pub fn write_package(
     alloc: Global,
     number: u64,
@@ -191,15 +210,15 @@ pub fn write_package(
     ensures media { IfOk result (λ wire. wire.media ≡ package_media number) }
     ensures body { IfOk result (λ wire. wire.body ≡ package_body number root.now payloads.now) }
 {
-    let media = media_text(alloc, number)?;
-    let id = root_id(alloc, number)?;
-    let mut out = Vec::with_capacity(alloc, room_for(root, payloads.items()))?;
-    push_root(&mut out, number, id.as_slice(), root)?;
-    push_payloads(&mut out, number, payloads.items())?;
-    push_dash_boundary(&mut out, number)?;
-    out.extend_from_slice(b"--\r\n")?;
-    Ok(Wire {
-        media,
-        body: Octets::of(out),
-    })
+    match (
+        media_text(alloc, number),
+        body_of(alloc, number, root, payloads.items()),
+    ) {
+        (Ok(media), Ok(body)) => Ok(Wire { media, body }),
+        (media, body) => {
+            drop(media);
+            drop(body);
+            Err(NoMemory)
+        }
+    }
 }

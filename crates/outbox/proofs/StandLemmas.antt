@@ -10,14 +10,13 @@ use Rattle.exchange_model.specs.Questions.{sent_at, is_waiting, is_pending, is_s
 use Rattle.exchange_model.specs.Apply.{is_one, failed_if_spent}
 use Rattle.exchange_model.specs.declared.sent.Mark.TheVariants.{Failed}
 use Rattle.exchange_model.specs.declared.sent.Sent.{Sent}
-use Rattle.outbox.specs.Numbered.{AreNumberedFrom}
+use Rattle.exchange_model.proofs.NumberedLemmas.{none_numbered, numbered_push, place}
 use Rattle.outbox.specs.Submissions.{Stand}
-use Rattle.outbox.proofs.NumberedLemmas.{numbered_push, numbered_set, place}
+use Rattle.outbox.proofs.NumberedLemmas.{numbered_set}
 
 -- at first there are none
 pub none_stand : Stand []
-unfolding AreNumberedFrom
-none_stand = record { numbered = tt; dated = All-nil (λ (s : Sent). s.last ≤ 253402300799999) }
+none_stand = record { numbered = none_numbered; dated = All-nil (λ (s : Sent). s.last ≤ 253402300799999) }
 
 -- one more
 pub push_stands : (sent : List Sent) (s : Sent) → s.submission.number ≡ length sent → s.last ≤ 253402300799999 → Stand sent

@@ -1,9 +1,9 @@
 -- What an outbox holds.
 use Rattle.std.specs.Prelude.{ℕ, ◌≤◌, List, Option, Some, None, All}
+use Rattle.exchange_model.specs.Numbered.{AreNumberedFrom}
 use Rattle.exchange_model.specs.declared.sent.Mark.{Mark}
 use Rattle.exchange_model.specs.declared.sent.Mark.TheVariants as mark
 use Rattle.exchange_model.specs.declared.sent.Sent.{Sent}
-use Rattle.outbox.specs.Numbered.{AreNumberedFrom}
 
 -- what was handed in to be sent, by number, and for which identifier there is room
 pub record Submissions : Type 0 where

@@ -4,7 +4,7 @@ ghost use Rattle.std.specs.Prelude.{◌≡◌, ◌≤◌, [], ◌∷◌, ◌++�
 ghost use Rattle.std.specs.Option.{option_and_then};
 ghost use Rattle.exchange_model.specs.Questions.{due, is_pending, is_waiting, is_spent, sent_at, sent_of, standing_of};
 ghost use Rattle.exchange_model.specs.Apply.{unsent, tried, marked, changed, failed_if_spent, is_one};
-ghost use Rattle.outbox.specs.Numbered.{AreNumberedFrom};
+ghost use Rattle.exchange_model.specs.Numbered.{AreNumberedFrom};
 ghost use Rattle.outbox.specs.Submissions.{code_of};
 
 use crate::marking;

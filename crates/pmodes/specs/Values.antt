@@ -1,11 +1,10 @@
 -- The values of a modes file: texts, names, addresses and numbers.
-use Rattle.std.specs.Prelude.{ℕ, ◌-◌, ℤ, pos, negsuc, List, Bool, ◌&&◌, nat_le, if◌then◌else◌, Option, Some, None, option_and_then, length, take, drop, encode_utf8_all}
-use Rattle.std.specs.List.{list_all, prefix_len, suffix_len}
-use Rattle.std.specs.Str.{bytes_eq, chars}
+use Rattle.std.specs.Prelude.{ℕ, ◌-◌, ℤ, pos, negsuc, List, Bool, ◌&&◌, nat_le, if◌then◌else◌, Option, Some, None, option_and_then, length, take, drop}
+use Rattle.std.specs.List.{prefix_len, suffix_len}
 use Rattle.toml.specs.Data.{Data, as_str, as_integer}
 use Rattle.as4_values.specs.Address.{is_address}
 use Rattle.as4_values.specs.ModeRanges.{is_mode_name, is_short}
-use Rattle.as4_values.specs.Texts.{is_blank, is_xml_char}
+use Rattle.as4_values.specs.Texts.{is_blank, is_xml}
 
 -- the value, where it passes the test
 abbrev pub keep : {A : Type 0} → (A → Bool) → A → Option A
@@ -15,10 +14,6 @@ keep test a = if test a then Some a else None
 unfoldable pub core_of : List ℕ → List ℕ
 core_of bytes =
     let rest = drop (prefix_len is_blank bytes) bytes in take (length rest - suffix_len is_blank rest) rest
-
--- characters of XML, in UTF-8
-unfoldable pub is_xml : List ℕ → Bool
-is_xml bytes = list_all is_xml_char (chars bytes) && bytes_eq (encode_utf8_all (chars bytes)) bytes
 
 -- the text that a string is read as, where it has 1 to 255 bytes
 unfoldable pub text_value : List ℕ → Option (List ℕ)

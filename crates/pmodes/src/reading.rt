@@ -28,30 +28,46 @@ pub fn mode_in(alloc: Global, table: &Table) -> Result<Mode, Fault>
     ensures found { IfOk result (λ mode. mode_in (table_view table.now) ≡ Ok (mode_fields mode)) }
     ensures refused { IfErr result (Refuses (mode_in (table_view table.now))) }
 {
-    let Ends { name, from, to } = ends_in(alloc, table)?;
-    let Business {
-        service,
-        action,
-        agreement,
-    } = business_in(alloc, table)?;
-    let Sending {
-        route,
-        retries,
-        period,
-        collect,
-    } = sending_in(alloc, table)?;
-    Ok(Mode {
-        name,
-        from,
-        to,
-        service,
-        action,
-        agreement,
-        route,
-        retries,
-        period,
-        collect,
-    })
+    let ends = ends_in(alloc, table)?;
+    match business_in(alloc, table) {
+        Ok(business) => match sending_in(alloc, table) {
+            Ok(sending) => {
+                let Ends { name, from, to } = ends;
+                let Business {
+                    service,
+                    action,
+                    agreement,
+                } = business;
+                let Sending {
+                    route,
+                    retries,
+                    period,
+                    collect,
+                } = sending;
+                Ok(Mode {
+                    name,
+                    from,
+                    to,
+                    service,
+                    action,
+                    agreement,
+                    route,
+                    retries,
+                    period,
+                    collect,
+                })
+            }
+            Err(fault) => {
+                drop(business);
+                drop(ends);
+                Err(fault)
+            }
+        },
+        Err(fault) => {
+            drop(ends);
+            Err(fault)
+        }
+    }
 }
 
 #[tactic(auto, unfolding(crate::specs::ModeFile::ends_in))]
@@ -63,9 +79,20 @@ fn ends_in(alloc: Global, table: &Table) -> Result<Ends, Fault>
     ensures to_short { IfOk result (λ ends. IsTrue (is_short_side ends.to.parties ends.to.role)) }
 {
     let name = name_in(alloc, table)?;
-    let from = side_in(alloc, table, "from", Key::From)?;
-    let to = side_in(alloc, table, "to", Key::To)?;
-    Ok(Ends { name, from, to })
+    match side_in(alloc, table, "from", Key::From) {
+        Ok(from) => match side_in(alloc, table, "to", Key::To) {
+            Ok(to) => Ok(Ends { name, from, to }),
+            Err(fault) => {
+                drop(from);
+                drop(name);
+                Err(fault)
+            }
+        },
+        Err(fault) => {
+            drop(name);
+            Err(fault)
+        }
+    }
 }
 
 fn name_in(alloc: Global, table: &Table) -> Result<Text, Fault>
@@ -91,13 +118,24 @@ fn business_in(alloc: Global, table: &Table) -> Result<Business, Fault>
     ensures agreed { IfOk result (λ business. IsTrue (is_mode_agreement business.agreement)) }
 {
     let service = service_in(alloc, table)?;
-    let action = needed_text(alloc, table, "action", Key::Action)?;
-    let agreement = agreement_in(alloc, table)?;
-    Ok(Business {
-        service,
-        action,
-        agreement,
-    })
+    match needed_text(alloc, table, "action", Key::Action) {
+        Ok(action) => match agreement_in(alloc, table) {
+            Ok(agreement) => Ok(Business {
+                service,
+                action,
+                agreement,
+            }),
+            Err(fault) => {
+                drop(action);
+                drop(service);
+                Err(fault)
+            }
+        },
+        Err(fault) => {
+            drop(service);
+            Err(fault)
+        }
+    }
 }
 
 #[tactic(auto, unfolding(crate::specs::ModeFile::sending_in))]
@@ -110,15 +148,22 @@ fn sending_in(alloc: Global, table: &Table) -> Result<Sending, Fault>
     ensures collects { IfOk result (λ sending. IsTrue (may_collect sending.route sending.collect)) }
 {
     let route = route_in(alloc, table)?;
-    let retries = number_in(table, "retries", Key::Retries, 0, 1000)?;
-    let period = number_in(table, "period", Key::Period, 1, 1_000_000_000)?;
-    let collect = collect_in(table, &route)?;
-    Ok(Sending {
-        route,
-        retries: retries as u32,
-        period,
-        collect,
-    })
+    match (
+        number_in(table, "retries", Key::Retries, 0, 1000),
+        number_in(table, "period", Key::Period, 1, 1_000_000_000),
+        collect_in(table, &route),
+    ) {
+        (Ok(retries), Ok(period), Ok(collect)) => Ok(Sending {
+            route,
+            retries: retries as u32,
+            period,
+            collect,
+        }),
+        (Err(fault), _, _) | (_, Err(fault), _) | (_, _, Err(fault)) => {
+            drop(route);
+            Err(fault)
+        }
+    }
 }
 
 /// The modes of a document.
@@ -149,11 +194,11 @@ fn modes_in(alloc: Global, items: &[Value]) -> Result<Seq<Mode>, ModeRefusal>
     };
     for (place, item) in items.iter().enumerate() {
         match mode_of_item(alloc, item) {
-            Ok(mode) => match modes.push(mode) {
-                Ok(()) => {}
-                Err(_) => return Err(ModeRefusal::NoMemory),
-            },
-            Err(fault) => return Err(at_place(place as u64, fault)),
+            Ok(mode) => modes.push_reserved(mode),
+            Err(fault) => {
+                drop(modes);
+                return Err(at_place(place as u64, fault));
+            }
         }
     }
     Ok(Seq::of(modes))

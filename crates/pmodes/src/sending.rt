@@ -1,11 +1,11 @@
 //! How a mode's messages are sent.
 
-ghost use Rattle.std.specs.Prelude.{◌≡◌, ◌≤◌, IsTrue, Ok, IfOk, IfErr, codes};
+ghost use Rattle.std.specs.Prelude.{◌≡◌, ◌≤◌, IsTrue, Some, None, Ok, IfOk, IfErr, codes};
 ghost use Rattle.toml.specs.Data.{get_member};
 ghost use Rattle.toml.specs.View.{view, table_view};
 ghost use Rattle.as4_values.specs.Address.{is_address};
 ghost use Rattle.as4_values.specs.ModeRanges.{is_mode_route, is_short, may_collect};
-ghost use Rattle.pmodes.specs.ModeParts.{route_in, collect_in};
+ghost use Rattle.pmodes.specs.ModeParts.{route_in, route_with, collect_in};
 ghost use Rattle.pmodes.specs.Values.{address_of, text_of, number_of};
 ghost use Rattle.pmodes.specs.Verdicts.{in_range, needed, Refuses};
 
@@ -29,10 +29,22 @@ pub fn route_in(alloc: Global, table: &Table) -> Result<Route, Fault>
         (Some(push), None) => Ok(Route::Push {
             address: address_in(alloc, Key::Push, push)?,
         }),
-        (None, Some(pull)) => {
-            let mpc = channel_in(alloc, pull)?;
-            let address = pull_address_in(alloc, table)?;
-            Ok(Route::Pull { mpc, address })
+        (None, Some(pull)) => pull_in(alloc, table, pull),
+    }
+}
+
+#[tactic(auto, unfolding(crate::specs::ModeParts::route_with, as4_values::specs::ModeRanges::is_mode_route))]
+fn pull_in(alloc: Global, table: &Table, pull: &Value) -> Result<Route, Fault>
+    ensures found { IfOk result (λ route. route_with None (Some (view pull.now)) (get_member (codes "address") (table_view table.now)) ≡ Ok route) }
+    ensures refused { IfErr result (Refuses (route_with None (Some (view pull.now)) (get_member (codes "address") (table_view table.now)))) }
+    ensures right { IfOk result (λ route. IsTrue (is_mode_route route)) }
+{
+    let mpc = channel_in(alloc, pull)?;
+    match pull_address_in(alloc, table) {
+        Ok(address) => Ok(Route::Pull { mpc, address }),
+        Err(fault) => {
+            drop(mpc);
+            Err(fault)
         }
     }
 }

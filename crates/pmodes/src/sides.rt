@@ -1,13 +1,13 @@
 //! The two sides of a mode.
 
-ghost use Rattle.std.specs.Prelude.{◌≡◌, ◌≤◌, IsTrue, Ok, IfSome, IfOk, IfErr, length, map, option_map};
+ghost use Rattle.std.specs.Prelude.{◌≡◌, ◌≤◌, IsTrue, Ok, IfSome, IfOk, IfErr, codes, length, map, option_map};
 ghost use Rattle.std.specs.List.{list_all};
 ghost use Rattle.toml.specs.Data.{as_array, get_member};
 ghost use Rattle.toml.specs.View.{view, table_view};
 ghost use Rattle.as4_values.specs.ModeFields.{side_fields};
 ghost use Rattle.as4_values.specs.ModeRanges.{is_short_party, is_short_side};
 ghost use Rattle.pmodes.specs.ModeParts.{array_of_tables, are_tables, is_table, list_of, party_in, party_of, parties_in, side_fields_in, side_in};
-ghost use Rattle.pmodes.specs.Verdicts.{Refuses};
+ghost use Rattle.pmodes.specs.Verdicts.{and_then, needed, Refuses};
 
 use crate::fault::Fault;
 use crate::fields::{needed_text, optional_text};
@@ -76,14 +76,28 @@ fn side_fields_in(alloc: Global, table: &Table) -> Result<Side, Fault>
     ensures short { IfOk result (λ side. IsTrue (is_short_side side.parties side.role)) }
 {
     let role = needed_text(alloc, table, "role", Key::Role)?;
+    match listed_parties(alloc, table) {
+        Ok(parties) => Ok(Side { parties, role }),
+        Err(fault) => {
+            drop(role);
+            Err(fault)
+        }
+    }
+}
+
+fn listed_parties(alloc: Global, table: &Table) -> Result<Seq<Party>, Fault>
+    ensures found { IfOk result (λ parties. and_then (needed Key.Party (array_of_tables 1 16) (get_member (codes "party") (table_view table.now))) parties_in ≡ Ok parties) }
+    ensures refused { IfErr result (Refuses (and_then (needed Key.Party (array_of_tables 1 16) (get_member (codes "party") (table_view table.now))) parties_in)) }
+    ensures counted { IfOk result (λ parties. (1 ≤ length parties) × (length parties ≤ 16)) }
+    ensures short { IfOk result (λ parties. IsTrue (list_all is_short_party parties)) }
+{
     let Some(value) = value_at(table, "party") else {
         return Err(Fault::Missing(Key::Party));
     };
-    let Some(items) = array_of_tables(1, 16, value) else {
-        return Err(Fault::Range(Key::Party));
-    };
-    let parties = parties_in(alloc, items)?;
-    Ok(Side { parties, role })
+    match array_of_tables(1, 16, value) {
+        Some(items) => parties_in(alloc, items),
+        None => Err(Fault::Range(Key::Party)),
+    }
 }
 
 fn parties_in(alloc: Global, items: &[Value]) -> Result<Seq<Party>, Fault>
@@ -98,11 +112,11 @@ fn parties_in(alloc: Global, items: &[Value]) -> Result<Seq<Party>, Fault>
     };
     for item in items {
         match party_of(alloc, item) {
-            Ok(party) => match parties.push(party) {
-                Ok(()) => {}
-                Err(_) => return Err(Fault::NoMemory),
-            },
-            Err(fault) => return Err(fault),
+            Ok(party) => parties.push_reserved(party),
+            Err(fault) => {
+                drop(parties);
+                return Err(fault);
+            }
         }
     }
     Ok(Seq::of(parties))

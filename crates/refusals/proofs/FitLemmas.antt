@@ -10,17 +10,20 @@ use Rattle.as4_effects.specs.declared.effect.Effect.TheVariants.{Refused}
 use Rattle.as4_values.specs.declared.signal_body.ErrorItem.{ErrorItem}
 use Rattle.as4_values.specs.declared.signal_body.Severity.{Severity}
 use Rattle.as4_values.specs.declared.signal_body.Severity.TheVariants.{Failure, Warning}
-use Rattle.end_tables.proofs.NumberLemmas.{IsOf, StandAtNumbers, itself, numbered, sent_of_list}
-use Rattle.end_tables.specs.Numbered.{AreNumberedFrom}
+use Rattle.end_tables.proofs.NumberLemmas.{StandAtNumbers, numbered}
 use Rattle.end_tables.specs.Rooms.{TakesNoRoom}
 use Rattle.end_tables.specs.Standing.{CanStand, TakeOneRoom}
 use Rattle.exchange_model.specs.Apply.{after, changed, first_unfit, is_fit, is_one, marked}
 use Rattle.exchange_model.specs.End.{End}
+use Rattle.exchange_model.specs.Numbered.{AreNumberedFrom}
 use Rattle.exchange_model.specs.Questions.{is_pending, sent_at, sent_of}
 use Rattle.exchange_model.specs.Refusing.{Refusal, once, refusal_by, refusal_of, refusal_with, refusals_of}
 use Rattle.exchange_model.specs.declared.sent.Mark.{Mark}
 use Rattle.exchange_model.specs.declared.sent.Mark.TheVariants as mark
 use Rattle.exchange_model.specs.declared.sent.Sent.{Sent}
+use Rattle.exchange_model.proofs.FoundLemmas.{sent_of_has}
+use Rattle.exchange_model.proofs.ListLemmas.{Has}
+use Rattle.exchange_model.proofs.NumberedLemmas.{itself}
 
 abbrev pub effect_of : Refusal → Effect
 effect_of refusal = Refused refusal.number refusal.code
@@ -131,16 +134,16 @@ pending_with code sent s found =
       | inr e ↦ rw e tt
     ]
 
-pending_found : (code : List ℕ) (sent : List Sent) (o : Option Sent) → AreNumberedFrom 0 sent → IfSome o (IsOf sent)
+pending_found : (code : List ℕ) (sent : List Sent) (o : Option Sent) → AreNumberedFrom 0 sent → ((s : Sent) → o ≡ Some s → Has sent s)
     → IfSome (option_and_then (refusal_with code) o) (λ r. is_one is_pending (sent_at r.number sent) ≡ true)
-pending_found code sent None h i = tt
-pending_found code sent (Some s) h i = pending_with code sent s (itself 0 sent s h i)
+pending_found code sent None h there = tt
+pending_found code sent (Some s) h there = pending_with code sent s (itself 0 sent s h (there s refl))
 
 pending_by : (severity : Severity) (code : List ℕ) (about : Option (List ℕ)) (sent : List Sent) → AreNumberedFrom 0 sent
     → IfSome (refusal_by severity code about sent) (λ r. is_one is_pending (sent_at r.number sent) ≡ true)
 pending_by Warning code about sent h = tt
 pending_by Failure code None sent h = tt
-pending_by Failure code (Some id) sent h = pending_found code sent (sent_of id sent) h (sent_of_list id sent)
+pending_by Failure code (Some id) sent h = pending_found code sent (sent_of id sent) h (λ s found. (sent_of_has id sent s found).0)
 
 consed : (sent : List Sent) (o : Option Refusal) (refusals : List Refusal) → IfSome o (λ r. is_one is_pending (sent_at r.number sent) ≡ true)
     → ArePending sent refusals → ArePending sent (cons_option o refusals)

@@ -6,6 +6,7 @@ use Rattle.std.proofs.lemmas.Bool.Decides.{nat_tests}
 use Rattle.std.proofs.lemmas.List.Elements.{All-nil, All-cons, All-head, All-tail}
 use Rattle.std.proofs.lemmas.List.Sums.{sum_by-cons}
 use Rattle.as4_values.proofs.MomentTextLemmas.{of_moment}
+use Rattle.as4_values.proofs.PayloadLemmas.{media_limited}
 use Rattle.as4_values.specs.ModeRanges.{is_mode_route}
 use Rattle.as4_values.specs.Moment.{IsStampOf}
 use Rattle.as4_values.specs.declared.header.PartInfo.{PartInfo}
@@ -74,7 +75,7 @@ payload_length : (p : Payload) → length (payload_body p) ≤ 1300 + length p.c
 unfolding payload_body
 payload_length p =
     let cid : length p.cid ≤ 255 = p.named.limited in
-    let media : length p.media ≤ 1024 = p.typed.limited in
+    let media : length p.media ≤ 1024 = media_limited p.media p.typed in
     simp length-append (omega (arith, text_length p.cid, text_length p.media, text_length p.content))
 
 payload_lengths : (payloads : List Payload) (loads : List Load)

@@ -19,36 +19,36 @@ use Rattle.as4_values.specs.Payload.{IsContentId}
 use Rattle.as4_values.specs.PlainTexts.{IsPlainText, allows_at}
 use Rattle.as4_values.specs.Word.{allows}
 use Rattle.as4_values.specs.declared.word.Word.TheVariants.{Identifier}
-use Rattle.submissions.specs.Names.{IsNameByte, is_name_byte, IsStem, cid_at}
+use Rattle.submissions.specs.Names.{IsStemByte, is_stem_byte, IsStem, cid_at}
 
-literal_is_name : (bytes : List ℕ) → list_all is_name_byte bytes ≡ true → All IsNameByte bytes
-literal_is_name bytes holds k d within = AllPass-from_list_all is_name_byte bytes holds k d within
+literal_of_stem_bytes : (bytes : List ℕ) → list_all is_stem_byte bytes ≡ true → All IsStemByte bytes
+literal_of_stem_bytes bytes holds k d within = AllPass-from_list_all is_stem_byte bytes holds k d within
 
-hex_digit_is_name : (d : ℕ) → d < 16 → IsNameByte (hex_digit lower d)
-hex_digit_is_name d small = grind (arith, nat_tests)
+hex_digit_is_stem_byte : (d : ℕ) → d < 16 → IsStemByte (hex_digit lower d)
+hex_digit_is_stem_byte d small = grind (arith, nat_tests)
 
-either_is_name : (hyphen : Bool) (d : ℕ) → d < 16 → IsNameByte (if hyphen then 45 else hex_digit lower d)
-either_is_name true d small = refl
-either_is_name false d small = hex_digit_is_name d small
+either_is_stem_byte : (hyphen : Bool) (d : ℕ) → d < 16 → IsStemByte (if hyphen then 45 else hex_digit lower d)
+either_is_stem_byte true d small = refl
+either_is_stem_byte false d small = hex_digit_is_stem_byte d small
 
-uuid_text_is_name : (nonce : ℕ) → All IsNameByte (uuid_text nonce)
+uuid_text_of_stem_bytes : (nonce : ℕ) → All IsStemByte (uuid_text nonce)
 unfolding uuid_text
-uuid_text_is_name nonce k d within =
+uuid_text_of_stem_bytes nonce k d within =
     let bytes : List ℕ = to_be_bytes w128 nonce in
     let below : k < 36 = rw (length-uuid_text nonce) at within in
     rw (by_index_at 36 (λ j. if is_hyphen_place j then 45 else hex_digit lower (nibble bytes (digit_place j))) k d below)
-    (either_is_name (is_hyphen_place k) (nibble bytes (digit_place k)) (nibble_small bytes (digit_place k)))
+    (either_is_stem_byte (is_hyphen_place k) (nibble bytes (digit_place k)) (nibble_small bytes (digit_place k)))
 
-digit_is_name : (c : ℕ) → IsInRange 48 57 c → IsNameByte c
-digit_is_name c digit = grind (arith, nat_tests)
+digit_is_stem_byte : (c : ℕ) → IsInRange 48 57 c → IsStemByte c
+digit_is_stem_byte c digit = grind (arith, nat_tests)
 
-digits_are_name : (bytes : List ℕ) → AllDigits 10 bytes → All IsNameByte bytes
-digits_are_name [] digits = All-nil IsNameByte
-digits_are_name (c ∷ cs) digits =
-    All-cons IsNameByte c cs (digit_is_name c (digit_from_value c digits.0)) (digits_are_name cs digits.1)
+digits_are_stem_bytes : (bytes : List ℕ) → AllDigits 10 bytes → All IsStemByte bytes
+digits_are_stem_bytes [] digits = All-nil IsStemByte
+digits_are_stem_bytes (c ∷ cs) digits =
+    All-cons IsStemByte c cs (digit_is_stem_byte c (digit_from_value c digits.0)) (digits_are_stem_bytes cs digits.1)
 
-decimal_is_name : (n : ℕ) → n < 2 ^ 64 → All IsNameByte (decimal n)
-decimal_is_name n fits = digits_are_name (decimal n) (decimal_is_IsNumeral n fits).0.1
+decimal_of_stem_bytes : (n : ℕ) → n < 2 ^ 64 → All IsStemByte (decimal n)
+decimal_of_stem_bytes n fits = digits_are_stem_bytes (decimal n) (decimal_is_IsNumeral n fits).0.1
 
 -- the identifier of a submission names payloads
 pub submission_id_is_stem : (number nonce : ℕ) → number < 2 ^ 64 → IsStem (submission_id number nonce)
@@ -56,18 +56,18 @@ submission_id_is_stem number nonce fits =
     let digits : length (decimal number) ≤ 20 = length-decimal-le 20 number (omega arith) (omega arith) fits in
     record {
       limited = simp length-append (omega (arith, length-uuid_text nonce));
-      each = All-append IsNameByte (decimal number ++ codes "." ++ uuid_text nonce) (codes "@as4")
-          (All-append IsNameByte (decimal number ++ codes ".") (uuid_text nonce)
-          (All-append IsNameByte (decimal number) (codes ".") (decimal_is_name number fits) (literal_is_name (codes ".") refl))
-          (uuid_text_is_name nonce))
-          (literal_is_name (codes "@as4") refl);
+      each = All-append IsStemByte (decimal number ++ codes "." ++ uuid_text nonce) (codes "@as4")
+          (All-append IsStemByte (decimal number ++ codes ".") (uuid_text nonce)
+          (All-append IsStemByte (decimal number) (codes ".") (decimal_of_stem_bytes number fits) (literal_of_stem_bytes (codes ".") refl))
+          (uuid_text_of_stem_bytes nonce))
+          (literal_of_stem_bytes (codes "@as4") refl);
     }
 
 -- what holds of a Content-ID
 pub record IsName (cid : List ℕ) : Type 0 where
   pub some : 0 < length cid
   pub limited : length cid ≤ 82
-  pub each : All IsNameByte cid
+  pub each : All IsStemByte cid
 
 pub cid_is_name : (id : List ℕ) (k : ℕ) → IsStem id → k < 64 → IsName (cid_at id k)
 unfolding cid_at
@@ -78,34 +78,34 @@ cid_is_name id k stem below =
     record {
       some = simp length-append (omega arith);
       limited = simp length-append (omega arith);
-      each = All-append IsNameByte (decimal (k + 1) ++ codes ".") id
-          (All-append IsNameByte (decimal (k + 1)) (codes ".") (decimal_is_name (k + 1) fits) (literal_is_name (codes ".") refl))
+      each = All-append IsStemByte (decimal (k + 1) ++ codes ".") id
+          (All-append IsStemByte (decimal (k + 1)) (codes ".") (decimal_of_stem_bytes (k + 1) fits) (literal_of_stem_bytes (codes ".") refl))
           stem.each;
     }
 
-name_is_allowed : (b : ℕ) → IsNameByte b → IsTrue (allows Identifier b)
-name_is_allowed b name = grind (arith, nat_tests)
+stem_byte_is_allowed : (b : ℕ) → IsStemByte b → IsTrue (allows Identifier b)
+stem_byte_is_allowed b name = grind (arith, nat_tests)
 
 pub cid_is_content_id : (id : List ℕ) (k : ℕ) → IsStem id → k < 64 → IsContentId (cid_at id k)
 cid_is_content_id id k stem below =
     let name = cid_is_name id k stem below in
     let short : length (cid_at id k) ≤ 82 = name.limited in
-    record { some = name.some; limited = omega arith; each = λ j d _ within. name_is_allowed (get_or (cid_at id k) j d) (name.each j d within) }
+    record { some = name.some; limited = omega arith; each = λ j d _ within. stem_byte_is_allowed (get_or (cid_at id k) j d) (name.each j d within) }
 
-name_is_plain : (bytes : List ℕ) (at : ℕ) → IsNameByte (slice_index bytes at) → IsTrue (allows_at bytes at)
-name_is_plain bytes at name = grind (arith, nat_tests)
+stem_byte_is_plain : (bytes : List ℕ) (at : ℕ) → IsStemByte (slice_index bytes at) → IsTrue (allows_at bytes at)
+stem_byte_is_plain bytes at name = grind (arith, nat_tests)
 
 -- a reference is a plain text
 pub href_is_plain : (id : List ℕ) (k : ℕ) → IsStem id → k < 64 → IsPlainText (codes "cid:" ++ cid_at id k)
 href_is_plain id k stem below =
     let name = cid_is_name id k stem below in
     let short : length (cid_at id k) ≤ 82 = name.limited in
-    let each : All IsNameByte (codes "cid:" ++ cid_at id k) =
-    All-append IsNameByte (codes "cid:") (cid_at id k) (literal_is_name (codes "cid:") refl) name.each in
+    let each : All IsStemByte (codes "cid:" ++ cid_at id k) =
+    All-append IsStemByte (codes "cid:") (cid_at id k) (literal_of_stem_bytes (codes "cid:") refl) name.each in
     record {
       some = omega arith;
       limited = omega arith;
-      each = λ at within. name_is_plain (codes "cid:" ++ cid_at id k) at (each at 0 within);
+      each = λ at within. stem_byte_is_plain (codes "cid:" ++ cid_at id k) at (each at 0 within);
     }
 
 -- the Content-IDs of two places differ

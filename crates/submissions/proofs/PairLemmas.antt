@@ -14,30 +14,30 @@ use Rattle.as4_values.specs.declared.header.PartInfo.{PartInfo}
 use Rattle.as4_values.specs.declared.payload.Payload.{Payload}
 use Rattle.as4_effects.specs.Pairing.{cid_in, named_by, is_among, all_differ, are_paired, pair}
 use Rattle.exchange_model.specs.Submitting.{cids_of}
-use Rattle.submissions.specs.Names.{IsNameByte, IsStem, cid_at}
+use Rattle.submissions.specs.Names.{IsStemByte, IsStem, cid_at}
 use Rattle.submissions.proofs.NameLemmas.{cid_is_name, cids_differ}
 
-name_is_no_percent : (b : ℕ) → IsNameByte b → b ≢ 37
-name_is_no_percent b name is = grind (arith, nat_tests)
+stem_byte_is_no_percent : (b : ℕ) → IsStemByte b → b ≢ 37
+stem_byte_is_no_percent b name is = grind (arith, nat_tests)
 
 -- a name has no escapes
-name_stays : (cid : List ℕ) → All IsNameByte cid → percent_decode cid ≡ cid
+name_stays : (cid : List ℕ) → All IsStemByte cid → percent_decode cid ≡ cid
 name_stays [] each = percent_decode-nil
 name_stays (b ∷ rest) each =
-    percent_decode_not_percent b rest (name_is_no_percent b (All-head IsNameByte b rest each))
-    ∙ ap (λ more. b ∷ more) (name_stays rest (All-tail IsNameByte b rest each))
+    percent_decode_not_percent b rest (stem_byte_is_no_percent b (All-head IsStemByte b rest each))
+    ∙ ap (λ more. b ∷ more) (name_stays rest (All-tail IsStemByte b rest each))
 
 abbrev href : List ℕ → List ℕ
 href cid = codes "cid:" ++ cid
 
 -- what a reference to a name names
-named_in : (cid : List ℕ) → All IsNameByte cid → cid_in (href cid) ≡ Some cid
+named_in : (cid : List ℕ) → All IsStemByte cid → cid_in (href cid) ≡ Some cid
 unfolding cid_in
 named_in cid each = ap Some (name_stays cid each)
 
 -- references to Content-IDs name these
 named_in_order : (parts : List PartInfo) (cids : List (List ℕ)) → map (λ (part : PartInfo). part.href) parts ≡ map (λ cid. Some (href cid)) cids
-    → All (All IsNameByte) cids → named_by parts ≡ Some cids
+    → All (All IsStemByte) cids → named_by parts ≡ Some cids
 unfolding named_by
 named_in_order [] [] same names = refl
 named_in_order [] (cid ∷ cids) same names = cc
@@ -45,7 +45,7 @@ named_in_order (part ∷ parts) [] same names = cc
 named_in_order (part ∷ parts) (cid ∷ cids) same names =
     let first : part.href ≡ Some (href cid) = cc in
     let rest : map (λ (p : PartInfo). p.href) parts ≡ map (λ c. Some (href c)) cids = cc in
-    rw (first, named_in cid (All-head (All IsNameByte) cid cids names), named_in_order parts cids rest (All-tail (All IsNameByte) cid cids names)) refl
+    rw (first, named_in cid (All-head (All IsStemByte) cid cids names), named_in_order parts cids rest (All-tail (All IsStemByte) cid cids names)) refl
 
 not_true : (b : Bool) → (b ≡ true → ⊥) → b ≡ false
 not_true true h = absurd (h refl)
@@ -71,10 +71,10 @@ among_themselves cids =
     list_all-from_AllPass (is_among cids) cids
     (λ k d within. list_any_at (bytes_eq (get_or cids k d)) cids k d within ((bytes_eq-Decides (get_or cids k d) (get_or cids k d)).1 refl))
 
-names_at : (id : List ℕ) (count : ℕ) → IsStem id → count ≤ 64 → All (All IsNameByte) (map (cid_at id) (range_with_len 0 count))
+names_at : (id : List ℕ) (count : ℕ) → IsStem id → count ≤ 64 → All (All IsStemByte) (map (cid_at id) (range_with_len 0 count))
 names_at id count stem few =
-    All-map (All IsNameByte) (cid_at id) (range_with_len 0 count)
-    (All-from_get_or (λ k. All IsNameByte (cid_at id k)) (range_with_len 0 count) 0
+    All-map (All IsStemByte) (cid_at id) (range_with_len 0 count)
+    (All-from_get_or (λ k. All IsStemByte (cid_at id k)) (range_with_len 0 count) 0
     (λ i within. let below : i < count = rw (length-range_with_len 0 count) at within in
     rw (get_or-range_with_len 0 count i 0 below) ((cid_is_name id (0 + i) stem (omega arith)).each)))
 

@@ -9,7 +9,8 @@ use Rattle.std.proofs.lemmas.List.Sums.{AllPass-from_list_all}
 use Rattle.as4_values.specs.declared.header.PartInfo.{PartInfo}
 use Rattle.as4_values.specs.declared.payload.Load.{Load}
 use Rattle.as4_values.specs.declared.payload.Payload.{Payload}
-use Rattle.exchange_model.specs.Submitting.{ArePayloadsOf, cids_of, is_media_text}
+use Rattle.exchange_model.specs.Submitting.{ArePayloadsOf, cids_of}
+use Rattle.as4_values.specs.Payload.{is_media_text}
 use Rattle.submissions.specs.Names.{ArePartsOf, IsStem, cid_at}
 use Rattle.submissions.proofs.NameLemmas.{cid_is_name}
 

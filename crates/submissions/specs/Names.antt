@@ -6,16 +6,16 @@ use Rattle.as4_values.specs.declared.header.PartInfo.{PartInfo}
 use Rattle.exchange_model.specs.Submitting.{cids_of}
 
 -- a byte that stands in an identifier, in a document and in a URL as it is
-abbrev pub is_name_byte : ℕ → Bool
-is_name_byte b = nat_le 33 b && nat_le b 126 && not ((b == 34) || (b == 37) || (b == 38) || (b == 60) || (b == 62))
+abbrev pub is_stem_byte : ℕ → Bool
+is_stem_byte b = nat_le 33 b && nat_le b 126 && not ((b == 34) || (b == 37) || (b == 38) || (b == 60) || (b == 62))
 
-abbrev pub IsNameByte : ℕ → Type 0
-IsNameByte b = IsTrue (is_name_byte b)
+abbrev pub IsStemByte : ℕ → Type 0
+IsStemByte b = IsTrue (is_stem_byte b)
 
 -- an identifier of such bytes, no longer than those of submissions
 pub record IsStem (id : List ℕ) : Type 0 where
   pub limited : length id ≤ 61
-  pub each : All IsNameByte id
+  pub each : All IsStemByte id
 
 -- the Content-ID at a place
 unfoldable pub cid_at : List ℕ → ℕ → List ℕ

@@ -1,13 +1,14 @@
 //! The header of a user message by a processing mode (ebMS 3.0 Core, section 4 and appendix D).
 
 ghost use Rattle.std.specs.Prelude.{◌≡◌, ◌≤◌, IfOk, IfSome, length};
+ghost use Rattle.as4_values.specs.Moment.{IsStampOf};
 ghost use Rattle.exchange_model.specs.Submitting.{IsHeaderOf, channel_of};
 ghost use Rattle.submissions.specs.Names.{IsStem};
 
 use crate::parts::parts_of;
 use as4_values::{
-    Agreement, MAX_MOMENT, MessageId, Mode, NoMemory, PlainData, Route, Seq, Service, Side, Text,
-    UserHeader, stamp_text,
+    Agreement, MAX_MOMENT, MessageId, Mode, NoMemory, PlainData, Route, Seq, Service, Side,
+    StampText, Text, UserHeader, stamp_text,
 };
 use std::alloc::Global;
 
@@ -25,26 +26,57 @@ pub fn header_of(
     requires stem { IsStem id }
     ensures { IfOk result (IsHeaderOf mode.now id stamp conversation.now count) }
 {
-    let parts = parts_of(alloc, &id, count)?;
-    let mpc = channel_of(alloc, &mode.route)?;
-    let stamp = stamp_text(alloc, stamp)?;
-    let (from, to) = sides_of(alloc, mode)?;
-    let (agreement, service, action) = business_of(alloc, mode)?;
-    let conversation = conversation.try_clone(alloc)?;
-    Ok(UserHeader {
-        mpc,
-        stamp,
-        id,
-        ref_to: None,
-        from,
-        to,
-        agreement,
-        service,
-        action,
-        conversation,
-        properties: Seq::of(Vec::new(alloc)),
-        parts,
-    })
+    match (
+        marks_of(alloc, &mode.route, stamp),
+        sides_of(alloc, mode),
+        business_of(alloc, mode),
+        conversation.try_clone(alloc),
+        parts_of(alloc, &id, count),
+    ) {
+        (Ok(marks), Ok(sides), Ok(business), Ok(conversation), Ok(parts)) => {
+            let (mpc, stamp) = marks;
+            let (from, to) = sides;
+            let (agreement, service, action) = business;
+            Ok(UserHeader {
+                mpc,
+                stamp,
+                id,
+                ref_to: None,
+                from,
+                to,
+                agreement,
+                service,
+                action,
+                conversation,
+                properties: Seq::of(Vec::new(alloc)),
+                parts,
+            })
+        }
+        (marks, sides, business, conversation, parts) => {
+            drop(id);
+            drop(marks);
+            drop(sides);
+            drop(business);
+            drop(conversation);
+            drop(parts);
+            Err(NoMemory)
+        }
+    }
+}
+
+/// The message partition channel and the stamp.
+fn marks_of(alloc: Global, route: &Route, stamp: u64) -> Result<(Option<Text>, StampText), NoMemory>
+    requires { stamp ≤ MAX_MOMENT }
+    ensures { IfOk result (λ marks. (marks.0 ≡ channel_of route.now) × (IsStampOf stamp marks.1)) }
+{
+    let mpc = channel_of(alloc, route)?;
+    match stamp_text(alloc, stamp) {
+        Ok(stamp) => Ok((mpc, stamp)),
+        Err(error) => {
+            drop(mpc);
+            Err(error)
+        }
+    }
 }
 
 fn sides_of(alloc: Global, mode: &Mode) -> Result<(Side, Side), NoMemory>
@@ -60,10 +92,19 @@ fn business_of(alloc: Global, mode: &Mode) -> Result<(Option<Agreement>, Service
     ensures { IfOk result (λ copies. (copies.0 ≡ mode.now.agreement) × (copies.1 ≡ mode.now.service)
         × (copies.2 ≡ mode.now.action)) }
 {
-    let agreement = mode.agreement.try_clone(alloc)?;
-    let service = mode.service.try_clone(alloc)?;
-    let action = mode.action.try_clone(alloc)?;
-    Ok((agreement, service, action))
+    match (
+        mode.agreement.try_clone(alloc),
+        mode.service.try_clone(alloc),
+        mode.action.try_clone(alloc),
+    ) {
+        (Ok(agreement), Ok(service), Ok(action)) => Ok((agreement, service, action)),
+        (agreement, service, action) => {
+            drop(agreement);
+            drop(service);
+            drop(action);
+            Err(NoMemory)
+        }
+    }
 }
 
 /// The message partition channel of a pull.

@@ -37,16 +37,25 @@ pub fn submission(
     conversation_is_limited(conversation);
     let id = MessageId::of_submission(alloc, intake.number, intake.nonce)?;
     let loads = loads.items();
-    let payloads = payloads_of(alloc, &id, loads)?;
-    let header = header_of(alloc, mode, id, intake.stamp, conversation, loads.len())?;
-    let route = mode.route.try_clone(alloc)?;
-    Ok(Submission {
-        number: intake.number,
-        header,
-        payloads,
-        route,
-        retries: mode.retries,
-        period: mode.period,
-        moment: intake.now,
-    })
+    match (
+        payloads_of(alloc, &id, loads),
+        header_of(alloc, mode, id, intake.stamp, conversation, loads.len()),
+        mode.route.try_clone(alloc),
+    ) {
+        (Ok(payloads), Ok(header), Ok(route)) => Ok(Submission {
+            number: intake.number,
+            header,
+            payloads,
+            route,
+            retries: mode.retries,
+            period: mode.period,
+            moment: intake.now,
+        }),
+        (payloads, header, route) => {
+            drop(payloads);
+            drop(header);
+            drop(route);
+            Err(NoMemory)
+        }
+    }
 }

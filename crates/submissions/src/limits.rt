@@ -2,7 +2,8 @@
 
 ghost use Rattle.std.specs.Prelude.{◌≡◌, ◌-◌, ◌^◌, length, min};
 ghost use Rattle.std.specs.List.{list_all, sum_by};
-ghost use Rattle.exchange_model.specs.Submitting.{is_media_text, are_too_large};
+ghost use Rattle.as4_values.specs.Payload.{is_media_text};
+ghost use Rattle.exchange_model.specs.Submitting.{are_too_large};
 
 use as4_effects::is_media_text;
 use as4_values::Load;
@@ -26,14 +27,7 @@ pub fn are_too_large(loads: &[Load]) -> bool
 fn have_media_texts(loads: &[Load]) -> bool
     ensures { result ≡ list_all (λ load. is_media_text load.media) loads.now }
 {
-    loads.iter().all(|load| has_media_text(load))
-}
-
-/// Whether a part may have the media text of this load.
-fn has_media_text(load: &Load) -> bool
-    ensures { result ≡ is_media_text load.now.media }
-{
-    is_media_text(load.media.bytes())
+    loads.iter().all(|load| is_media_text(load.media.bytes()))
 }
 
 /// How many bytes the contents have together, or the greatest number where they are more.

@@ -4,10 +4,9 @@
 //!     cid:7.0.00000000-0000-0000-0000-000000000000@as4   the reference to it
 
 ghost use Rattle.std.specs.Prelude.{◌≡◌, ◌<◌, ◌++◌, IfOk, codes};
-ghost use Rattle.as4_values.specs.PlainTexts.{IsPlainText};
 ghost use Rattle.submissions.specs.Names.{IsStem, cid_at};
 
-use as4_values::{MessageId, NoMemory, Octets, Text, TextRefusal};
+use as4_values::{MessageId, NoMemory, Octets, Text};
 use std::alloc::Global;
 
 /// The Content-ID of the payload at a place, counted from 0, by the identifier of the message.
@@ -16,9 +15,7 @@ pub fn cid_of(alloc: Global, id: &MessageId, at: usize) -> Result<Octets, NoMemo
     requires { at < 64 }
     ensures { IfOk result (λ cid. cid ≡ cid_at id.now at) }
 {
-    let mut bytes = Vec::new(alloc);
-    bytes.extend_from_slice(format!(in alloc; "{}", at + 1)?.as_bytes())?;
-    bytes.extend_from_slice(b".")?;
+    let mut bytes = format!(in alloc; "{}.", at + 1)?.into_bytes();
     bytes.extend_from_slice(id.bytes())?;
     Ok(Octets::of(bytes))
 }
@@ -31,7 +28,7 @@ pub fn href_of(alloc: Global, id: &MessageId, at: usize) -> Result<Text, NoMemor
     ensures { IfOk result (λ href. href ≡ codes "cid:" ++ cid_at id.now at) }
 {
     let bytes = href_bytes(alloc, id, at)?;
-    text_of(alloc, bytes.bytes())
+    Text::plain(alloc, bytes.bytes())
 }
 
 fn href_bytes(alloc: Global, id: &MessageId, at: usize) -> Result<Octets, NoMemory>
@@ -42,16 +39,4 @@ fn href_bytes(alloc: Global, id: &MessageId, at: usize) -> Result<Octets, NoMemo
     let mut bytes = Vec::from_slice(alloc, b"cid:")?;
     bytes.extend_from_slice(cid.bytes())?;
     Ok(Octets::of(bytes))
-}
-
-/// The text that plain bytes are.
-fn text_of(alloc: Global, bytes: &[u8]) -> Result<Text, NoMemory>
-    requires { IsPlainText bytes.now }
-    ensures { IfOk result (λ text. text ≡ bytes.now) }
-{
-    match Text::read(alloc, bytes) {
-        Ok(text) => Ok(text),
-        Err(TextRefusal::NoMemory) => Err(NoMemory),
-        Err(TextRefusal::BadText { .. }) => unreachable!(),
-    }
 }

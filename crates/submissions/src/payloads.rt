@@ -2,7 +2,8 @@
 
 ghost use Rattle.std.specs.Prelude.{◌≡◌, ◌<◌, ◌≤◌, IfOk, IsTrue, length};
 ghost use Rattle.std.specs.List.{list_all};
-ghost use Rattle.exchange_model.specs.Submitting.{ArePayloadsOf, is_media_text};
+ghost use Rattle.as4_values.specs.Payload.{is_media_text};
+ghost use Rattle.exchange_model.specs.Submitting.{ArePayloadsOf};
 ghost use Rattle.submissions.specs.Names.{IsStem, cid_at};
 
 use crate::naming::cid_of;
@@ -24,7 +25,7 @@ pub fn payloads_of(alloc: Global, id: &MessageId, loads: &[Load]) -> Result<Seq<
     Ok(Seq::of(payloads))
 }
 
-#[tactic(auto, using(crate::proofs::NameLemmas::cid_is_content_id, crate::proofs::LimitLemmas::is_typed))]
+#[tactic(auto, using(crate::proofs::NameLemmas::cid_is_content_id))]
 fn payload_of(alloc: Global, id: &MessageId, at: usize, load: &Load) -> Result<Payload, NoMemory>
     requires below { at < 64 }
     requires typed { IsTrue (is_media_text load.now.media) }

@@ -1,65 +1,17 @@
 ghost use Rattle.std.specs.Prelude.{◌≡◌, IfSome, length};
 
-use as4_values::{
-    MessageId, Octets, Party, Payload, Seq, Service, Side, StampText, Text, UserHeader, read_stamp,
-};
+use as4_values::{MessageId, Octets, Payload, Seq, UserHeader};
 use inbox::{Held, Inbox};
+use made_messages::header;
 use std::alloc::Global;
 
-fn text(alloc: Global, word: &[u8]) -> Option<Text> {
-    Text::read(alloc, word).ok()
-}
-
-fn side(alloc: Global, id: &[u8]) -> Option<Side> {
-    let role = text(alloc, b"r")?;
-    let party = Party {
-        id: text(alloc, id)?,
-        kind: None,
-    };
-    let parties = Seq::of(vec![in alloc; party].ok()?);
-    Some(Side { parties, role })
-}
-
-/// The stamp, the identifier, the service and the action of the message of this identifier.
-fn words(alloc: Global, id: &[u8]) -> Option<(StampText, MessageId, Text, Text)> {
-    let stamp = read_stamp(alloc, b"2025-01-02T03:04:05Z").ok()?;
-    let id = MessageId::read(alloc, id).ok()?;
-    let service = text(alloc, b"s")?;
-    let action = text(alloc, b"act")?;
-    Some((stamp, id, service, action))
-}
-
-/// What was made is let go by name, which is proved sooner than where its scope ends.
-fn header(alloc: Global, id: &[u8]) -> Option<UserHeader> {
-    let (stamp, id, value, action) = words(alloc, id)?;
-    match (side(alloc, b"a"), side(alloc, b"b")) {
-        (Some(from), Some(to)) => Some(UserHeader {
-            mpc: None,
-            stamp,
-            id,
-            ref_to: None,
-            from,
-            to,
-            agreement: None,
-            service: Service { value, kind: None },
-            action,
-            conversation: None,
-            properties: Seq::of(Vec::new(alloc)),
-            parts: Seq::of(Vec::new(alloc)),
-        }),
-        (from, to) => {
-            drop(from);
-            drop(to);
-            drop(stamp);
-            drop(id);
-            drop(value);
-            drop(action);
-            None
-        }
-    }
+/// The header of a message of this identifier.
+fn header_of(alloc: Global, id: &[u8]) -> Option<UserHeader> {
+    header(alloc, MessageId::read(alloc, id).ok()?)
 }
 
 /// One payload of no bytes.
+#[tactic(auto, unfolding(as4_values::specs::Payload::is_media_text))]
 fn payloads(alloc: Global) -> Option<Seq<Payload>> {
     let name = MessageId::read(alloc, b"p").ok()?;
     let payload = Payload {
@@ -94,7 +46,7 @@ fn filled(alloc: Global, header: UserHeader, payloads: Seq<Payload>) -> Option<I
 fn one_message(alloc: Global) -> Option<Inbox>
     ensures { IfSome result (λ inbox. (length inbox.entries ≡ 1) × (inbox.confirmed ≡ 0)) }
 {
-    match (header(alloc, b"m1"), payloads(alloc)) {
+    match (header_of(alloc, b"m1"), payloads(alloc)) {
         (Some(header), Some(payloads)) => filled(alloc, header, payloads),
         (header, payloads) => {
             drop(header);

@@ -2,12 +2,10 @@ ghost use Rattle.std.specs.Prelude.{IsTrue};
 ghost use Rattle.exchange_model.specs.Questions.{is_pending, is_waiting, sent_at};
 ghost use Rattle.exchange_model.specs.Apply.{is_one};
 
-mod made;
-
 use as4_effects::Submission;
 use as4_values::{Code, MAX_MOMENT, MessageId};
 use exchange_model::Standing;
-use made::submission;
+use made_messages::submission;
 use outbox::Outbox;
 use std::alloc::Global;
 

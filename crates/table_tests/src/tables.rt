@@ -1,46 +1,9 @@
-ghost use Rattle.std.specs.Prelude.{◌≡◌, IsTrue, IfSome};
-ghost use Rattle.end_tables.specs.Rooms.{HasRoom, queue_for};
-ghost use Rattle.exchange_model.specs.Apply.{is_fit};
-
-mod made;
-
 use as4_effects::{Effect, Queue, Tick};
 use as4_values::MessageId;
 use end_tables::{EndTables, Held, Totals};
 use exchange_model::Standing;
-use made::{delivered, submitted};
+use made_messages::{act, delivery, submission};
 use std::alloc::Global;
-
-/// Makes room for the effect, where it fits.
-fn ready(tables: &mut EndTables, effect: &Effect) -> Option<Queue>
-    ensures fit { IfSome result (λ queue. IsTrue (is_fit effect.now tables.new.end)) }
-    ensures room { IfSome result (λ queue. HasRoom tables.new.rooms tables.new.end.sent effect.now) }
-    ensures queue { IfSome result (λ queue. queue ≡ queue_for tables.new.end.sent effect.now) }
-{
-    if !tables.fits(effect) {
-        return None;
-    }
-    match tables.reserve(effect) {
-        Ok(()) => tables.queue_for(effect).ok(),
-        Err(_) => None,
-    }
-}
-
-/// Makes the effect's change, where it fits. (What was made is let go by name, which is proved sooner than where its
-/// scope ends.)
-fn act(tables: &mut EndTables, effect: Effect) -> Option<()> {
-    match ready(tables, &effect) {
-        Some(queue) => {
-            tables.apply(effect, &queue);
-            drop(queue);
-            Some(())
-        }
-        None => {
-            drop(effect);
-            None
-        }
-    }
-}
 
 fn tick(tables: &mut EndTables, moment: u64) -> Option<()> {
     if moment > 1_000_000 {
@@ -62,7 +25,7 @@ fn tried_once(alloc: Global, retries: u32) -> Option<EndTables> {
 }
 
 fn try_once(alloc: Global, tables: &mut EndTables, retries: u32) -> Option<()> {
-    act(tables, submitted(alloc, 0, retries)?)?;
+    act(tables, Effect::Submitted(submission(alloc, 0, retries)?))?;
     tick(tables, 1000)?;
     tables.head(&Queue::Push)?;
     act(tables, Effect::Tried { number: 0 })
@@ -143,7 +106,7 @@ fn a_tick_gives_up_what_is_spent(rt: HostRuntime) {
 
 /// A message comes and is taken over.
 fn take_one(alloc: Global, tables: &mut EndTables) -> Option<()> {
-    act(tables, delivered(alloc)?)?;
+    act(tables, Effect::Delivered(delivery(alloc)?))?;
     act(tables, Effect::Confirmed { upto: 0 })
 }
 

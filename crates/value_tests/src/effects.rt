@@ -31,6 +31,7 @@ fn part(rt: &(impl Abort + AllocGlobal), href: &[u8]) -> PartInfo {
     }
 }
 
+#[tactic(auto, unfolding(as4_values::specs::Payload::is_media_text))]
 fn payload(rt: &(impl Abort + AllocGlobal), cid: &[u8]) -> Payload {
     let name = message_id(rt, cid);
     Payload {

@@ -45,6 +45,7 @@ fn octets(alloc: Global, bytes: &[u8]) -> Result<Octets, Fail>
     Ok(Octets::of(Vec::from_slice(alloc, bytes)?))
 }
 
+#[tactic(auto, unfolding(as4_values::specs::Payload::is_media_text))]
 fn payload(alloc: Global) -> Result<Payload, Fail> {
     let cid = octets(alloc, b"p1@a")?;
     let media = octets(alloc, b"text/plain")?;

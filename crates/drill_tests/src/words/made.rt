@@ -3,15 +3,12 @@
 ghost use Rattle.std.specs.Prelude.{◌≡◌, IfOk};
 
 use as4_values::{
-    Code, ErrorItem, Message, MessageId, NoMemory, Octets, Party, Payload, Seq, Service, Severity,
-    Side, Signal, SignalBody, StampText, Text, UserHeader, stamp_text,
+    Code, ErrorItem, Message, MessageId, NoMemory, Octets, Payload, Seq, Severity, Signal,
+    SignalBody, StampText, stamp_text,
 };
 use exchange_model::Reply;
+use made_messages::{header, text};
 use std::alloc::Global;
-
-fn text(alloc: Global, word: &[u8]) -> Option<Text> {
-    Text::read(alloc, word).ok()
-}
 
 fn code(alloc: Global, word: &[u8]) -> Option<Code> {
     Code::read(alloc, word).ok()
@@ -27,40 +24,6 @@ fn id(alloc: Global) -> Option<MessageId> {
     MessageId::of_submission(alloc, 0, 0).ok()
 }
 
-fn side(alloc: Global, id: &[u8]) -> Option<Side> {
-    let party = Party {
-        id: text(alloc, id)?,
-        kind: None,
-    };
-    Some(Side {
-        parties: Seq::of(vec![in alloc; party].ok()?),
-        role: text(alloc, b"r")?,
-    })
-}
-
-fn header(alloc: Global) -> Option<UserHeader> {
-    let stamp = stamp(alloc)?;
-    let id = id(alloc)?;
-    let from = side(alloc, b"a")?;
-    let to = side(alloc, b"b")?;
-    let value = text(alloc, b"s")?;
-    let action = text(alloc, b"act")?;
-    Some(UserHeader {
-        mpc: None,
-        stamp,
-        id,
-        ref_to: None,
-        from,
-        to,
-        agreement: None,
-        service: Service { value, kind: None },
-        action,
-        conversation: None,
-        properties: Seq::of(Vec::new(alloc)),
-        parts: Seq::of(Vec::new(alloc)),
-    })
-}
-
 fn octets(alloc: Global, bytes: &[u8]) -> Result<Octets, NoMemory>
     ensures { IfOk result (λ octets. octets ≡ bytes.now) }
 {
@@ -68,6 +31,7 @@ fn octets(alloc: Global, bytes: &[u8]) -> Result<Octets, NoMemory>
 }
 
 /// A payload of five bytes.
+#[tactic(auto, unfolding(as4_values::specs::Payload::is_media_text))]
 fn payload(alloc: Global) -> Result<Payload, NoMemory> {
     let cid = octets(alloc, b"p1@a")?;
     let media = octets(alloc, b"text/plain")?;
@@ -93,7 +57,7 @@ pub fn submitted(alloc: Global) -> Option<Reply> {
 pub fn pushed(alloc: Global) -> Option<Reply> {
     let address = text(alloc, b"http://drill/")?;
     let payloads = Seq::of(Vec::new(alloc));
-    let header = header(alloc)?;
+    let header = header(alloc, id(alloc)?)?;
     Some(Reply::Push {
         address,
         message: Message::User { header, payloads },
@@ -118,7 +82,7 @@ pub fn requested(alloc: Global) -> Option<Reply> {
 
 pub fn entry(alloc: Global) -> Option<Reply> {
     let payloads = payloads(alloc)?;
-    let header = header(alloc)?;
+    let header = header(alloc, id(alloc)?)?;
     Some(Reply::Entry { header, payloads })
 }
 

@@ -1,6 +1,7 @@
 use Rattle.std.proofs.Common.{◌≡◌, ℕ, ◌≤◌, List, [], ◌∷◌, length, ap, sym, subst, ◌∙◌}
 use Rattle.std.proofs.lemmas.Result.{err_from_is_err_and}
 use Rattle.as4_values.specs.Word.{IsWord}
+use Rattle.as4_values.proofs.PayloadLemmas.{media_limited}
 use Rattle.as4_values.specs.declared.word.Word.TheVariants.{Identifier}
 use Rattle.as4_values.specs.PlainTexts.{IsPlainText}
 use Rattle.message_model.specs.Wire.{body_of}
@@ -30,7 +31,7 @@ returns-in_err-payloads-clause-only c h payload plain is_media is_body =
     let wire = plain_is_wire h payload c.args.media.now c.args.body.now plain is_media is_body in
     let read = c.in-Some.ensures.only (spelled_header h) payload.media payload.content wire (spelled_is_spelled h plain.header) (cid_is_free h plain.header) (media_is_free payload.media plain.media) in
     let is_cid : c.in-Some.raw.header.cid.now ≡ h.cid = ap (λ (r : PlainHeader). r.cid) read.0 in
-    let short : length payload.media ≤ 1024 = payload.typed.limited in
+    let short : length payload.media ≤ 1024 = media_limited payload.media payload.typed in
     let refused = c.in_err-payloads.ensures.only (subst (λ (x : List ℕ). IsWord Identifier x) (sym is_cid) plain.header.cid_word) (subst IsPlainText (sym read.1) plain.media) (subst (λ (x : List ℕ). length x ≤ 1024) (sym read.1) short) in
     let p = err_from_is_err_and c.from_residual.result c.from_residual.ensures.1 in
     rw p.1 (let from = p.2 in cc)

@@ -1,7 +1,7 @@
 use Rattle.std.proofs.Common.{Err, inl, inr, ap, [], ◌∷◌, ◌∙◌}
 use Rattle.message_model.specs.Wire.{file_of}
 use Rattle.as4_message.specs.Plain.{header_of}
-use Rattle.as4_message.specs.FileReading.{parts_of}
+use Rattle.as4_message.specs.FileReading.{media_and_body}
 use Rattle.as4_message.proofs.RefusalLemmas.{refused_is_known}
 use Rattle.as4_tool.proofs.AnswerLemmas.{ok_of, never_unbuilt}
 use Rattle.as4_tool.proofs.answers.reply_to.Goals as goal
@@ -21,7 +21,7 @@ returns-in-Ok-clause-unbuilt c is =
 pub error_of-reply-requires-clause-known : goal.error_of-reply-requires-clause-known
 error_of-reply-requires-clause-known c =
     let refusal = c.in-Err-Refused.refusal in
-    let parts = parts_of c.args.file.now in
+    let parts = media_and_body c.args.file.now in
     refused_is_known parts.0 parts.1 refusal ((c.in-Err-Refused.ensures.refused refusal).0 (ap Err c.in-Err-Refused.field-0-is))
 
 pub returns-in-Err-Refused-clause-answers : goal.returns-in-Err-Refused-clause-answers

@@ -1,5 +1,5 @@
 use Rattle.std.proofs.Common.{◌≤◌, length, Err, inl, ap, sym}
-use Rattle.as4_tool.specs.Answer.{IsAnswer, IsOther}
+use Rattle.as4_tool.specs.Answer.{IsAnswer, IsUnbuilt}
 use Rattle.as4_tool.specs.declared.running.TheConstants.{LIMIT}
 use Rattle.as4_tool.proofs.AnswerLemmas.{told_whole}
 use Rattle.as4_tool.proofs.running.answer.Goals as goal
@@ -20,9 +20,9 @@ returns-in-Ok-answer_file-clause-ends g c =
 
 pub returns-in-Err-Unbuilt-clause-unbuilt : goal.returns-in-Err-Unbuilt-clause-unbuilt
 returns-in-Err-Unbuilt-clause-unbuilt g c _ =
-    let other : IsOther c.in-Ok.file.items = rw (sym c.deref.ensures.value) (c.in-Err-Unbuilt.ensures.unbuilt (ap Err c.in-Err-Unbuilt.field-0-is)) in (
+    let other : IsUnbuilt c.in-Ok.file.items = rw (sym c.deref.ensures.value) (c.in-Err-Unbuilt.ensures.unbuilt (ap Err c.in-Err-Unbuilt.field-0-is)) in (
       told_whole (g.I.Source.left c.args.input.now) (g.I.Source.left c.read_all.new.source) c.in-Ok.file.items
-          (λ file. (length file ≤ LIMIT) × IsOther file)
+          (λ file. (length file ≤ LIMIT) × IsUnbuilt file)
           c.in-Ok.ensures.bytes c.in-Ok.ensures.end (c.in-Ok.ensures.within, other),
       c.in-Ok.ensures.end,
     )

@@ -1,5 +1,4 @@
-use Rattle.drill.specs.Generated.{Leads, Stops, carried}
-use Rattle.drill.specs.Generating.{carried_both}
+use Rattle.drill.specs.Generated.{Leads, Stops, carried, carried_both}
 use Rattle.drill_script.specs.declared.line.EndName.TheVariants as name
 use Rattle.drill.proofs.GeneratedLemmas.{both_carried, both_stop, goes_out}
 use Rattle.drill.proofs.generated.carry_both.Goals as goal

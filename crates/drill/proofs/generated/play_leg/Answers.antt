@@ -1,8 +1,8 @@
 use Rattle.std.proofs.Common.{◌≡◌, [], ◌∷◌, Bool, Some, arith, subst}
 use Rattle.std.specs.Prelude.{IsSome}
 use Rattle.as4_effects.specs.declared.queue.Queue.TheVariants as queue
-use Rattle.drill.specs.Generated.{Leads, LegStops, Stops, counted}
-use Rattle.drill.specs.Generating.{IsHead, Legs, carried_both}
+use Rattle.drill.specs.Generated.{Leads, LegStops, Stops, carried_both, counted}
+use Rattle.drill.specs.Generating.{IsHead, Legs}
 use Rattle.drill_script.specs.declared.line.EndName.TheVariants as name
 use Rattle.drill_script.specs.declared.line.Line.TheVariants as line
 use Rattle.exchange_model.specs.Questions.{head_of}

@@ -1,5 +1,5 @@
 use Rattle.std.proofs.Common.{◌≡◌, ◌*◌, ◌≤◌, ℕ, arith, subst}
-use Rattle.drill.specs.Generated.{IsRound, RoundStops, Rounds, RoundsStop}
+use Rattle.drill.specs.Generated.{RoundRuns, RoundStops, Rounds, RoundsStop}
 use Rattle.drill.proofs.GeneratedLemmas.{RoundsOn, goes_out, round_stops, rounds_done, rounds_more, rounds_none, stops_more, stops_none}
 use Rattle.drill.proofs.generated.play_rounds.Goals as goal
 
@@ -19,7 +19,7 @@ rounds-preserved c = record {
 pub returns-in_err-later : goal.returns-in_err-later
 returns-in_err-later c =
     goes_out c.from_residual.result c.in_err-later.field-0.0
-    (λ later. (later ≤ 2 * c.play_round.new.stage.events) × IsRound c.rounds.round c.rounds.counter c.rounds.stage later c.play_round.new.stage)
+    (λ later. (later ≤ 2 * c.play_round.new.stage.events) × RoundRuns c.rounds.round c.rounds.counter c.rounds.stage later c.play_round.new.stage)
     (λ _. Rounds 11 0 0 c.args.stage.now c.play_round.new.stage)
     (RoundStops c.rounds.round c.rounds.counter c.rounds.stage)
     (RoundsStop 11 0 0 c.args.stage.now)

@@ -1,14 +1,14 @@
-use Rattle.std.proofs.Common.{◌≡◌, ◌<◌, Some, List, ℕ, length, arith, sym, ap, ◌∙◌, subst, IsTrue}
+use Rattle.std.proofs.Common.{◌≡◌, ◌<◌, Some, List, ℕ, length, arith, refl, sym, ap, ◌∙◌, subst, IsTrue}
 use Rattle.std.proofs.lemmas.Bool.Decides.{nat_tests}
 use Rattle.std.proofs.lemmas.List.{take_rest}
-use Rattle.drill_script.specs.LineParts.{are_bytes}
-use Rattle.drill_script.proofs.HexLemmas.{are_bytes_none, are_bytes_push, hex_none, hex_next, hex_done, hex_more}
+use Rattle.drill_script.specs.LineText.{are_bytes}
+use Rattle.drill_script.proofs.HexLemmas.{are_bytes_push, hex_none, hex_next, hex_done, hex_more}
 use Rattle.drill_script.proofs.hex.hex_of.Goals as goal
 
 pub pairs-init : goal.pairs-init
 pairs-init c = record {
   so_far = hex_none c.args.digits.now c.in_ok-bytes.bytes.items c.in_ok-bytes.ensures.items;
-  in_range = subst (λ (l : List ℕ). IsTrue (are_bytes l)) (sym c.in_ok-bytes.ensures.items) are_bytes_none;
+  in_range = rw c.in_ok-bytes.ensures.items refl;
 }
 
 pub returns-in_default-byte_of-clause-only : goal.returns-in_default-byte_of-clause-only

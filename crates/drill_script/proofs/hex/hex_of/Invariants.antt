@@ -1,6 +1,5 @@
 use Rattle.std.proofs.Common.{◌≡◌, ◌++◌, length, IsTrue}
-use Rattle.drill_script.specs.LineText.{hex_text}
-use Rattle.drill_script.specs.LineParts.{are_bytes}
+use Rattle.drill_script.specs.LineText.{are_bytes, hex_text}
 use Rattle.drill_script.proofs.hex.hex_of.Given as goal
 
 abbrev pub invariant-pairs : goal.invariant-pairs

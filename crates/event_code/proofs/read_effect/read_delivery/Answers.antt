@@ -1,7 +1,6 @@
 use Rattle.std.proofs.Common.{◌∙◌, sym}
 use Rattle.std.proofs.lemmas.Result.{err_from_is_err_and}
 use Rattle.std.proofs.lemmas.Bool.{iff_false}
-use Rattle.event_code.proofs.EffectReading.{memory_not_body}
 use Rattle.event_code.proofs.MessageReading.{delivery_refused, delivery_unfit}
 use Rattle.event_code.proofs.read_effect.read_delivery.Goals as goal
 
@@ -10,12 +9,7 @@ returns-in_err-came-clause-not_body c =
     let p = err_from_is_err_and c.from_residual.result c.from_residual.ensures.1 in
     rw (p.1) (λ e. delivery_refused c.args.rest.now (c.in_err-came.ensures.not_body (sym p.2 ∙ e)))
 
-pub returns-in_err-whole-clause-not_body : goal.returns-in_err-whole-clause-not_body
-returns-in_err-whole-clause-not_body c =
-    let p = err_from_is_err_and c.from_residual-in_err-whole.result c.from_residual-in_err-whole.ensures.1 in
-    rw (p.1) (λ e. absurd (memory_not_body p.0 p.2 e))
-
-pub returns-then-not-whole-clause-not_body : goal.returns-then-not-whole-clause-not_body
-returns-then-not-whole-clause-not_body c = λ _.
+pub returns-in-Ok-false-clause-not_body : goal.returns-in-Ok-false-clause-not_body
+returns-in-Ok-false-clause-not_body c = λ _.
     let found = c.in_ok-came.ensures.found in
-    delivery_unfit c.args.rest.now c.read.new.rest c.in_ok-came.came found.0 found.1 (iff_false c.in_ok-whole.ensures c.if-not-whole.true)
+    delivery_unfit c.args.rest.now c.read.new.rest c.in_ok-came.came found.0 found.1 (iff_false c.in-Ok-false.ensures c.in-Ok-false.field-0-test)

@@ -2,6 +2,7 @@ use Rattle.std.proofs.Common.{sym, subst}
 use Rattle.std.specs.List.{Contains}
 use Rattle.exchange_model.specs.Alone.{end_after}
 use Rattle.exchange_model.specs.End.{End, empty_end}
+use Rattle.exchange_model.proofs.NumberedLemmas.{none_numbered}
 use Rattle.exchange_laws.proofs.ListLemmas.{has_contained, contains_had}
 use Rattle.exchange_laws.proofs.AloneLemmas.{stays_numbered, stays_receipted, may_split, after_both}
 use Rattle.exchange_laws.proofs.laws.a_receipt_stays.Goals as goal
@@ -10,6 +11,6 @@ pub returns : goal.returns
 returns c acts more may s there m =
     let first : End = end_after acts empty_end in
     let split = may_split acts more empty_end may in
-    let stays = stays_receipted more first s (stays_numbered acts empty_end tt split.0) split.1 (has_contained first.sent s there) m in
+    let stays = stays_receipted more first s (stays_numbered acts empty_end none_numbered split.0) split.1 (has_contained first.sent s there) m in
     subst (λ (end : End). Contains end.sent s) (sym (after_both acts more empty_end))
     (contains_had (end_after more first).sent s stays)

@@ -5,7 +5,9 @@ use Rattle.exchange_model.specs.End.{empty_end}
 use Rattle.exchange_model.specs.World.{Act}
 use Rattle.exchange_model.specs.declared.sent.Sent.{Sent}
 use Rattle.std.specs.List.{Contains}
-use Rattle.exchange_laws.proofs.ListLemmas.{Has, has_contained, contains_had}
+use Rattle.exchange_model.proofs.ListLemmas.{Has}
+use Rattle.exchange_model.proofs.NumberedLemmas.{none_numbered}
+use Rattle.exchange_laws.proofs.ListLemmas.{has_contained, contains_had}
 use Rattle.exchange_laws.proofs.InboxLemmas.{all_apart}
 use Rattle.exchange_laws.proofs.AloneLemmas.{EndHolds, IsSettledBy, end_holds}
 use Rattle.exchange_laws.proofs.laws.an_end_is_safe.Goals as goal
@@ -31,7 +33,7 @@ brought acts s b = (
 
 pub returns : goal.returns
 returns c acts may =
-    let holds : EndHolds (IsBrought acts) empty_end = record { numbered = tt; apart = tt; receipted = λ s h. absurd h } in
+    let holds : EndHolds (IsBrought acts) empty_end = record { numbered = none_numbered; apart = tt; receipted = λ s h. absurd h } in
     let safe = end_holds (IsBrought acts) acts empty_end holds may (λ act h u r. (act, h, r)) in
     record {
       at_most_once = all_apart _ safe.apart;

@@ -4,7 +4,8 @@ use Rattle.exchange_model.specs.Questions.{sent_of}
 use Rattle.exchange_model.specs.World.{Party, new_world, world_after}
 use Rattle.exchange_model.specs.declared.inbox_entry.InboxEntry.{InboxEntry}
 use Rattle.exchange_model.specs.declared.sent.Sent.{Sent}
-use Rattle.exchange_laws.proofs.ListLemmas.{Has, has_contained}
+use Rattle.exchange_model.proofs.ListLemmas.{Has}
+use Rattle.exchange_laws.proofs.ListLemmas.{has_contained}
 use Rattle.exchange_laws.proofs.SentLemmas.{sent_of_own}
 use Rattle.exchange_laws.proofs.InboxLemmas.{ids, all_apart, count_one}
 use Rattle.exchange_laws.proofs.WorldLemmas.{PartyHolds, Holds, world_holds, new_world_holds}

@@ -29,18 +29,18 @@ invariant_of-result c =
     let mode = c.args.mode.now in
     let intake = c.args.intake in
     let made : IsMadeOf mode intake.number intake.stamp intake.nonce c.args.conversation.now c.args.loads.now
-    c.in_ok-header.header c.in_ok-payloads.payloads c.in_ok-route.route =
+    c.in-Ok-Ok-Ok.header c.in-Ok-Ok-Ok.payloads c.in-Ok-Ok-Ok.route =
     record {
       numbered = c.requires.numbered;
       nonce_fits = omega arith;
       small = c.requires.small;
       talks = c.conversation_is_limited.ensures;
-      headed = rw (c.in_ok-id.ensures, c.items-loads.ensures) at c.in_ok-header.ensures;
-      loaded = rw (c.in_ok-id.ensures, c.items-loads.ensures) at c.in_ok-payloads.ensures;
-      routed = c.in_ok-route.ensures;
+      headed = rw (c.in_ok-id.ensures, c.items-loads.ensures) at c.in-Ok-Ok-Ok.ensures';
+      loaded = rw (c.in_ok-id.ensures, c.items-loads.ensures) at c.in-Ok-Ok-Ok.ensures;
+      routed = c.in-Ok-Ok-Ok.ensures'';
     } in
     let sound = made_is_sound mode intake.number intake.stamp intake.nonce c.args.conversation.now c.args.loads.now
-    c.in_ok-header.header c.in_ok-payloads.payloads c.in_ok-route.route made in
+    c.in-Ok-Ok-Ok.header c.in-Ok-Ok-Ok.payloads c.in-Ok-Ok-Ok.route made in
     record {
       numbered = c.requires.numbered;
       identified = sound.identified;

@@ -1,6 +1,6 @@
 use Rattle.std.proofs.Common.{◌≡◌, sym, ◌∙◌}
 use Rattle.std.specs.Prelude.{option_copied, slice_get}
-use Rattle.outbox.proofs.NumberedLemmas.{place}
+use Rattle.exchange_model.proofs.NumberedLemmas.{place}
 use Rattle.outbox.proofs.StandLemmas.{looked_up, dated_found}
 use Rattle.outbox.proofs.outbox.Outbox.at.Goals as goal
 

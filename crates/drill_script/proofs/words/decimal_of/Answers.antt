@@ -1,6 +1,6 @@
 use Rattle.std.proofs.Common.{◌≡◌, Ok, ◌∙◌}
-use Rattle.as4_tool.proofs.CommandLemmas.{decimal_is_text, decimal_is_read, same_is_equal}
-use Rattle.as4_tool.proofs.command.number_of.Goals as goal
+use Rattle.drill_script.proofs.WordLemmas.{decimal_is_text, decimal_is_read, same_is_equal}
+use Rattle.drill_script.proofs.words.decimal_of.Goals as goal
 
 pub returns-in_default-clause-only : goal.returns-in_default-clause-only
 returns-in_default-clause-only c number small printed =

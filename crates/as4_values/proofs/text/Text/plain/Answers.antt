@@ -1,5 +1,5 @@
 use Rattle.as4_values.proofs.TextLemmas.{plain_spells, plain_spells_only}
-use Rattle.drill.proofs.naming.plain_text.Goals as goal
+use Rattle.as4_values.proofs.text.Text.plain.Goals as goal
 
 pub unreachable-requires : goal.unreachable-requires
 unreachable-requires c =

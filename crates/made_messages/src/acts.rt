@@ -1,0 +1,36 @@
+ghost use Rattle.std.specs.Prelude.{◌≡◌, IsTrue, IfSome};
+ghost use Rattle.end_tables.specs.Rooms.{HasRoom, queue_for};
+ghost use Rattle.exchange_model.specs.Apply.{is_fit};
+
+use as4_effects::{Effect, Queue};
+use end_tables::EndTables;
+
+/// Makes the effect's change in the tables, where it fits and there is memory.
+pub fn act(tables: &mut EndTables, effect: Effect) -> Option<()> {
+    match ready(tables, &effect) {
+        Some(queue) => {
+            tables.apply(effect, &queue);
+            drop(queue);
+            Some(())
+        }
+        None => {
+            drop(effect);
+            None
+        }
+    }
+}
+
+// Makes room for the effect, where it fits.
+fn ready(tables: &mut EndTables, effect: &Effect) -> Option<Queue>
+    ensures fit { IfSome result (λ queue. IsTrue (is_fit effect.now tables.new.end)) }
+    ensures room { IfSome result (λ queue. HasRoom tables.new.rooms tables.new.end.sent effect.now) }
+    ensures queue { IfSome result (λ queue. queue ≡ queue_for tables.new.end.sent effect.now) }
+{
+    if !tables.fits(effect) {
+        return None;
+    }
+    match tables.reserve(effect) {
+        Ok(()) => tables.queue_for(effect).ok(),
+        Err(_) => None,
+    }
+}

@@ -1,0 +1,101 @@
+ghost use Rattle.std.specs.Prelude.{ℕ, ◌<◌, ◌≤◌, IsTrue, IfSome};
+ghost use Rattle.as4_effects.specs.Pairing.{pair};
+ghost use Rattle.as4_effects.specs.Sound.{is_id_of, is_route, delivered_body, fits_an_effect, submitted_body};
+
+use crate::headers::{header_of, text};
+use as4_effects::{
+    Delivery, Submission, delivery_fits, is_id_of, is_route, pairs, submission_fits,
+};
+use as4_values::{Payload, Route, Seq, UserHeader};
+use std::alloc::Global;
+
+/// The submission of this number that is pushed to `http://h/` and sent again so often, each minute, handed in at
+/// 1,000 ms, without payloads.
+pub fn submission(alloc: Global, number: u64, retries: u32) -> Option<Submission> {
+    if number >= 1_048_576 || retries > 1000 {
+        return None;
+    }
+    let address = text(alloc, b"http://h/")?;
+    submission_of(
+        alloc,
+        number,
+        header_of(alloc, number)?,
+        Route::Push { address },
+        retries,
+    )
+}
+
+// The submission of these, where they make one.
+fn submission_of(
+    alloc: Global,
+    number: u64,
+    header: UserHeader,
+    route: Route,
+    retries: u32,
+) -> Option<Submission>
+    requires number { number < 1048576 }
+    requires retries { retries ≤ 1000 }
+{
+    let payloads = Seq::of(Vec::new(alloc));
+    match is_submission(alloc, number, &header, &payloads, &route) {
+        Some(true) => Some(Submission {
+            number,
+            header,
+            payloads,
+            route,
+            retries,
+            period: 60_000,
+            moment: 1000,
+        }),
+        _ => {
+            drop(header);
+            drop(payloads);
+            drop(route);
+            None
+        }
+    }
+}
+
+// Whether a submission of these is a submission.
+fn is_submission(
+    alloc: Global,
+    number: u64,
+    header: &UserHeader,
+    payloads: &Seq<Payload>,
+    route: &Route,
+) -> Option<bool>
+    ensures { IfSome result (λ whole. IsTrue whole
+        → IsTrue (is_id_of number header.now.id) × IsTrue (pair header.now.parts payloads.now) × IsTrue (is_route route.now)
+        × ((retries : ℕ) → IsTrue (fits_an_effect (submitted_body number header.now payloads.now route.now retries 60000 1000)))) }
+{
+    let paired = pairs(alloc, header.parts.items(), payloads.items()).ok()?;
+    let named = is_id_of(alloc, number, &header.id).ok()?;
+    Some(paired && named && is_route(route) && submission_fits(header, payloads, route))
+}
+
+/// The message of the first submission, without payloads, as it came.
+pub fn delivery(alloc: Global) -> Option<Delivery> {
+    delivery_of(alloc, header_of(alloc, 0)?)
+}
+
+// The message of this header without payloads, where it is one.
+fn delivery_of(alloc: Global, header: UserHeader) -> Option<Delivery> {
+    let payloads = Seq::of(Vec::new(alloc));
+    match is_delivery(alloc, &header, &payloads) {
+        Some(true) => Some(Delivery { header, payloads }),
+        _ => {
+            drop(header);
+            drop(payloads);
+            None
+        }
+    }
+}
+
+// Whether a delivery of these is a delivery.
+fn is_delivery(alloc: Global, header: &UserHeader, payloads: &Seq<Payload>) -> Option<bool>
+    ensures { IfSome result (λ whole. IsTrue whole
+        → IsTrue (pair header.now.parts payloads.now) × IsTrue (fits_an_effect (delivered_body header.now payloads.now))) }
+{
+    let paired = pairs(alloc, header.parts.items(), payloads.items()).ok()?;
+    Some(paired && delivery_fits(header, payloads))
+}

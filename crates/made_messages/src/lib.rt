@@ -1,0 +1,10 @@
+//! Messages and submissions made by hand, and how effects come into the tables, for the tests of other crates.
+#![tactic(auto)]
+
+mod acts;
+mod effects;
+mod headers;
+
+pub use acts::act;
+pub use effects::{delivery, submission};
+pub use headers::{header, header_of, text};
