@@ -8,16 +8,11 @@ use Rattle.as4_effects.specs.declared.effect.Effect.TheVariants.{Submitted, Tick
 use Rattle.as4_effects.specs.declared.effect.Tick.{Tick}
 use Rattle.as4_values.specs.Word.{IsWord}
 use Rattle.as4_values.specs.declared.word.Word.TheVariants.{ErrorCode}
-use Rattle.event_code.specs.declared.refusal.BodyRefusal.{BodyRefusal}
-use Rattle.event_code.specs.declared.refusal.BodyRefusal.TheVariants.{NotBody, NoMemory}
 use Rattle.event_code.specs.Reading.{IsPair, pair_body, Once, Refuses}
 use Rattle.event_code.specs.Spelled.{IsSpelledEffect}
 use Rattle.event_code.proofs.OneBody.{number_first, pair_once}
 use Rattle.event_code.proofs.ValueReading.{words_once}
 use Rattle.event_code.proofs.MessageReading.{IsLong, long_once, submission_once, delivery_once}
-
-pub memory_not_body : (e : BodyRefusal) → e ≡ NoMemory → e ≡ NotBody → ⊥
-memory_not_body e a b = cc
 
 -- a moment past the last one
 pub moment_refused : (bytes rest : List ℕ) (moment : ℕ) → moment < 256 ^ 8 → bytes ≡ number_body 8 moment ++ rest → 253402300799999 < moment
