@@ -1,8 +1,8 @@
 -- Lemmas on told bytes, in the shape in which loops over a source or a sink have them.
-use Rattle.std.proofs.Common.{◌≡◌, ℕ, ◌+◌, ◌-◌, ◌≤◌, List, [], ◌++◌, length, take, drop, Option, None, Some, refl, sym, ◌∙◌, ap, arith, append_assoc, length-append}
-use Rattle.std.proofs.lemmas.List.{append-nil, take_rest, take_all, take-append-le}
+use Rattle.std.proofs.Common.{◌≡◌, ℕ, ◌+◌, ◌-◌, List, [], ◌++◌, length, take, drop, Option, None, Some, refl, sym, ◌∙◌, ap, arith, append_assoc, length-append}
+use Rattle.std.proofs.lemmas.List.{append-nil, take_rest, take-append-le}
 use Rattle.std.proofs.Math.Seq.{take-add, take-append-add}
-use Rattle.as4_flow.specs.Told.{Told, before, behind, LosesFront, TakesFront}
+use Rattle.as4_flow.specs.Told.{Told, before, behind, TakesFront}
 
 -- nothing in front changes nothing
 pub before_nil : (told : Option (List ℕ)) → before [] told ≡ told
@@ -36,15 +36,6 @@ read_whole start (Some rest) bytes came none all told =
     let same : all ≡ bytes ++ rest = cc in
     same ∙ whole
 
--- to read nothing is to lose a front
-pub loses_nothing : (most : ℕ) (told : Option (List ℕ)) → LosesFront most told told
-loses_nothing most told = ([], omega arith, sym (before_nil told))
-
--- two fronts lost, one after the other, are one
-pub loses_more : (first next : ℕ) (start left now : Option (List ℕ)) → LosesFront first start left → LosesFront next left now → LosesFront (first + next) start now
-loses_more first next start left now front behind_it =
-    (front.0 ++ behind_it.0, omega (arith, length-append front.0 behind_it.0, front.1, behind_it.1), before_more start left now front.0 behind_it.0 front.2 behind_it.2)
-
 -- a sink's loop: what was taken is a front of the bytes, and the front of the others goes behind it
 pub behind_more : (start taken now : Option (List ℕ)) (bytes : List ℕ) (done n : ℕ) → taken ≡ behind start (take done bytes) → now ≡ behind taken (take n (take (length bytes - done) (drop done bytes))) → now ≡ behind start (take (done + n) bytes)
 behind_more start taken now bytes done n so_far more =
@@ -53,14 +44,6 @@ behind_more start taken now bytes done n so_far more =
     ∙ ap (λ (told : Option (List ℕ)). behind told (take n (drop done bytes))) so_far
     ∙ behind_append start (take done bytes) (take n (drop done bytes))
     ∙ ap (λ (more : List ℕ). behind start more) (sym (take-add done n bytes))
-
--- a sink's loop at its end: the whole front is all of the bytes
-pub behind_all : (start now : Option (List ℕ)) (bytes : List ℕ) (done : ℕ) → length bytes ≤ done → now ≡ behind start (take done bytes) → now ≡ behind start bytes
-behind_all start now bytes done all so_far = so_far ∙ ap (λ (more : List ℕ). behind start more) (take_all done bytes all)
-
--- to take all of the bytes is to take a front of them
-pub takes_all : (bytes : List ℕ) (start now : Option (List ℕ)) → now ≡ behind start bytes → TakesFront bytes start now
-takes_all bytes start now all = (length bytes, omega arith, all ∙ ap (λ (l : List ℕ). behind start l) (sym (take_all (length bytes) bytes (omega arith))))
 
 -- a front of some bytes is a front of those and more
 pub takes_longer : (bytes more : List ℕ) (start now : Option (List ℕ)) → TakesFront bytes start now → TakesFront (bytes ++ more) start now

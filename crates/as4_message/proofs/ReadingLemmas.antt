@@ -1,13 +1,13 @@
 -- What is read is spelled so, and what is spelled so is read.
-use Rattle.std.proofs.Common.{◌≡◌, ◌≢◌, ℕ, ◌<◌, Bool, true, false, List, [], ◌∷◌, ◌++◌, Option, None, Some, length, drop, arith, refl, sym, ◌∙◌, append_assoc, append-nil, nat_eq, eq-eqb, inl, inr, length-append, length-take}
+use Rattle.std.proofs.Common.{◌≡◌, ◌≢◌, ℕ, ◌<◌, Bool, true, false, List, [], ◌∷◌, ◌++◌, Option, None, Some, length, drop, arith, refl, sym, ◌∙◌, append_assoc, append-nil, nat_eq, eq-eqb, inl, inr, length-append}
 use Rattle.std.specs.Prelude.{slice_index, codes, ◌==◌, if◌then◌else◌, zero, suc, unwrap_or}
 use Rattle.memchr.specs.Find.{IsFirstByte, is_byte}
 use Rattle.std.proofs.lemmas.Bool.Decides.{eqb_tells, Decides-eqb}
 use Rattle.std.proofs.lemmas.Slice.Eq.{starts_is}
-use Rattle.std.proofs.lemmas.Bool.{eqb-false, eqb-true, false_from_ne_true}
+use Rattle.std.proofs.lemmas.Bool.{eqb-true, false_from_ne_true}
 use Rattle.std.specs.List.{position_or_len, starts_with}
-use Rattle.std.proofs.lemmas.List.{take_at, drop_at, get_or_append_left, get_or_at, get_or-take, take-append-drop}
-use Rattle.std.proofs.lemmas.List.Sums.{position_or_len_is, fails_before_first}
+use Rattle.std.proofs.lemmas.List.{take_at, drop_at, get_or_append_left, get_or_at}
+use Rattle.std.proofs.lemmas.List.Sums.{position_or_len_is}
 use Rattle.message_model.specs.Markup.{tag_start, tag_end, end_tag}
 use Rattle.message_model.specs.Markup.{element}
 use Rattle.message_model.specs.UnitText.{envelope_start, envelope_end, envelope_text}
@@ -66,15 +66,6 @@ before_again stop front rest free =
 pub from_again : (stop : ℕ) (front rest : List ℕ) → IsFreeOf stop front → from_byte stop (front ++ stop ∷ rest) ≡ stop ∷ rest
 from_again stop front rest free =
     rw (run_ends stop front rest free) (drop_at front (stop ∷ rest) (length front) refl)
-
-pub run_takes : (stop : ℕ) (bytes : List ℕ) → before_byte stop bytes ++ from_byte stop bytes ≡ bytes
-run_takes stop bytes = take-append-drop (position_or_len (λ b. b == stop) bytes) bytes
-
-pub run_is_free : (stop : ℕ) (bytes : List ℕ) → IsFreeOf stop (before_byte stop bytes)
-run_is_free stop bytes k below =
-    let within : k < position_or_len (λ b. b == stop) bytes = omega (arith, length-take (position_or_len (λ b. b == stop) bytes) bytes) in
-    let other = fails_before_first (λ b. b == stop) bytes k 0 within in
-    rw (get_or-take (position_or_len (λ b. b == stop) bytes) bytes k 0 within) (eqb-false (slice_index bytes k) stop other)
 
 -- no byte at all
 pub empty_is_nil : (bytes : List ℕ) → (length bytes == 0) ≡ true → bytes ≡ []

@@ -1,6 +1,6 @@
 //! The values of a plain message, from its texts.
 
-ghost use Rattle.std.specs.Prelude.{◌≡◌, ◌++◌, ◌≤◌, List, ℕ, [], ◌∷◌, Some, IfOk, IfErr, MatchResult, codes, length};
+ghost use Rattle.std.specs.Prelude.{◌≡◌, ◌++◌, ◌≤◌, ◌⊎◌, List, ℕ, [], ◌∷◌, Some, Ok, Err, IfOk, IfErr, MatchResult, codes, length};
 ghost use Rattle.as4_values.specs.Word.{IsWord};
 ghost use Rattle.as4_values.specs.declared.word.Word.TheVariants.{Identifier};
 ghost use Rattle.as4_values.specs.PlainTexts.{IsPlainText};
@@ -23,6 +23,29 @@ use std::alloc::Global;
 
 /// What a reference to a part of the package begins with (RFC 2392).
 const HREF_START: &[u8] = b"cid:";
+
+/// Both values, or the first refusal. The other value is let go by name: one way out is proved sooner than two.
+fn both<A: Drop, B: Drop>(
+    first: Result<A, PlainRefusal>,
+    second: Result<B, PlainRefusal>,
+) -> Result<(A, B), PlainRefusal>
+    ensures found { IfOk result (λ values. (first ≡ Ok values.0) × (second ≡ Ok values.1)) }
+    ensures refused { IfErr result (λ e. (first ≡ Err e) ⊎ (second ≡ Err e)) }
+{
+    match first {
+        Ok(first) => match second {
+            Ok(second) => Ok((first, second)),
+            Err(refusal) => {
+                drop(first);
+                Err(refusal)
+            }
+        },
+        Err(refusal) => {
+            drop(second);
+            Err(refusal)
+        }
+    }
+}
 
 /// A plain text.
 #[tactic(auto, using(as4_values::proofs::TextLemmas::plain_spells, as4_values::proofs::TextLemmas::plain_spells_only))]
@@ -77,14 +100,27 @@ fn side_of(alloc: Global, id: &[u8], role: &[u8]) -> Result<Side, PlainRefusal>
     ensures found { IfOk result (λ side. (side ≡ side_of id.now role.now) × IsPlainText id.now × IsPlainText role.now) }
     ensures only { IsPlainText id.now → IsPlainText role.now → IfErr result (λ e. e ≡ PlainRefusal.NoMemory) }
 {
-    let id = text_of(alloc, id)?;
-    let role = text_of(alloc, role)?;
-    let mut parties = Vec::with_capacity(alloc, 1)?;
-    parties.push(Party { id, kind: None })?;
-    Ok(Side {
-        parties: Seq::of(parties),
-        role,
-    })
+    let (id, role) = both(text_of(alloc, id), text_of(alloc, role))?;
+    match vec![in alloc; Party { id, kind: None }] {
+        Ok(parties) => Ok(Side {
+            parties: Seq::of(parties),
+            role,
+        }),
+        Err(_) => {
+            drop(role);
+            Err(PlainRefusal::NoMemory)
+        }
+    }
+}
+
+/// The reference to a Content-ID.
+fn href_of(alloc: Global, cid: &[u8]) -> Result<Octets, NoMemory>
+    ensures { IfOk result (λ href. href ≡ codes "cid:" ++ cid.now) }
+{
+    let mut href = Vec::with_capacity(alloc, HREF_START.len() + cid.len())?;
+    href.extend_from_slice(HREF_START)?;
+    href.extend_from_slice(cid)?;
+    Ok(Octets::of(href))
 }
 
 /// The part info that refers to a Content-ID.
@@ -96,11 +132,9 @@ fn part_of(alloc: Global, cid: &[u8]) -> Result<PartInfo, PlainRefusal>
     if !is_plain_text(cid) || Word::Identifier.first_wrong(cid).is_some() {
         return Err(PlainRefusal::Other);
     }
-    let mut href = Vec::with_capacity(alloc, HREF_START.len() + cid.len())?;
-    href.extend_from_slice(HREF_START)?;
-    href.extend_from_slice(cid)?;
+    let href = href_of(alloc, cid)?;
     Ok(PartInfo {
-        href: Some(text_of(alloc, href.as_slice())?),
+        href: Some(text_of(alloc, href.bytes())?),
         properties: Seq::of(Vec::new(alloc)),
     })
 }
@@ -111,9 +145,10 @@ fn sides_of(alloc: Global, raw: &RawHeader<'_>) -> Result<(Side, Side), PlainRef
         × (sides.1 ≡ side_of raw.now.to.now raw.now.to_role.now) × ArePlainSides (raw_texts raw.now)) }
     ensures only { ArePlainSides (raw_texts raw.now) → IfErr result (λ e. e ≡ PlainRefusal.NoMemory) }
 {
-    let from = side_of(alloc, raw.from, raw.from_role)?;
-    let to = side_of(alloc, raw.to, raw.to_role)?;
-    Ok((from, to))
+    both(
+        side_of(alloc, raw.from, raw.from_role),
+        side_of(alloc, raw.to, raw.to_role),
+    )
 }
 
 /// The service, the action and the conversation.
@@ -122,9 +157,11 @@ fn work_of(alloc: Global, raw: &RawHeader<'_>) -> Result<(Service, Text, Text), 
         × (work.1 ≡ raw.now.action.now) × (work.2 ≡ raw.now.conversation.now) × IsPlainWork (raw_texts raw.now)) }
     ensures only { IsPlainWork (raw_texts raw.now) → IfErr result (λ e. e ≡ PlainRefusal.NoMemory) }
 {
-    let value = text_of(alloc, raw.service)?;
-    let action = text_of(alloc, raw.action)?;
-    let conversation = text_of(alloc, raw.conversation)?;
+    let value = text_of(alloc, raw.service);
+    let ((value, action), conversation) = both(
+        both(value, text_of(alloc, raw.action)),
+        text_of(alloc, raw.conversation),
+    )?;
     Ok((Service { value, kind: None }, action, conversation))
 }
 
@@ -134,9 +171,7 @@ fn parts_of(alloc: Global, cid: &[u8]) -> Result<Seq<PartInfo>, PlainRefusal>
     ensures only { IsPlainText cid.now → IsWord Identifier cid.now → IfErr result (λ e. e ≡ PlainRefusal.NoMemory) }
 {
     let part = part_of(alloc, cid)?;
-    let mut parts = Vec::with_capacity(alloc, 1)?;
-    parts.push(part)?;
-    Ok(Seq::of(parts))
+    Ok(Seq::of(vec![in alloc; part]?))
 }
 
 /// The header with this identifier and the other texts.
@@ -150,24 +185,28 @@ fn header_with(
         (header ≡ header_of (with_id (raw_texts raw.now) id)) × IsPlainHeader (with_id (raw_texts raw.now) id)) }
     ensures only { IsPlainHeader (with_id (raw_texts raw.now) id) → IfErr result (λ e. e ≡ PlainRefusal.NoMemory) }
 {
-    let stamp = stamp_of(alloc, raw.stamp)?;
-    let (from, to) = sides_of(alloc, raw)?;
-    let (service, action, conversation) = work_of(alloc, raw)?;
-    let parts = parts_of(alloc, raw.cid)?;
-    Ok(UserHeader {
-        mpc: None,
-        stamp,
-        id,
-        ref_to: None,
-        from,
-        to,
-        agreement: None,
-        service,
-        action,
-        conversation: Some(conversation),
-        properties: Seq::of(Vec::new(alloc)),
-        parts,
-    })
+    let start = both(stamp_of(alloc, raw.stamp), sides_of(alloc, raw));
+    let end = both(work_of(alloc, raw), parts_of(alloc, raw.cid));
+    match both(start, end) {
+        Ok(((stamp, (from, to)), ((service, action, conversation), parts))) => Ok(UserHeader {
+            mpc: None,
+            stamp,
+            id,
+            ref_to: None,
+            from,
+            to,
+            agreement: None,
+            service,
+            action,
+            conversation: Some(conversation),
+            properties: Seq::of(Vec::new(alloc)),
+            parts,
+        }),
+        Err(refusal) => {
+            drop(id);
+            Err(refusal)
+        }
+    }
 }
 
 /// The header that these texts spell.
@@ -222,7 +261,5 @@ pub fn payloads_of(
         → IfErr result (λ e. e ≡ PlainRefusal.NoMemory) }
 {
     let payload = payload_of(alloc, cid, media, content)?;
-    let mut payloads = Vec::with_capacity(alloc, 1)?;
-    payloads.push(payload)?;
-    Ok(Seq::of(payloads))
+    Ok(Seq::of(vec![in alloc; payload]?))
 }

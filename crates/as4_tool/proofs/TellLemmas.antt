@@ -1,5 +1,5 @@
 -- What is told in parts.
-use Rattle.std.proofs.Common.{◌≡◌, ℕ, ◌≤◌, ◌⊎◌, inl, inr, List, ◌++◌, Option, Result, Ok, Err, OnOk, OnErr, ◌∙◌, ap}
+use Rattle.std.proofs.Common.{◌≡◌, ℕ, ◌≤◌, inl, inr, List, ◌++◌, Option, Result, Ok, Err, OnOk, OnErr, ◌∙◌, ap}
 use Rattle.as4_flow.specs.Faults.{Rose}
 use Rattle.as4_flow.specs.Told.{behind, TakesFront}
 use Rattle.as4_flow.proofs.FaultsLemmas.{Rose_from}

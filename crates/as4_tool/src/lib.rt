@@ -11,6 +11,3 @@ pub use command::{Command, command_of};
 pub use running::{LIMIT, run};
 pub use status::Status;
 pub use texts::{HELP, VERSION};
-
-#[cfg(test)]
-mod tests;

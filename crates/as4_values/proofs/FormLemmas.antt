@@ -223,21 +223,6 @@ utc_stops zone is more = record {
   not_whole = λ has. absurd (omega (arith, utc_short has.0 zone (length zone) is (zone_is has.0 has.1) has.3 (omega arith), has.2));
 }
 
--- so many bytes fit one form, and not one more
-pub one_stops : (IsOne : List ℕ → Type 0) (form text : List ℕ) (n : ℕ) → IsOne form → ((other : List ℕ) → IsOne other → other ≡ form)
-    → Fits form text n → (Fits form text (n + 1) → ⊥) → ((n ≡ length form) → length text ≡ length form → ⊥) → Stops IsOne text n
-one_stops IsOne form text n is only fits no_more not_whole = record {
-  begins = (form, is, fits);
-  no_more = λ other one other_fits. no_more (rw (← only other one) other_fits);
-  not_whole = λ has.
-      let whole : Fits form text (length text) = rw (← only has.0 has.1) has.3 in
-      let len : length form ≡ length text = rw (← only has.0 has.1) has.2 in
-      elim (cases_lt n (length form)) as (λ _. ⊥) [
-        | inl less ↦ no_more (fits_less form text (n + 1) (length text) (omega arith) whole)
-        | inr all ↦ not_whole (omega (arith, fits.in_form)) (sym len)
-      ];
-}
-
 sign_fits : (sign : ℕ) (zone : List ℕ) → (sign ≡ 48 → ⊥) → 0 < length zone → get_or zone 0 0 ≡ sign → Fits (sign ∷ []) zone 1
 sign_fits sign zone mark some is = record {
   in_form = omega arith;
@@ -473,13 +458,6 @@ places_open tail count some point any digits no_more =
           let same = same_places tail form n count one.0 one.1 one.3 one.4 one.2 point digits no_more fits (omega arith) (counted n count (length form) len more) in
           (one.1, one.3, one.4 ∙ ap (λ xs. xs ++ one.1) (ap fraction_form same ∙ fraction_some count any));
     }
-
--- the offset
-pub offset_whole : (text : List ℕ) → Fits offset text 5 → length text ≡ 5 → Has IsOffsetForm text
-offset_whole text fits len = (offset, refl, sym len, rw len fits)
-
-pub offset_stops : (text : List ℕ) (n : ℕ) → Fits offset text n → (Fits offset text (n + 1) → ⊥) → (n ≡ 5 → length text ≡ 5 → ⊥) → Stops IsOffsetForm text n
-offset_stops text n fits no_more not_whole = one_stops IsOffsetForm offset text n refl (λ other is. is) fits no_more not_whole
 
 -- no sign and no letter
 pub unmarked : (b : ℕ) → (b ≡ 90 → ⊥) → (b ≡ 43 → ⊥) → (b ≡ 45 → ⊥) → Marks b → ⊥

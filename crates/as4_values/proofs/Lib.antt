@@ -2,7 +2,6 @@ pub mod AddressLemmas
 pub mod FormLemmas
 pub mod IdentifierLemmas
 pub mod MatchLemmas
-pub mod ModeLemmas
 pub mod MomentLemmas
 pub mod MomentTextLemmas
 pub mod PayloadLemmas

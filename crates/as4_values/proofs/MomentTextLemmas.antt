@@ -62,9 +62,6 @@ four_digits a b c d a_in b_in c_in d_in =
 two_back : (n : ℕ) → n < 100 → (48 + n / 10 % 10 - 48) * 10 + (48 + n % 10 - 48) ≡ n
 two_back n small = omega arith
 
-three_back : (n : ℕ) → n < 1000 → ((48 + n / 10 / 10 % 10 - 48) * 10 + (48 + n / 10 % 10 - 48)) * 10 + (48 + n % 10 - 48) ≡ n
-three_back n small = omega arith
-
 four_back : (n : ℕ) → n < 10000
     → ((48 + n / 10 / 10 / 10 % 10 - 48) * 10 + (48 + n / 10 / 10 % 10 - 48)) * 100 + ((48 + n / 10 % 10 - 48) * 10 + (48 + n % 10 - 48)) ≡ n
 four_back n small = omega arith

@@ -1,10 +1,10 @@
 -- Characters of XML, as a relation and as a test.
-use Rattle.std.proofs.Common.{◌≡◌, ℕ, zero, suc, ◌+◌, ◌<◌, List, [], ◌∷◌, Bool, true, false, not, ◌&&◌, Option, Some, None, length, refl, sym, arith}
+use Rattle.std.proofs.Common.{◌≡◌, ℕ, zero, suc, List, [], ◌∷◌, Bool, true, false, not, Option, Some, None, length, refl, sym, arith}
 use Rattle.std.proofs.lemmas.Bool.{and_parts, false_from_ne_true, false≢true}
 use Rattle.std.proofs.lemmas.Bool.Decides.{nat_tests}
 use Rattle.std.proofs.lemmas.Slice.Eq.{bytes_eq-Decides}
 use Rattle.std.proofs.lemmas.Str.{chars-encodes}
-use Rattle.std.specs.Prelude.{IsTrue, IsNone, ◌↔◌, nat_le, encode_utf8_all}
+use Rattle.std.specs.Prelude.{IsTrue, IsNone, ◌↔◌, encode_utf8_all}
 use Rattle.std.specs.List.{AllWithin, list_all}
 use Rattle.std.specs.Option.{is_some}
 use Rattle.std.specs.Str.{bytes_eq, chars}

@@ -49,8 +49,7 @@ impl MessageId {
     pub fn of_signal(alloc: Global, nonce: u128) -> Result<MessageId, NoMemory>
         ensures { IfOk result (λ id. id ≡ signal_id nonce) }
     {
-        let mut items = Vec::new(alloc);
-        items.extend_from_slice(b"s.")?;
+        let mut items = Vec::from_slice(alloc, b"s.")?;
         push_uuid(&mut items, nonce)?;
         items.extend_from_slice(b"@as4")?;
         Ok(MessageId {
@@ -62,9 +61,7 @@ impl MessageId {
     pub fn of_submission(alloc: Global, number: u64, nonce: u128) -> Result<MessageId, NoMemory>
         ensures { IfOk result (λ id. id ≡ submission_id number nonce) }
     {
-        let mut items = Vec::new(alloc);
-        items.extend_from_slice(format!(in alloc; "{number}")?.as_bytes())?;
-        items.extend_from_slice(b".")?;
+        let mut items = format!(in alloc; "{number}.")?.into_bytes();
         push_uuid(&mut items, nonce)?;
         items.extend_from_slice(b"@as4")?;
         Ok(MessageId {

@@ -7,7 +7,7 @@ use Rattle.as4_values.specs.declared.mode.Mode.{Mode}
 use Rattle.drill.specs.Events.{Asked, Doing, Sets, Does, Says, side_of}
 use Rattle.drill.specs.Players.{Meets, Seat}
 use Rattle.drill.specs.Stages.{IsAtEnd, Performs}
-use Rattle.drill.specs.Transcript.{Acts, Makes, Plays, Stage, doing_of, is_placed, is_right, is_too_many}
+use Rattle.drill.specs.Transcript.{Makes, Plays, Stage, doing_of, is_placed, is_right, is_too_many}
 use Rattle.drill.specs.declared.refused.Refused.{Refused}
 use Rattle.drill.specs.declared.refused.Refused.TheVariants as refused
 use Rattle.drill_script.specs.LineText.{is_line, is_name, line_limit, line_text}
@@ -139,38 +139,12 @@ right_at_end l stage at said short =
     placed (line.Mode name way retries period) never = absurd never
     placed k is = refl
 
-plays_at_end : (l : Line) (doing : Doing) (old new : Stage) (text : List ℕ) → IsAtEnd l → Acts doing old text new → Plays l doing old text new
-plays_at_end (line.Mode name way retries period) doing old new text never acts = absurd never
-plays_at_end l doing old new text at acts = acts
-
 -- what is said of a line that is played, or isn't
-pub record Turns (l : Line) (old new : Stage) (result : Result (List ℕ) Refused) : Type 0 where
+pub record IsPlayed (l : Line) (old new : Stage) (result : Result (List ℕ) Refused) : Type 0 where
   pub right : IfOk result (λ _. (is_right l old ≡ true) × (is_too_many l old ≡ false))
   pub plays : IfOk result (λ text. Plays l (doing_of old.world l) old text new)
   pub wrong : result ≡ Err refused.Wrong → is_right l old ≡ false
   pub too_many : result ≡ Err refused.TooMany → (is_right l old ≡ true) × (is_too_many l old ≡ true)
-
-pub at_end_turns : (l : Line) (old new : Stage) (result : Result (List ℕ) Refused) → IsAtEnd l → IsTrue (is_line l) → length (line_text l) ≤ line_limit
-    → Performs (doing_of old.world l) old result new → Turns l old new result
-at_end_turns l old new (Ok text) at said short performs = record {
-  right = (right_at_end l old at said short, performs.1);
-  plays = plays_at_end l (doing_of old.world l) old new text at performs.0;
-  wrong = λ never. absurd cc;
-  too_many = λ never. absurd cc;
-}
-at_end_turns l old new (Err refused.TooMany) at said short performs = record {
-  right = tt;
-  plays = tt;
-  wrong = λ never. absurd cc;
-  too_many = λ _. (right_at_end l old at said short, performs);
-}
-at_end_turns l old new (Err refused.Wrong) at said short never = absurd never
-at_end_turns l old new (Err refused.NoMemory) at said short performs = record {
-  right = tt;
-  plays = tt;
-  wrong = λ never. absurd cc;
-  too_many = λ never. absurd cc;
-}
 
 -- a line that names a mode
 
@@ -210,33 +184,33 @@ right_mode l stage placed said short is =
     let long : nat_le (length (line_text l)) line_limit ≡ true = le-leb (length (line_text l)) line_limit short in
     rw (said, long, is) refl
 
-added_turns : (name : List ℕ) (way : Way) (retries period : ℕ) (old new : Stage) (result : Result (List ℕ) Refused)
+added_played : (name : List ℕ) (way : Way) (retries period : ℕ) (old new : Stage) (result : Result (List ℕ) Refused)
     → IsTrue (is_line (line.Mode name way retries period)) → length (line_text (line.Mode name way retries period)) ≤ line_limit
     → IfOk result (λ _. is_placed (line.Mode name way retries period) old ≡ true)
     → IfOk result (λ text. Adds name way retries period old text new)
     → (result ≡ Err refused.Wrong → is_placed (line.Mode name way retries period) old ≡ false)
-    → result ≢ Err refused.TooMany → Turns (line.Mode name way retries period) old new result
-added_turns name way retries period old new (Ok text) said short placed adds wrong few = record {
+    → result ≢ Err refused.TooMany → IsPlayed (line.Mode name way retries period) old new result
+added_played name way retries period old new (Ok text) said short placed adds wrong few = record {
   right = (right_mode (line.Mode name way retries period) old true said short placed, no_event name way retries period old);
   plays = (adds.1.0, adds.1.1, adds.0, adds.1.2);
   wrong = λ never. absurd cc;
   too_many = λ never. absurd cc;
 }
-added_turns name way retries period old new (Err error) said short placed adds wrong few = record {
+added_played name way retries period old new (Err error) said short placed adds wrong few = record {
   right = tt;
   plays = tt;
   wrong = λ is. right_mode (line.Mode name way retries period) old false said short (wrong is);
   too_many = λ many. absurd (few many);
 }
 
-pub mode_turns : (l : Line) (name : List ℕ) (way : Way) (retries period : ℕ) (old new : Stage) (result : Result (List ℕ) Refused)
+pub mode_played : (l : Line) (name : List ℕ) (way : Way) (retries period : ℕ) (old new : Stage) (result : Result (List ℕ) Refused)
     → l ≡ line.Mode name way retries period → IsTrue (is_line l) → length (line_text l) ≤ line_limit
     → IfOk result (λ _. is_placed (line.Mode name way retries period) old ≡ true)
     → IfOk result (λ text. Adds name way retries period old text new)
     → (result ≡ Err refused.Wrong → is_placed (line.Mode name way retries period) old ≡ false)
-    → result ≢ Err refused.TooMany → Turns l old new result
-mode_turns l name way retries period old new result is said short placed adds wrong few =
-    subst (λ (k : Line). Turns k old new result) (sym is)
-    (added_turns name way retries period old new result
+    → result ≢ Err refused.TooMany → IsPlayed l old new result
+mode_played l name way retries period old new result is said short placed adds wrong few =
+    subst (λ (k : Line). IsPlayed k old new result) (sym is)
+    (added_played name way retries period old new result
     (subst (λ (k : Line). IsTrue (is_line k)) is said) (subst (λ (k : Line). length (line_text k) ≤ line_limit) is short)
     placed adds wrong few)

@@ -1,14 +1,13 @@
 -- One end of a drill: its modes, what it has sent, and what it does with an event.
-use Rattle.std.specs.Prelude.{◌≡◌, ℕ, List, ◌++◌, Bool, if◌then◌else◌, IsTrue, length}
+use Rattle.std.specs.Prelude.{◌≡◌, ℕ, List, Bool, IsTrue, length}
 use Rattle.std.specs.List.{All}
 use Rattle.as4_values.specs.declared.message.Message.{Message}
 use Rattle.as4_values.specs.declared.mode.Mode.{Mode}
 use Rattle.drill_script.specs.declared.line.EndName.{EndName}
 use Rattle.drill_texts.specs.Texts.{said_line, reply_text}
-use Rattle.exchange_model.specs.Apply.{applied}
 use Rattle.exchange_model.specs.Coming.{may_come}
 use Rattle.exchange_model.specs.Table.{Step}
-use Rattle.exchange_model.specs.World.{Party, sends}
+use Rattle.exchange_model.specs.World.{Party, party_after}
 use Rattle.exchange_model.specs.declared.event.Event.{Event}
 use Rattle.exchange_model.specs.declared.outcome.Outcome.{Outcome}
 use Rattle.exchange_model.specs.declared.what.What.TheVariants as what
@@ -21,13 +20,6 @@ pub record Seat : Type 0 where
 -- the other end can take each of these
 abbrev pub CanAllCome : List Message → Type 0
 CanAllCome said = All (λ (message : Message). IsTrue (may_come (what.Came message))) said
-
--- the end behind an outcome whose reply leaves or is lost
-abbrev pub party_after : Outcome → Bool → Party → Party
-party_after outcome lost party = record {
-  end = applied outcome.effects party.end;
-  said = if lost then party.said else party.said ++ sends outcome.reply;
-}
 
 -- the end takes a step at an event, and this is written at a line that names the number
 pub record Meets (at : EndName) (event : Event) (number : ℕ) (lost : Bool) (old : Seat) (text : List ℕ) (new : Seat) : Type 0 where

@@ -1,5 +1,5 @@
 -- Lemmas on what stands at the front of the bytes that a reader holds.
-use Rattle.std.proofs.Common.{◌≡◌, ℕ, ◌+◌, ◌<◌, ◌≤◌, Bool, true, false, cond, Option, None, Some, List, [], ◌∷◌, ◌++◌, length, take, drop, refl, sym, ◌∙◌, ap, subst, arith, append_assoc, length-append}
+use Rattle.std.proofs.Common.{◌≡◌, ℕ, ◌+◌, ◌<◌, ◌≤◌, Bool, true, false, cond, Option, None, Some, List, [], ◌∷◌, ◌++◌, length, take, drop, sym, ◌∙◌, ap, subst, arith, append_assoc, length-append}
 use Rattle.std.proofs.lemmas.List.{take-append-drop, take_at, drop_at, length-take-le, take-append-le, take-take, take_all, append-nil}
 use Rattle.std.proofs.Math.Seq.{take-append-add}
 use Rattle.as4_flow.specs.Told.{Told, before}
@@ -76,12 +76,6 @@ BeginsLong_told held (Some rest) long bytes is =
       omega (arith, ap length whole, length-append held rest, long.0),
       subst (λ (l : List ℕ). Lacks 10 l) (sym same) long.1,
     )
-
-pub all_told : (held : List ℕ) (left : Option (List ℕ)) → Told left (λ bytes. bytes ≡ []) → Told (before held left) (λ bytes. bytes ≡ held)
-all_told held None none bytes is = let clash : None ≡ Some bytes = is in cc
-all_told held (Some rest) none bytes is =
-    let whole : bytes ≡ held ++ rest = cc in
-    whole ∙ ap (λ (l : List ℕ). held ++ l) (none rest refl) ∙ append-nil held
 
 -- a buffer that was made longer has what it had at its front
 pub resized_front : (old resized zeros : List ℕ) (len most : ℕ) (ok : Bool) → len ≡ length old → len ≤ most → resized ≡ cond ok (take most old ++ zeros) old → take len resized ≡ old

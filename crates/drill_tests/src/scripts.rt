@@ -1,7 +1,7 @@
 //! What no clause says: that memory suffices. Each line of the grammar, lines that are none, and sources line by line.
 use as4_flow::MemorySource;
 use drill_script::{EndName, LINE_LIMIT, Line, LineGot, LineReader, ScriptLoad, Way, line_of};
-use std::alloc::Global;
+use std::alloc::{AllocError, Global};
 use std::test::Fail;
 
 /// What a line says, in short.
@@ -74,81 +74,86 @@ fn shape_in(alloc: Global, bytes: &[u8]) -> Result<Option<Shape>, Fail> {
     }
 }
 
+/// Lines, and what each says: the fields of its shape.
+const LINES: [(&[u8], u8, bool, usize, u64); 14] = [
+    (b"mode m1 push 3 5000", b'm', false, 2, 5_000),
+    (b"mode z pull 1000 1000000000", b'm', true, 1, 1_000_000_000),
+    (b"submit a m1 none", b's', false, 2, 0),
+    (b"submit b m1 hex=", b's', true, 2, 1),
+    (b"submit a m1 hex=00ff9a", b's', false, 2, 154),
+    (b"submit a m1 size=16777216", b's', false, 2, 16_777_216),
+    (
+        b"tick a 253402300799999",
+        b't',
+        false,
+        0,
+        253_402_300_799_999,
+    ),
+    (b"take b", b'k', true, 0, 0),
+    (b"ask b 0123456789abcdefghijklmnopqrstuv", b'a', true, 32, 0),
+    (b"came a 18446744073709551615", b'c', false, 0, u64::MAX),
+    (b"lost b 0", b'l', true, 0, 0),
+    (b"read a 7", b'r', false, 0, 7),
+    (b"confirm b 10", b'f', true, 0, 10),
+    (b"status a 2", b'u', false, 0, 2),
+];
+
+/// The first row that doesn't say this.
+fn first_other(alloc: Global) -> Result<Option<usize>, Fail> {
+    for (row, (bytes, kind, is_second, named, number)) in LINES.iter().enumerate() {
+        let shape = told(*kind, *is_second, *named, *number);
+        if shape_in(alloc, bytes)? != Some(shape) {
+            return Ok(Some(row));
+        }
+    }
+    Ok(None)
+}
+
 #[test]
 fn each_line_of_the_grammar_is_read(rt: HostRuntime) -> Result<(), Fail> {
-    let table = [
-        (
-            b"mode m1 push 3 5000".as_slice(),
-            told(b'm', false, 2, 5_000),
-        ),
-        (
-            b"mode z pull 1000 1000000000".as_slice(),
-            told(b'm', true, 1, 1_000_000_000),
-        ),
-        (b"submit a m1 none".as_slice(), told(b's', false, 2, 0)),
-        (b"submit b m1 hex=".as_slice(), told(b's', true, 2, 1)),
-        (
-            b"submit a m1 hex=00ff9a".as_slice(),
-            told(b's', false, 2, 154),
-        ),
-        (
-            b"submit a m1 size=16777216".as_slice(),
-            told(b's', false, 2, 16_777_216),
-        ),
-        (
-            b"tick a 253402300799999".as_slice(),
-            told(b't', false, 0, 253_402_300_799_999),
-        ),
-        (b"take b".as_slice(), told(b'k', true, 0, 0)),
-        (
-            b"ask b 0123456789abcdefghijklmnopqrstuv".as_slice(),
-            told(b'a', true, 32, 0),
-        ),
-        (
-            b"came a 18446744073709551615".as_slice(),
-            told(b'c', false, 0, u64::MAX),
-        ),
-        (b"lost b 0".as_slice(), told(b'l', true, 0, 0)),
-        (b"read a 7".as_slice(), told(b'r', false, 0, 7)),
-        (b"confirm b 10".as_slice(), told(b'f', true, 0, 10)),
-        (b"status a 2".as_slice(), told(b'u', false, 0, 2)),
-    ];
-    for (bytes, shape) in table {
-        assert_eq!(rt; shape_in(rt.alloc(), bytes)?, Some(shape));
-    }
+    assert_eq!(rt; first_other(rt.alloc())?, None);
     Ok(())
+}
+
+const WRONG_LINES: [&[u8]; 23] = [
+    b"",
+    b"take",
+    b"take  a",
+    b"take a ",
+    b"take c",
+    b"hop a",
+    b"read a 07",
+    b"read a +7",
+    b"read a -7",
+    b"read a ",
+    b"read a 7 7",
+    b"came a 18446744073709551616",
+    b"tick a 253402300800000",
+    b"submit a m1 hex=0F",
+    b"submit a m1 hex=0ff",
+    b"submit a m1 hex",
+    b"submit a m1 size=16777217",
+    b"mode 0123456789abcdefghijklmnopqrstuvw push 3 5000",
+    b"mode M1 push 3 5000",
+    b"mode m1 push 1001 5000",
+    b"mode m1 push 3 0",
+    b"mode m1 push 3 1000000001",
+    b"mode m1 hold 3 5000",
+];
+
+/// The first row that is a line.
+fn first_line(alloc: Global) -> Result<Option<usize>, Fail> {
+    for (row, bytes) in WRONG_LINES.iter().enumerate() {
+        if shape_in(alloc, bytes)?.is_some() {
+            return Ok(Some(row));
+        }
+    }
+    Ok(None)
 }
 
 #[test]
 fn what_is_no_line_is_refused(rt: HostRuntime) -> Result<(), Fail> {
-    let table = [
-        b"".as_slice(),
-        b"take".as_slice(),
-        b"take  a".as_slice(),
-        b"take a ".as_slice(),
-        b"take c".as_slice(),
-        b"hop a".as_slice(),
-        b"read a 07".as_slice(),
-        b"read a +7".as_slice(),
-        b"read a -7".as_slice(),
-        b"read a ".as_slice(),
-        b"read a 7 7".as_slice(),
-        b"came a 18446744073709551616".as_slice(),
-        b"tick a 253402300800000".as_slice(),
-        b"submit a m1 hex=0F".as_slice(),
-        b"submit a m1 hex=0ff".as_slice(),
-        b"submit a m1 hex".as_slice(),
-        b"submit a m1 size=16777217".as_slice(),
-        b"mode 0123456789abcdefghijklmnopqrstuvw push 3 5000".as_slice(),
-        b"mode M1 push 3 5000".as_slice(),
-        b"mode m1 push 1001 5000".as_slice(),
-        b"mode m1 push 3 0".as_slice(),
-        b"mode m1 push 3 1000000001".as_slice(),
-        b"mode m1 hold 3 5000".as_slice(),
-    ];
-    for bytes in table {
-        assert!(rt; shape_in(rt.alloc(), bytes)?.is_none(), "{bytes:?}");
-    }
+    assert_eq!(rt; first_line(rt.alloc())?, None);
     Ok(())
 }
 
@@ -157,41 +162,24 @@ fn put_next(
     reader: &mut LineReader,
     source: &mut MemorySource,
     told: &mut Vec<u8>,
-) -> Result<(), Fail> {
+) -> Result<(), AllocError> {
     match reader.next(source) {
         LineGot::Line(line) => {
-            told.push(b'l')?;
-            told.extend_from_slice(line.bytes())?;
+            let put = put_line(told, line.bytes());
             drop(line);
+            put
         }
-        LineGot::End => told.push(b'e')?,
-        LineGot::Unended => told.push(b'u')?,
-        LineGot::TooLong => told.push(b't')?,
-        LineGot::Failed => told.push(b'f')?,
-        LineGot::NoMemory => told.push(b'm')?,
+        LineGot::End => told.extend_from_slice(b"e"),
+        LineGot::Unended => told.extend_from_slice(b"u"),
+        LineGot::TooLong => told.extend_from_slice(b"t"),
+        LineGot::Failed => told.extend_from_slice(b"f"),
+        LineGot::NoMemory => told.extend_from_slice(b"m"),
     }
-    Ok(())
 }
 
-/// The first answers, this many, from a source of these bytes: first in so many pieces of one byte, and then the
-/// rest at once. One call fails.
-fn told_by(
-    alloc: Global,
-    bytes: Vec<u8>,
-    pieces: usize,
-    fails: u64,
-    answers: usize,
-) -> Result<Vec<u8>, Fail> {
-    let sizes = vec![in alloc; 1; pieces]?;
-    let failing = vec![in alloc; fails]?;
-    let mut source = MemorySource::of(bytes, sizes, failing);
-    let mut reader = LineReader::new(alloc);
-    let mut told = Vec::new(alloc);
-    let put = put_answers(&mut reader, &mut source, &mut told, answers);
-    drop(source);
-    drop(reader);
-    put?;
-    Ok(told)
+fn put_line(told: &mut Vec<u8>, line: &[u8]) -> Result<(), AllocError> {
+    told.push(b'l')?;
+    told.extend_from_slice(line)
 }
 
 fn put_answers(
@@ -199,39 +187,109 @@ fn put_answers(
     source: &mut MemorySource,
     told: &mut Vec<u8>,
     answers: usize,
-) -> Result<(), Fail> {
+) -> Result<(), AllocError> {
     for _ in 0..answers {
         put_next(reader, source, told)?;
     }
     Ok(())
 }
 
+/// A source of these bytes: first in so many pieces of one byte, and then the rest at once. One call fails.
+fn source_of(alloc: Global, bytes: &[u8], pieces: usize, fails: u64) -> Option<MemorySource> {
+    match (
+        bytes.to_vec(alloc),
+        vec![in alloc; 1; pieces],
+        vec![in alloc; fails],
+    ) {
+        (Ok(bytes), Ok(sizes), Ok(failing)) => Some(MemorySource::of(bytes, sizes, failing)),
+        (bytes, sizes, failing) => {
+            drop(bytes);
+            drop(sizes);
+            drop(failing);
+            None
+        }
+    }
+}
+
+/// The first answers, so many, to the reader of this source.
+fn told_by(alloc: Global, mut source: MemorySource, answers: usize) -> Option<Vec<u8>> {
+    let mut reader = LineReader::new(alloc);
+    let mut told = Vec::new(alloc);
+    let put = put_answers(&mut reader, &mut source, &mut told, answers);
+    drop(source);
+    drop(reader);
+    match put {
+        Ok(()) => Some(told),
+        Err(_) => {
+            drop(told);
+            None
+        }
+    }
+}
+
+/// Whether the first answers, so many, are these.
+fn is_told(
+    alloc: Global,
+    source: Option<MemorySource>,
+    answers: usize,
+    wanted: &[u8],
+) -> Option<bool> {
+    let told = told_by(alloc, source?, answers)?;
+    let is_same = told.as_slice() == wanted;
+    drop(told);
+    Some(is_same)
+}
+
 #[test]
-fn a_source_is_read_line_by_line(rt: HostRuntime) -> Result<(), Fail> {
+fn a_source_is_read_line_by_line(rt: HostRuntime) {
     // Whole, and in pieces of one byte. The second call fails.
-    let cases: [(usize, &[u8]); 2] = [(0, b"ltake allask b m1fuu"), (100, b"fltake allask b m1uu")];
-    for (pieces, told) in cases {
-        let bytes = b"take a\n\nask b m1\ntick".to_vec(rt.alloc())?;
-        let lines = told_by(rt.alloc(), bytes, pieces, 2, 6)?;
-        assert_eq!(rt; lines.as_slice(), told);
-    }
-    Ok(())
+    let alloc = rt.alloc();
+    let bytes = b"take a\n\nask b m1\ntick";
+    let whole = is_told(
+        alloc,
+        source_of(alloc, bytes, 0, 2),
+        6,
+        b"ltake allask b m1fuu",
+    );
+    let pieces = is_told(
+        alloc,
+        source_of(alloc, bytes, 100, 2),
+        6,
+        b"fltake allask b m1uu",
+    );
+    assert_eq!(rt; (whole, pieces), (Some(true), Some(true)));
 }
 
 #[test]
-fn nothing_has_no_line(rt: HostRuntime) -> Result<(), Fail> {
-    let told = told_by(rt.alloc(), Vec::new(rt.alloc()), 0, 0, 2)?;
-    assert_eq!(rt; told.as_slice(), b"ee".as_slice());
-    Ok(())
+fn nothing_has_no_line(rt: HostRuntime) {
+    let alloc = rt.alloc();
+    let nothing = source_of(alloc, b"", 0, 0);
+    assert_eq!(rt; is_told(alloc, nothing, 2, b"ee"), Some(true));
+}
+
+/// A source of one line of this length.
+fn line_source(alloc: Global, length: usize) -> Option<MemorySource> {
+    let mut bytes = vec![in alloc; b'x'; length].ok()?;
+    match bytes.push(b'\n') {
+        Ok(()) => Some(MemorySource::of(bytes, Vec::new(alloc), Vec::new(alloc))),
+        Err(_) => {
+            drop(bytes);
+            None
+        }
+    }
+}
+
+/// The letter that is told of a line of this length.
+fn letter_of(alloc: Global, length: usize) -> Option<u8> {
+    let source = line_source(alloc, length)?;
+    let told = told_by(alloc, source, 1)?;
+    let letter = told.as_slice().first().copied();
+    drop(told);
+    letter
 }
 
 #[test]
-fn a_line_has_a_longest_length(rt: HostRuntime) -> Result<(), Fail> {
-    for (length, letter) in [(LINE_LIMIT, b'l'), (LINE_LIMIT + 1, b't')] {
-        let mut bytes = vec![in rt.alloc(); b'x'; length]?;
-        bytes.push(b'\n')?;
-        let told = told_by(rt.alloc(), bytes, 0, 0, 1)?;
-        assert_eq!(rt; told.as_slice().first().copied(), Some(letter));
-    }
-    Ok(())
+fn a_line_has_a_longest_length(rt: HostRuntime) {
+    assert_eq!(rt; letter_of(rt.alloc(), LINE_LIMIT), Some(b'l'));
+    assert_eq!(rt; letter_of(rt.alloc(), LINE_LIMIT + 1), Some(b't'));
 }

@@ -5,157 +5,233 @@ use as4_flow::{
     Got, MemorySink, MemorySource, Put, ReadRefusal, ReaderSource, Sink, Source, WriterSink,
     read_all, send_all,
 };
-use std::alloc::Global;
+use std::alloc::{AllocError, Global};
 use std::io;
 use std::io::{ErrorKind, Read, Write};
-use std::test::Fail;
 
 /// A source of these bytes in these pieces, of which one call fails.
-fn source_of(
-    alloc: Global,
-    bytes: &[u8],
-    pieces: Vec<usize>,
-    fails: u64,
-) -> Result<MemorySource, Fail> {
-    let bytes = bytes.to_vec(alloc)?;
-    let failing = vec![in alloc; fails]?;
-    Ok(MemorySource::of(bytes, pieces, failing))
+fn source_of(alloc: Global, bytes: &[u8], pieces: &[usize], fails: u64) -> Option<MemorySource> {
+    match (
+        bytes.to_vec(alloc),
+        pieces.to_vec(alloc),
+        vec![in alloc; fails],
+    ) {
+        (Ok(bytes), Ok(pieces), Ok(failing)) => Some(MemorySource::of(bytes, pieces, failing)),
+        (bytes, pieces, failing) => {
+            drop(bytes);
+            drop(pieces);
+            drop(failing);
+            None
+        }
+    }
 }
 
 /// A sink that takes these pieces, of which one call fails.
-fn sink_of(alloc: Global, pieces: Vec<usize>, fails: u64) -> Result<MemorySink, Fail> {
-    let failing = vec![in alloc; fails]?;
-    Ok(MemorySink::of(alloc, pieces, failing))
+fn sink_of(alloc: Global, pieces: &[usize], fails: u64) -> Option<MemorySink> {
+    match (pieces.to_vec(alloc), vec![in alloc; fails]) {
+        (Ok(pieces), Ok(failing)) => Some(MemorySink::of(alloc, pieces, failing)),
+        (pieces, failing) => {
+            drop(pieces);
+            drop(failing);
+            None
+        }
+    }
 }
 
-#[test]
-fn a_source_gives_its_pieces_and_faults(rt: HostRuntime) -> Result<(), Fail> {
-    let alloc = rt.alloc();
-    let pieces = vec![in alloc; 3, 0, 4]?;
-    let mut source = source_of(alloc, b"0123456789", pieces, 2)?;
+/// What each read answers, and the room after it.
+const READS: [(Got, [u8; 5]); 7] = [
+    (Got::Gave(3), *b"012.."),
+    (Got::Failed, *b"012.."),
+    (Got::Gave(1), *b"312.."),
+    (Got::Gave(4), *b"4567."),
+    (Got::Gave(2), *b"8967."),
+    (Got::End, *b"8967."),
+    (Got::End, *b"8967."),
+];
+
+/// The first read that answers or leaves something else.
+fn first_other_read(source: &mut MemorySource) -> Option<usize> {
     let mut room = *b".....";
-    let answers = [
-        (Got::Gave(3), *b"012.."),
-        (Got::Failed, *b"012.."),
-        (Got::Gave(1), *b"312.."),
-        (Got::Gave(4), *b"4567."),
-        (Got::Gave(2), *b"8967."),
-        (Got::End, *b"8967."),
-        (Got::End, *b"8967."),
-    ];
-    for (call, (answer, after)) in answers.iter().enumerate() {
-        let got = source.read(&mut room);
-        assert_eq!(rt; got, *answer, "at {call}");
-        assert_eq!(rt; room, *after, "at {call}");
+    for (call, (answer, after)) in READS.iter().enumerate() {
+        if source.read(&mut room) != *answer || room != *after {
+            return Some(call);
+        }
     }
-    assert!(rt; source.rest().is_empty());
+    None
+}
+
+/// The first read that is another, and how many bytes are left behind the reads.
+fn reads(alloc: Global) -> Option<(Option<usize>, usize)> {
+    let mut source = source_of(alloc, b"0123456789", &[3, 0, 4], 2)?;
+    let other = first_other_read(&mut source);
+    let left = source.rest().len();
     drop(source);
-    Ok(())
+    Some((other, left))
 }
 
 #[test]
-fn a_sink_takes_its_pieces_and_faults(rt: HostRuntime) -> Result<(), Fail> {
-    let alloc = rt.alloc();
-    let pieces = vec![in alloc; 3, 0]?;
-    let mut sink = sink_of(alloc, pieces, 2)?;
-    sink.reserve(9)?;
-    let answers = [Put::Took(3), Put::Failed, Put::Took(1), Put::Took(4)];
-    for (call, answer) in answers.iter().enumerate() {
-        let put = sink.write(b"0123");
-        assert_eq!(rt; put, *answer, "at {call}");
+fn a_source_gives_its_pieces_and_faults(rt: HostRuntime) {
+    assert_eq!(rt; reads(rt.alloc()), Some((None, 0)));
+}
+
+/// What each write of four bytes answers.
+const WRITES: [Put; 4] = [Put::Took(3), Put::Failed, Put::Took(1), Put::Took(4)];
+
+/// The first write that answers something else.
+fn first_other_write(sink: &mut MemorySink) -> Option<usize> {
+    for (call, answer) in WRITES.iter().enumerate() {
+        if sink.write(b"0123") != *answer {
+            return Some(call);
+        }
     }
-    assert_eq!(rt; sink.bytes(), b"01200123".as_slice());
+    None
+}
+
+/// Whether the memory is there, the first write that is another, whether the sink has what it took, and whether it gives
+/// that up.
+fn writes(alloc: Global) -> Option<(bool, Option<usize>, bool, bool)> {
+    let mut sink = sink_of(alloc, &[3, 0], 2)?;
+    let is_reserved = sink.reserve(9).is_ok();
+    let other = first_other_write(&mut sink);
+    let has_bytes = sink.bytes() == b"01200123".as_slice();
     let bytes = sink.into_bytes();
-    assert_eq!(rt; bytes.as_slice(), b"01200123".as_slice());
+    let gives_bytes = bytes.as_slice() == b"01200123".as_slice();
     drop(bytes);
-    Ok(())
+    Some((is_reserved, other, has_bytes, gives_bytes))
+}
+
+#[test]
+fn a_sink_takes_its_pieces_and_faults(rt: HostRuntime) {
+    assert_eq!(rt; writes(rt.alloc()), Some((true, None, true, true)));
 }
 
 /// How many of ten bytes, in pieces of 4, 4 and 2, are read within the limit, where one call fails.
-fn length_read(
-    alloc: Global,
-    limit: usize,
-    fails: u64,
-) -> Result<Result<usize, ReadRefusal>, Fail> {
-    let pieces = vec![in alloc; 4, 4]?;
-    let mut source = source_of(alloc, b"0123456789", pieces, fails)?;
+fn length_read(alloc: Global, limit: usize, fails: u64) -> Option<Result<usize, ReadRefusal>> {
+    let mut source = source_of(alloc, b"0123456789", &[4, 4], fails)?;
     let read = read_all(alloc, &mut source, limit);
     drop(source);
     match read {
         Ok(bytes) => {
             let length = bytes.len();
             drop(bytes);
-            Ok(Ok(length))
+            Some(Ok(length))
         }
-        Err(refusal) => Ok(Err(refusal)),
+        Err(refusal) => Some(Err(refusal)),
     }
 }
 
+/// The limit, the call that fails and the answer.
+const LIMITS: [(usize, u64, Result<usize, ReadRefusal>); 8] = [
+    (10, 0, Ok(10)),
+    (usize::MAX, 0, Ok(10)),
+    (9, 0, Err(ReadRefusal::TooLong)),
+    (0, 0, Err(ReadRefusal::TooLong)),
+    (10, 3, Err(ReadRefusal::Failed)),
+    (10, 4, Err(ReadRefusal::Failed)),
+    (10, 5, Ok(10)),
+    (5, 3, Err(ReadRefusal::TooLong)),
+];
+
+/// The first row that is answered otherwise.
+fn first_other_limit(alloc: Global) -> Option<usize> {
+    for (row, (limit, fails, answer)) in LIMITS.iter().enumerate() {
+        if length_read(alloc, *limit, *fails) != Some(*answer) {
+            return Some(row);
+        }
+    }
+    None
+}
+
 #[test]
-fn a_source_is_read_to_its_end_within_the_limit(rt: HostRuntime) -> Result<(), Fail> {
-    // The limit, the call that fails and the answer.
-    let table = [
-        (10, 0, Ok(10)),
-        (usize::MAX, 0, Ok(10)),
-        (9, 0, Err(ReadRefusal::TooLong)),
-        (0, 0, Err(ReadRefusal::TooLong)),
-        (10, 3, Err(ReadRefusal::Failed)),
-        (10, 4, Err(ReadRefusal::Failed)),
-        (10, 5, Ok(10)),
-        (5, 3, Err(ReadRefusal::TooLong)),
-    ];
-    for (limit, fails, answer) in table {
-        let read = length_read(rt.alloc(), limit, fails)?;
-        assert_eq!(rt; read, answer, "at {limit} and {fails}");
+fn a_source_is_read_to_its_end_within_the_limit(rt: HostRuntime) {
+    assert_eq!(rt; first_other_limit(rt.alloc()), None);
+}
+
+/// Whether these bytes were read.
+fn is_read(read: Result<Vec<u8>, ReadRefusal>, wanted: &[u8]) -> bool {
+    match read {
+        Ok(bytes) => {
+            let is_same = bytes.as_slice() == wanted;
+            drop(bytes);
+            is_same
+        }
+        Err(_) => false,
+    }
+}
+
+/// Whether a source of these bytes is read to its end.
+fn arrives(alloc: Global, bytes: &[u8]) -> Option<bool> {
+    let copy = bytes.to_vec(alloc).ok()?;
+    let mut source = MemorySource::of(copy, Vec::new(alloc), Vec::new(alloc));
+    let read = read_all(alloc, &mut source, 1 << 30);
+    drop(source);
+    Some(is_read(read, bytes))
+}
+
+/// Adds each byte so often.
+fn put_each_byte(bytes: &mut Vec<u8>, times: u32) -> Result<(), AllocError> {
+    for byte in 0..=255u8 {
+        put_often(bytes, byte, times)?;
+    }
+    Ok(())
+}
+
+fn put_often(bytes: &mut Vec<u8>, byte: u8, times: u32) -> Result<(), AllocError> {
+    for _ in 0..times {
+        bytes.push(byte)?;
     }
     Ok(())
 }
 
 // Across several steps of the buffer's growth.
 #[test]
-fn a_long_source_arrives_whole(rt: HostRuntime) -> Result<(), Fail> {
+fn a_long_source_arrives_whole(rt: HostRuntime) {
     let alloc = rt.alloc();
     let mut bytes = Vec::new(alloc);
-    for byte in 0..=255u8 {
-        bytes.extend_from_slice(vec![in alloc; byte; 20_001]?.as_slice())?;
-    }
-    let mut source = MemorySource::of(bytes.clone()?, Vec::new(alloc), Vec::new(alloc));
-    let read = read_all(alloc, &mut source, 1 << 30)?;
-    drop(source);
-    assert_eq!(rt; read.as_slice(), bytes.as_slice());
-    drop(read);
+    let put = put_each_byte(&mut bytes, 20_001);
+    let arrived = arrives(alloc, bytes.as_slice());
     drop(bytes);
-    Ok(())
+    assert_eq!(rt; (put, arrived), (Ok(()), Some(true)));
 }
 
-#[test]
-fn all_is_sent_or_a_front(rt: HostRuntime) -> Result<(), Fail> {
-    let alloc = rt.alloc();
-    let pieces = vec![in alloc; 3, 3]?;
-    let mut sink = sink_of(alloc, pieces, 4)?;
-    send_all(&mut sink, b"0123456789")?;
-    assert!(rt; send_all(&mut sink, b"abc").is_err());
-    assert_eq!(rt; sink.bytes(), b"0123456789".as_slice());
+/// Whether ten bytes are sent, whether three more are, and whether the sink has the ten.
+fn sends(alloc: Global) -> Option<(bool, bool, bool)> {
+    let mut sink = sink_of(alloc, &[3, 3], 4)?;
+    let ten = send_all(&mut sink, b"0123456789").is_ok();
+    let three = send_all(&mut sink, b"abc").is_ok();
+    let has_ten = sink.bytes() == b"0123456789".as_slice();
     drop(sink);
-    Ok(())
+    Some((ten, three, has_ten))
 }
 
 #[test]
-fn the_systems_streams_carry_all(rt: HostRuntime) -> Result<(), Fail> {
-    let alloc = rt.alloc();
-    let mut source = ReaderSource::of(alloc, b"0123456789".as_slice())?;
-    let read = read_all(alloc, &mut source, 10)?;
-    drop(source);
-    assert_eq!(rt; read.as_slice(), b"0123456789".as_slice());
-    drop(read);
+fn all_is_sent_or_a_front(rt: HostRuntime) {
+    assert_eq!(rt; sends(rt.alloc()), Some((true, false, true)));
+}
 
+/// Whether the bytes of a stream of the system are read.
+fn is_carried_in(alloc: Global, bytes: &[u8]) -> Option<bool> {
+    let mut source = ReaderSource::of(alloc, bytes).ok()?;
+    let read = read_all(alloc, &mut source, bytes.len());
+    drop(source);
+    Some(is_read(read, bytes))
+}
+
+/// Whether the bytes are written to a stream of the system.
+fn is_carried_out(alloc: Global, bytes: &[u8]) -> bool {
     let mut written = Vec::new(alloc);
     let mut sink = WriterSink::of(&mut written);
-    send_all(&mut sink, b"0123456789")?;
+    let is_sent = send_all(&mut sink, bytes).is_ok();
     drop(sink);
-    assert_eq!(rt; written.as_slice(), b"0123456789".as_slice());
+    let is_same = written.as_slice() == bytes;
     drop(written);
-    Ok(())
+    is_sent && is_same
+}
+
+#[test]
+fn the_systems_streams_carry_all(rt: HostRuntime) {
+    assert_eq!(rt; is_carried_in(rt.alloc(), b"0123456789"), Some(true));
+    assert!(rt; is_carried_out(rt.alloc(), b"0123456789"));
 }
 
 /// A stream whose calls are interrupted twice, then carry one byte, and then fail.
@@ -193,18 +269,29 @@ impl Write for Halting {
     }
 }
 
-#[test]
-fn an_interrupted_call_is_made_again_and_a_fault_is_told(rt: HostRuntime) -> Result<(), Fail> {
-    let mut source = ReaderSource::of(rt.alloc(), Halting { calls: 0 })?;
+/// What two reads of such a stream answer, and the room after the first.
+fn halting_reads(alloc: Global) -> Option<(Got, [u8; 4], Got)> {
+    let mut source = ReaderSource::of(alloc, Halting { calls: 0 }).ok()?;
     let mut room = [7; 4];
-    assert_eq!(rt; source.read(&mut room), Got::Gave(1));
-    assert_eq!(rt; room, [0, 7, 7, 7]);
-    assert_eq!(rt; source.read(&mut room), Got::Failed);
+    let first = source.read(&mut room);
+    let after = room;
+    let second = source.read(&mut room);
     drop(source);
+    Some((first, after, second))
+}
 
+/// What two writes to such a stream answer.
+fn halting_writes() -> (Put, Put) {
     let mut sink = WriterSink::of(Halting { calls: 0 });
-    let puts = [sink.write(b"0123"), sink.write(b"123")];
-    assert_eq!(rt; puts, [Put::Took(1), Put::Failed]);
+    let first = sink.write(b"0123");
+    let second = sink.write(b"123");
     drop(sink);
-    Ok(())
+    (first, second)
+}
+
+#[test]
+fn an_interrupted_call_is_made_again_and_a_fault_is_told(rt: HostRuntime) {
+    let reads = (Got::Gave(1), [0, 7, 7, 7], Got::Failed);
+    assert_eq!(rt; halting_reads(rt.alloc()), Some(reads));
+    assert_eq!(rt; halting_writes(), (Put::Took(1), Put::Failed));
 }

@@ -14,7 +14,6 @@ use drill_texts::{
 use end_tables::Totals;
 use exchange_model::Reply;
 use std::alloc::Global;
-use std::test::Fail;
 
 fn is_line(line: Result<Octets, NoMemory>, wanted: &[u8]) -> bool {
     match line {
@@ -52,60 +51,51 @@ fn answers_so(alloc: Global, lost: bool, reply: Reply, wanted: &[u8]) -> bool {
 #[test]
 fn a_reply_without_parts_is_a_word(rt: HostRuntime) {
     let (alloc, end) = (rt.alloc(), EndName::A);
-    assert!(rt; writes(alloc, end, Reply::NoMode, b"a no-mode\n"));
-    assert!(rt; writes(alloc, end, Reply::OutboxFull, b"a outbox-full\n"));
-    assert!(rt; writes(alloc, end, Reply::TooLarge, b"a too-large\n"));
-    assert!(rt; writes(alloc, end, Reply::Nothing, b"a nothing\n"));
-    assert!(rt; writes(alloc, end, Reply::Quiet, b"a quiet\n"));
+    let written = [
+        writes(alloc, end, Reply::NoMode, b"a no-mode\n"),
+        writes(alloc, end, Reply::OutboxFull, b"a outbox-full\n"),
+        writes(alloc, end, Reply::TooLarge, b"a too-large\n"),
+        writes(alloc, end, Reply::Nothing, b"a nothing\n"),
+        writes(alloc, end, Reply::Quiet, b"a quiet\n"),
+    ];
+    assert_eq!(rt; written, [true; 5]);
 }
 
 #[test]
 fn what_is_not_there_is_told(rt: HostRuntime) {
     let (alloc, end) = (rt.alloc(), EndName::B);
-    assert!(rt; writes(alloc, end, Reply::NoEntry, b"b no-entry\n"));
-    assert!(rt; writes(alloc, end, Reply::Gone, b"b gone\n"));
-    assert!(rt; writes(alloc, end, Reply::Full { size: 9, need: 1 }, b"b full\n"));
-    assert!(rt;
-        writes(
-            alloc,
-            end,
-            Reply::Stopped {
-                before: 0,
-                after: 1
-            },
-            b"b stopped\n"
-        )
-    );
+    let stopped = Reply::Stopped {
+        before: 0,
+        after: 1,
+    };
+    let written = [
+        writes(alloc, end, Reply::NoEntry, b"b no-entry\n"),
+        writes(alloc, end, Reply::Gone, b"b gone\n"),
+        writes(alloc, end, Reply::Full { size: 9, need: 1 }, b"b full\n"),
+        writes(alloc, end, stopped, b"b stopped\n"),
+    ];
+    assert_eq!(rt; written, [true; 4]);
 }
 
 #[test]
 fn a_count_stands_behind_its_word(rt: HostRuntime) {
     let (alloc, end) = (rt.alloc(), EndName::A);
+    let confirmed = Reply::Confirmed { upto: 12 };
     assert!(rt; writes(alloc, end, Reply::Ticked { failed: 1 }, b"a ticked 1\n"));
-    assert!(rt;
-        writes(
-            alloc,
-            end,
-            Reply::Confirmed { upto: 12 },
-            b"a confirmed 12\n"
-        )
-    );
+    assert!(rt; writes(alloc, end, confirmed, b"a confirmed 12\n"));
 }
 
 #[test]
 fn a_status_is_told_with_the_number(rt: HostRuntime) {
     let (alloc, end) = (rt.alloc(), EndName::A);
-    assert!(rt;
-        writes(
-            alloc,
-            end,
-            Reply::Pending { tries: 1 },
-            b"a status 0 pending 1\n"
-        )
-    );
-    assert!(rt; writes(alloc, end, Reply::Receipted, b"a status 0 receipted\n"));
-    assert!(rt; writes(alloc, end, Reply::Failed, b"a status 0 failed EBMS:0301\n"));
-    assert!(rt; writes(alloc, end, Reply::Unknown, b"a status 0 unknown\n"));
+    let pending = Reply::Pending { tries: 1 };
+    let written = [
+        writes(alloc, end, pending, b"a status 0 pending 1\n"),
+        writes(alloc, end, Reply::Receipted, b"a status 0 receipted\n"),
+        writes(alloc, end, Reply::Failed, b"a status 0 failed EBMS:0301\n"),
+        writes(alloc, end, Reply::Unknown, b"a status 0 unknown\n"),
+    ];
+    assert_eq!(rt; written, [true; 4]);
 }
 
 /// Whether this is written of a reply with parts, at the end a.
@@ -120,36 +110,32 @@ fn tells(alloc: Global, reply: Option<Reply>, wanted: &[u8]) -> bool {
 fn a_reply_with_parts_tells_the_identifier_or_the_code(rt: HostRuntime) {
     let submitted = b"a submitted 0 0.00000000-0000-0000-0000-000000000000@as4\n";
     let pushed = b"a sent 0 user 0.00000000-0000-0000-0000-000000000000@as4\n";
+    let requested = b"a sent 0 pull drill-m\n";
     let entry = b"a entry 0 0.00000000-0000-0000-0000-000000000000@as4 1 5\n";
+    let refused = b"a status 0 refused EBMS:0010\n";
     let alloc = rt.alloc();
-    assert!(rt; tells(alloc, made::submitted(alloc), submitted));
-    assert!(rt; tells(alloc, made::pushed(alloc), pushed));
-    assert!(rt; tells(alloc, made::requested(alloc), b"a sent 0 pull drill-m\n"));
-    assert!(rt; tells(alloc, made::entry(alloc), entry));
-    assert!(rt;
-        tells(
-            alloc,
-            made::refused(alloc),
-            b"a status 0 refused EBMS:0010\n"
-        )
-    );
+    let told = [
+        tells(alloc, made::submitted(alloc), submitted),
+        tells(alloc, made::pushed(alloc), pushed),
+        tells(alloc, made::requested(alloc), requested),
+        tells(alloc, made::entry(alloc), entry),
+        tells(alloc, made::refused(alloc), refused),
+    ];
+    assert_eq!(rt; told, [true; 5]);
 }
 
 #[test]
 fn an_answer_is_sent_or_lost(rt: HostRuntime) {
     let sent = b"b sent 0 receipt 0.00000000-0000-0000-0000-000000000000@as4\n";
     let lost = b"b lost receipt 0.00000000-0000-0000-0000-000000000000@as4\n";
+    let error = b"b sent 0 error EBMS:0006\n";
     let alloc = rt.alloc();
-    assert!(rt; answers(alloc, false, made::receipt(alloc), sent));
-    assert!(rt; answers(alloc, true, made::receipt(alloc), lost));
-    assert!(rt;
-        answers(
-            alloc,
-            false,
-            made::error(alloc),
-            b"b sent 0 error EBMS:0006\n"
-        )
-    );
+    let told = [
+        answers(alloc, false, made::receipt(alloc), sent),
+        answers(alloc, true, made::receipt(alloc), lost),
+        answers(alloc, false, made::error(alloc), error),
+    ];
+    assert_eq!(rt; told, [true; 3]);
 }
 
 #[test]
@@ -185,20 +171,13 @@ fn mode(alloc: Global, name: &[u8], way: Way) -> Result<Mode, NoMemory>
     drill_mode(alloc, &name, way, 3, 5000)
 }
 
-fn is_pushed(route: &Route) -> bool {
-    match route {
-        Route::Push { address } => address.bytes() == b"http://drill/".as_slice(),
-        Route::Pull { .. } => false,
-    }
-}
-
-fn is_pulled_from(route: &Route, channel: &[u8]) -> bool {
-    match route {
-        Route::Push { .. } => false,
-        Route::Pull { mpc, address } => {
-            mpc.bytes() == channel && address.bytes() == b"http://drill/".as_slice()
-        }
-    }
+/// Whether the route is a push, or a pull from this channel.
+fn is_route(route: &Route, channel: Option<&[u8]>) -> bool {
+    let (mpc, address) = match route {
+        Route::Push { address } => (None, address),
+        Route::Pull { mpc, address } => (Some(mpc.bytes()), address),
+    };
+    mpc == channel && address.bytes() == b"http://drill/".as_slice()
 }
 
 /// Whether the mode goes from the sender to the receiver, and is named so.
@@ -209,14 +188,25 @@ fn is_drill_mode(mode: &Mode, name: &[u8]) -> bool {
         && mode.to.role.bytes() == b"receiver".as_slice()
 }
 
+/// Whether the mode was made, is named so, and is pushed or pulled from this channel.
+fn is_made(mode: Result<Mode, NoMemory>, name: &[u8], channel: Option<&[u8]>) -> bool {
+    match mode {
+        Ok(mode) => {
+            let is_so = is_drill_mode(&mode, name) && is_route(&mode.route, channel);
+            drop(mode);
+            is_so
+        }
+        Err(_) => false,
+    }
+}
+
 #[test]
 #[tactic(auto, unfolding(drill_script::specs::LineText::is_name))]
-fn a_mode_is_pushed_or_pulled(rt: HostRuntime) -> Result<(), Fail> {
-    let pushed = mode(rt.alloc(), b"m", Way::Push)?;
-    let pulled = mode(rt.alloc(), b"m2", Way::Pull)?;
-    assert!(rt; is_drill_mode(&pushed, b"m") && is_pushed(&pushed.route));
-    assert!(rt; is_drill_mode(&pulled, b"m2") && is_pulled_from(&pulled.route, b"drill-m2"));
-    Ok(())
+fn a_mode_is_pushed_or_pulled(rt: HostRuntime) {
+    let pushed = mode(rt.alloc(), b"m", Way::Push);
+    assert!(rt; is_made(pushed, b"m", None));
+    let pulled = mode(rt.alloc(), b"m2", Way::Pull);
+    assert!(rt; is_made(pulled, b"m2", Some(b"drill-m2")));
 }
 
 #[tactic(auto, unfolding(drill_script::specs::LineText::is_name))]
@@ -224,38 +214,58 @@ fn two_modes(alloc: Global) -> Result<Seq<Mode>, NoMemory>
     ensures { IfOk result AreDrillModes }
 {
     let mut list = Vec::with_capacity(alloc, 2)?;
-    let pushed = mode(alloc, b"m", Way::Push)?;
-    let pulled = mode(alloc, b"m2", Way::Pull)?;
-    list.push_reserved(pushed);
-    list.push_reserved(pulled);
-    Ok(Seq::of(list))
+    match (mode(alloc, b"m", Way::Push), mode(alloc, b"m2", Way::Pull)) {
+        (Ok(pushed), Ok(pulled)) => {
+            list.push_reserved(pushed);
+            list.push_reserved(pulled);
+            Ok(Seq::of(list))
+        }
+        (pushed, pulled) => {
+            drop(list);
+            drop(pushed);
+            drop(pulled);
+            Err(NoMemory)
+        }
+    }
+}
+
+fn is_named(mode: Option<&Mode>, name: &[u8]) -> bool {
+    match mode {
+        Some(mode) => mode.name.bytes() == name,
+        None => false,
+    }
+}
+
+/// Whether the first mode is the first of the script, and the second the second.
+fn stand_in_order(alloc: Global) -> Option<(bool, bool)> {
+    let list = two_modes(alloc).ok()?;
+    let modes = modes_of(alloc, list).ok()?;
+    let are_named = (is_named(modes.get(0), b"m"), is_named(modes.get(1), b"m2"));
+    drop(modes);
+    Some(are_named)
 }
 
 #[test]
-fn modes_stand_in_the_order_of_the_script(rt: HostRuntime) -> Result<(), Fail> {
-    let list = two_modes(rt.alloc())?;
-    let modes = modes_of(rt.alloc(), list)?;
-    assert!(rt;
-        modes
-            .get(0)
-            .is_some_and(|mode| mode.name.bytes() == b"m".as_slice())
-    );
-    assert!(rt;
-        modes
-            .get(1)
-            .is_some_and(|mode| mode.name.bytes() == b"m2".as_slice())
-    );
-    Ok(())
+fn modes_stand_in_the_order_of_the_script(rt: HostRuntime) {
+    assert_eq!(rt; stand_in_order(rt.alloc()), Some((true, true)));
+}
+
+fn is_load(load: &Load, wanted: &[u8]) -> bool {
+    load.media.bytes() == b"application/octet-stream".as_slice() && load.content.bytes() == wanted
 }
 
 /// Whether there is one load, of these bytes.
-fn carries(loads: &Seq<Load>, wanted: &[u8]) -> bool {
-    match loads.items() {
-        [load] => {
-            load.media.bytes() == b"application/octet-stream".as_slice()
-                && load.content.bytes() == wanted
+fn carries(loads: Result<Seq<Load>, NoMemory>, wanted: &[u8]) -> bool {
+    match loads {
+        Ok(loads) => {
+            let is_so = match loads.items() {
+                [load] => is_load(load, wanted),
+                _ => false,
+            };
+            drop(loads);
+            is_so
         }
-        _ => false,
+        Err(_) => false,
     }
 }
 
@@ -270,21 +280,39 @@ fn last_two(loads: &Seq<Load>) -> Option<(u8, u8)> {
     }
 }
 
-#[test]
-fn a_message_carries_nothing_or_one_load(rt: HostRuntime) -> Result<(), Fail> {
-    let none = loads_of(rt.alloc(), &ScriptLoad::Nothing)?;
-    assert!(rt; none.items().is_empty());
-    let given = Octets::of(Vec::from_slice(rt.alloc(), b"hi")?);
-    let given = loads_of(rt.alloc(), &ScriptLoad::Hex(given))?;
-    assert!(rt; carries(&given, b"hi"));
-    Ok(())
+/// How many loads there are where a message carries nothing.
+fn count_of_nothing(alloc: Global) -> Option<usize> {
+    let loads = loads_of(alloc, &ScriptLoad::Nothing).ok()?;
+    let count = loads.items().len();
+    drop(loads);
+    Some(count)
+}
+
+/// Whether the two bytes `hi` are carried.
+fn carries_given(alloc: Global) -> Option<bool> {
+    let load = ScriptLoad::Hex(Octets::of(b"hi".to_vec(alloc).ok()?));
+    let loads = loads_of(alloc, &load);
+    drop(load);
+    Some(carries(loads, b"hi"))
 }
 
 #[test]
-fn a_load_of_a_size_counts_to_250_again_and_again(rt: HostRuntime) -> Result<(), Fail> {
-    let five = loads_of(rt.alloc(), &ScriptLoad::Size(5))?;
-    assert!(rt; carries(&five, &[0, 1, 2, 3, 4]));
-    let again = loads_of(rt.alloc(), &ScriptLoad::Size(252))?;
-    assert_eq!(rt; last_two(&again), Some((250, 0)));
-    Ok(())
+fn a_message_carries_nothing_or_one_load(rt: HostRuntime) {
+    assert_eq!(rt; count_of_nothing(rt.alloc()), Some(0));
+    assert_eq!(rt; carries_given(rt.alloc()), Some(true));
+}
+
+/// The last two bytes of a load of 252.
+fn last_of_252(alloc: Global) -> Option<(u8, u8)> {
+    let loads = loads_of(alloc, &ScriptLoad::Size(252)).ok()?;
+    let last = last_two(&loads);
+    drop(loads);
+    last
+}
+
+#[test]
+fn a_load_of_a_size_counts_to_250_again_and_again(rt: HostRuntime) {
+    let five = loads_of(rt.alloc(), &ScriptLoad::Size(5));
+    assert!(rt; carries(five, &[0, 1, 2, 3, 4]));
+    assert_eq!(rt; last_of_252(rt.alloc()), Some((250, 0)));
 }

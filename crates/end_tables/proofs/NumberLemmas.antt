@@ -1,6 +1,5 @@
 -- The number of a submission is its place.
-use Rattle.std.proofs.Common.{◌≡◌, ℕ, zero, suc, ◌+◌, ◌<◌, ◌≤◌, List, [], ◌∷◌, Bool, IsTrue, Option, Some, None, option_map, length, refl, ◌∙◌, arith}
-use Rattle.std.specs.List.{slice_get}
+use Rattle.std.proofs.Common.{◌≡◌, ℕ, suc, ◌+◌, ◌<◌, ◌≤◌, List, [], ◌∷◌, Bool, IsTrue, Option, Some, None, option_map, length, refl, ◌∙◌, arith}
 use Rattle.std.specs.Option.{IfSome}
 use Rattle.std.proofs.lemmas.Option.{same_Some, slice_get_past}
 use Rattle.as4_effects.specs.declared.queue.Queue.{Queue}
@@ -12,23 +11,6 @@ use Rattle.exchange_model.specs.declared.sent.Sent.{Sent}
 use Rattle.exchange_model.proofs.FoundLemmas.{head_has, sent_at_has, sent_of_has}
 use Rattle.exchange_model.proofs.ListLemmas.{Has}
 use Rattle.exchange_model.proofs.NumberedLemmas.{itself, place}
-
--- what `submitted` says of each place
-abbrev pub StandAtNumbers : List Sent → Type 0
-StandAtNumbers sent = (k : ℕ) (s : Sent) → slice_get sent k ≡ Some s → s.submission.number ≡ k
-
--- it says the same as `AreNumberedFrom`
-numbered_from : (n : ℕ) (sent : List Sent) → ((k : ℕ) (s : Sent) → slice_get sent k ≡ Some s → s.submission.number ≡ n + k) → AreNumberedFrom n sent
-unfolding AreNumberedFrom
-numbered_from n [] h = tt
-numbered_from n (s ∷ sent) h =
-    (h zero s refl ∙ omega arith, numbered_from (suc n) sent (λ k x e. h (suc k) x e ∙ omega arith))
-
-pub numbered : (sent : List Sent) → StandAtNumbers sent → AreNumberedFrom 0 sent
-numbered sent h = numbered_from 0 sent (λ k s e. h k s e ∙ omega arith)
-
-pub number_there : (sent : List Sent) → AreNumberedFrom 0 sent → StandAtNumbers sent
-number_there sent h k s there = (sent_at_has k sent s (place k sent h ∙ there)).1
 
 found_is : (sent : List Sent) → AreNumberedFrom 0 sent → (o : Option Sent) → ((s : Sent) → o ≡ Some s → Has sent s) → (r : Option ℕ)
     → r ≡ option_map (λ (s : Sent). s.submission.number) o → IfSome r (λ n. sent_at n sent ≡ o)

@@ -4,9 +4,9 @@
 //!     channels  of these the ones that wait, with their queue and their due moment
 //!     inbox     each message that came, by number
 
-ghost use Rattle.std.specs.Prelude.{◌≡◌, ◌+◌, ◌≤◌, ℕ, Some, length, slice_get};
+ghost use Rattle.std.specs.Prelude.{◌≡◌, ◌+◌, ◌≤◌, length};
 ghost use Rattle.end_tables.specs.Rooms.{new_tables};
-ghost use Rattle.exchange_model.specs.declared.sent.Sent.{Sent};
+ghost use Rattle.exchange_model.specs.Numbered.{AreNumberedFrom};
 
 use as4_values::MAX_MOMENT;
 use channels::Channels;
@@ -85,7 +85,7 @@ impl EndTables {
     pub fn submitted(&self) -> u64
         ensures value { result ≡ length self.now.end.sent }
         ensures limited { result ≤ 1048576 }
-        ensures numbered { (k : ℕ) (s : Sent) → slice_get self.now.end.sent k ≡ Some s → s.submission.number ≡ k }
+        ensures numbered { AreNumberedFrom 0 self.now.end.sent }
     {
         self.outbox.len()
     }

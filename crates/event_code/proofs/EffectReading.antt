@@ -23,9 +23,6 @@ moment_refused bytes rest moment fits e past = record {
       omega (arith, parts.0, past, within);
 }
 
-pub moment_refused_count : (bytes : List ℕ) → Refuses IsLong (number_body 8) bytes → Refuses (λ m. m ≤ 253402300799999) (number_body 8) bytes
-moment_refused_count bytes refused = record { none = λ m r within f. refused.none m r (omega (arith, within)) f }
-
 abbrev pub Code : Type 0
 Code = ℕ × List ℕ
 

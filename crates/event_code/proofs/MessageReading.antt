@@ -1,5 +1,5 @@
 -- Submissions and deliveries in bodies.
-use Rattle.std.proofs.Common.{◌≡◌, ℕ, ◌+◌, ◌<◌, ◌≤◌, ◌^◌, List, [], ◌∷◌, ◌++◌, length, drop, append_assoc, length-append, refl, ap, sym, subst, ◌∙◌, arith}
+use Rattle.std.proofs.Common.{◌≡◌, ℕ, ◌+◌, ◌<◌, ◌≤◌, ◌^◌, List, [], ◌∷◌, ◌++◌, length, drop, append_assoc, length-append, refl, ap, sym, subst, arith}
 use Rattle.std.specs.List.{flat_map}
 use Rattle.std.proofs.Props.{props}
 use Rattle.as4_effects.proofs.LengthLemmas.{number_length}
@@ -169,11 +169,6 @@ submission_unfit bytes rest t held e unfit =
     refused_unfit IsSent (λ u. 1 ∷ sent_body u) IsSpelledSubmission submission_body submission_parts (1 ∷ bytes) rest t (once_behind 1 IsSent sent_body sent_once) submission_kept submission_same held (ap (λ l. 1 ∷ l) e)
     (λ s _ same. unfit (subst IsWhole (sym same) (whole_of s)))
 
-pub submission_found : (bytes rest : List ℕ) (s : Submission) → IsSent (submission_parts s) → bytes ≡ sent_body (submission_parts s) ++ rest
-    → IsSpelledSubmission s × (1 ∷ bytes ≡ submission_body s ++ rest)
-unfolding IsSpelledSubmission
-submission_found bytes rest s held e = ((held.0.0.1, held.0.1.1), ap (λ l. 1 ∷ l) e ∙ ap (λ l. l ++ rest) (sym (submission_same s)))
-
 -- deliveries
 
 abbrev pub Came : Type 0
@@ -235,8 +230,3 @@ pub delivery_unfit : (bytes rest : List ℕ) (t : Came) → IsCame t → bytes �
 delivery_unfit bytes rest t held e unfit =
     refused_unfit IsCame (λ u. 4 ∷ came_body u) IsSpelledDelivery delivery_body delivery_parts (4 ∷ bytes) rest t (once_behind 4 IsCame came_body came_once) delivery_kept delivery_same held (ap (λ l. 4 ∷ l) e)
     (λ d _ same. unfit (subst IsWholeCame (sym same) (whole_came d)))
-
-pub delivery_found : (bytes rest : List ℕ) (d : Delivery) → IsCame (delivery_parts d) → bytes ≡ came_body (delivery_parts d) ++ rest
-    → IsSpelledDelivery d × (4 ∷ bytes ≡ delivery_body d ++ rest)
-unfolding IsSpelledDelivery
-delivery_found bytes rest d held e = (held.0, ap (λ l. 4 ∷ l) e)

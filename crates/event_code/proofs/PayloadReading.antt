@@ -87,10 +87,6 @@ texts_body = pair_body text_body text_body
 zero_one : ◌≡◌ {A = ℕ} 0 1 → ⊥
 zero_one e = omega arith
 
-pair_of : Route → List ℕ × List ℕ
-pair_of (Push address) = (address, address)
-pair_of (Pull mpc address) = (mpc, address)
-
 pull_of : List ℕ × List ℕ → Route
 pull_of t = Pull t.0 t.1
 

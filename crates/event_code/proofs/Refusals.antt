@@ -1,11 +1,9 @@
 -- When bytes begin with the body of no value.
 use Rattle.std.proofs.Common.{◌≡◌, ℕ, ◌<◌, ◌^◌, List, [], ◌∷◌, ◌++◌, length, append_assoc, length-append, ap, sym, ◌∙◌, arith}
 use Rattle.std.specs.List.{flat_map}
-use Rattle.std.proofs.lemmas.Grind.{flat_map-append}
-use Rattle.std.proofs.lemmas.List.{append-nil}
 use Rattle.as4_effects.proofs.LengthLemmas.{number_length}
 use Rattle.as4_effects.specs.Bodies.{number_body, text_body, list_body}
-use Rattle.event_code.specs.Reading.{IsCounted, IsList, IsPair, pair_body, Each, Once, Refuses}
+use Rattle.event_code.specs.Reading.{IsCounted, IsList, Each, Once, Refuses}
 use Rattle.event_code.proofs.OneBody.{number_first, regroup}
 
 -- too few bytes
@@ -29,20 +27,6 @@ text_refused bytes rest len fits e short = record {
       omega (arith, parts.0, ap length parts.1, length-append x r);
 }
 
-pub refused_first : {X Y : Type 0} (is : X → Type 0) (body : X → List ℕ) (also : Y → Type 0) (behind : Y → List ℕ) (bytes : List ℕ)
-    → Refuses is body bytes → Refuses (IsPair is also) (pair_body body behind) bytes
-refused_first is body also behind bytes refused =
-    record { none = λ p r a e. refused.none p.0 (behind p.1 ++ r) a.0 (e ∙ append_assoc (body p.0) (behind p.1) r) }
-
-pub refused_second : {X Y : Type 0} (is : X → Type 0) (body : X → List ℕ) (also : Y → Type 0) (behind : Y → List ℕ) (bytes rest : List ℕ) (x : X)
-    → Once is body → is x → bytes ≡ body x ++ rest → Refuses also behind rest
-    → Refuses (IsPair is also) (pair_body body behind) bytes
-refused_second is body also behind bytes rest x once held e refused = record {
-  none = λ p r a f.
-      let parts = once x p.0 rest (behind p.1 ++ r) held a.0 (sym e ∙ (f ∙ append_assoc (body p.0) (behind p.1) r)) in
-      refused.none p.1 r a.1 parts.1;
-}
-
 -- what is written of a value doesn't stand there
 pub refused_by : {X Y : Type 0} (is : X → Type 0) (body : X → List ℕ) (other : Y → Type 0) (also : Y → List ℕ) (f : Y → X) (bytes : List ℕ)
     → ((y : Y) → other y → is (f y)) → ((y : Y) → also y ≡ body (f y)) → Refuses is body bytes → Refuses other also bytes
@@ -58,10 +42,6 @@ refused_unfit is body other also f bytes rest x once kept same held e unfit = re
       let parts = once x (f y) rest r held (kept y a) (sym e ∙ (g ∙ ap (λ l. l ++ r) (same y))) in
       unfit y a parts.0;
 }
-
-pub refused_within : {X : Type 0} (is within : X → Type 0) (body : X → List ℕ) (bytes : List ℕ)
-    → ((x : X) → within x → is x) → Refuses is body bytes → Refuses within body bytes
-refused_within is within body bytes kept refused = record { none = λ x r a e. refused.none x r (kept x a) e }
 
 -- so many items, where one is missing
 pub items_refused : {X : Type 0} (is : X → Type 0) (body : X → List ℕ) → Once is body
@@ -86,11 +66,6 @@ text_found bytes rest last text len fits e same f =
 pub each_more : {X : Type 0} (is : X → Type 0) (xs : List X) (x : X) → Each is xs → is x → Each is (xs ++ x ∷ [])
 each_more is [] x a held = (held, tt)
 each_more is (y ∷ xs) x a held = (a.0, each_more is xs x a.1 held)
-
-pub items_more : {X : Type 0} (body : X → List ℕ) (bytes rest last : List ℕ) (xs : List X) (x : X)
-    → bytes ≡ flat_map body xs ++ rest → rest ≡ body x ++ last → bytes ≡ flat_map body (xs ++ x ∷ []) ++ last
-items_more body bytes rest last xs x e f =
-    found_both bytes (flat_map body xs) (body x) rest last e f ∙ ap (λ l. l ++ last) (sym (flat_map-append body xs (x ∷ []) ∙ ap (λ l. flat_map body xs ++ l) (append-nil (body x))))
 
 -- so many items in all, where one is missing
 pub list_refused : {X : Type 0} (is : X → Type 0) (body : X → List ℕ) → Once is body

@@ -1,3 +1,4 @@
 pub mod FoundLemmas
 pub mod ListLemmas
 pub mod NumberedLemmas
+pub mod PendingLemmas

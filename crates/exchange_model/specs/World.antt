@@ -58,12 +58,16 @@ pub record MayAct (act : Act) (party other : Party) : Type 0 where
   pub heard : IsHeard other.said act.event.what
   pub step : Step act.modes party.end act.event act.outcome
 
+-- the end behind an outcome whose reply leaves or is lost
+abbrev pub party_after : Outcome → Bool → Party → Party
+party_after outcome lost party = record {
+  end = applied outcome.effects party.end;
+  said = if lost then party.said else party.said ++ sends outcome.reply;
+}
+
 -- what the act leads to at its end
 abbrev pub acted : Act → Party → Party
-acted act party = record {
-  end = applied act.outcome.effects party.end;
-  said = if act.lost then party.said else party.said ++ sends act.outcome.reply;
-}
+acted act party = party_after act.outcome act.lost party
 
 abbrev pub MayHappenAt : Side → Act → World → Type 0
 MayHappenAt Left act world = MayAct act world.left world.right

@@ -3,52 +3,85 @@ use as4_values::{ErrorItem, MessageId, NoMemory, Severity, Signal, SignalBody, T
 use std::alloc::Global;
 use std::test::Fail;
 
+/// A code, its short description, its severity and its category.
+const ROWS: [(u16, &str, Severity, &str); 10] = [
+    (1, "ValueNotRecognized", Severity::Failure, "Content"),
+    (3, "ValueInconsistent", Severity::Failure, "Content"),
+    (
+        6,
+        "EmptyMessagePartitionChannel",
+        Severity::Warning,
+        "Communication",
+    ),
+    (7, "MimeInconsistency", Severity::Failure, "Unpackaging"),
+    (8, "FeatureNotSupported", Severity::Failure, "Unpackaging"),
+    (9, "InvalidHeader", Severity::Failure, "Unpackaging"),
+    (
+        10,
+        "ProcessingModeMismatch",
+        Severity::Failure,
+        "Processing",
+    ),
+    (11, "ExternalPayloadError", Severity::Failure, "Content"),
+    (301, "MissingReceipt", Severity::Failure, "Communication"),
+    (302, "InvalidReceipt", Severity::Failure, "Communication"),
+];
+
+/// Whether the row that is found by the code says all of this.
+fn is_found(code: u16, short: &str, severity: Severity, category: &str) -> bool {
+    match find(&TABLE, code) {
+        Some(row) => {
+            row.code == code
+                && row.short == short
+                && row.severity == severity
+                && row.category == category
+        }
+        None => false,
+    }
+}
+
+/// The first of the rows that isn't found so.
+fn first_other(rows: &[(u16, &str, Severity, &str)]) -> Option<usize> {
+    for (at, (code, short, severity, category)) in rows.iter().enumerate() {
+        if !is_found(*code, short, *severity, category) {
+            return Some(at);
+        }
+    }
+    None
+}
+
 #[test]
 fn a_code_finds_its_row(rt: HostRuntime) -> Result<(), Fail> {
-    let rows: [(u16, &str, Severity, &str); 10] = [
-        (1, "ValueNotRecognized", Severity::Failure, "Content"),
-        (3, "ValueInconsistent", Severity::Failure, "Content"),
-        (
-            6,
-            "EmptyMessagePartitionChannel",
-            Severity::Warning,
-            "Communication",
-        ),
-        (7, "MimeInconsistency", Severity::Failure, "Unpackaging"),
-        (8, "FeatureNotSupported", Severity::Failure, "Unpackaging"),
-        (9, "InvalidHeader", Severity::Failure, "Unpackaging"),
-        (
-            10,
-            "ProcessingModeMismatch",
-            Severity::Failure,
-            "Processing",
-        ),
-        (11, "ExternalPayloadError", Severity::Failure, "Content"),
-        (301, "MissingReceipt", Severity::Failure, "Communication"),
-        (302, "InvalidReceipt", Severity::Failure, "Communication"),
-    ];
-    for (code, short, severity, category) in rows {
-        let row = find(&TABLE, code).ok_or("no row")?;
-        assert_eq!(rt; row.code, code);
-        assert_eq!(rt; row.short, short, "{code}");
-        assert_eq!(rt; row.severity, severity, "{code}");
-        assert_eq!(rt; row.category, category, "{code}");
-    }
+    assert_eq!(rt; first_other(&ROWS), None);
     assert!(rt; find(&TABLE, 5).is_none());
     Ok(())
 }
 
+const FIRST: Row = Row {
+    code: 7,
+    short: "First",
+    severity: Severity::Failure,
+    category: "Content",
+};
+
+/// Two rows of one code.
+const TWINS: [Row; 2] = [
+    FIRST,
+    Row {
+        short: "Second",
+        ..FIRST
+    },
+];
+
+/// The short description that is found by the code.
+fn short_of(table: &[Row], code: u16) -> Option<&'static str> {
+    find(table, code).map(|row| row.short)
+}
+
 #[test]
 fn the_first_row_of_a_code_is_found(rt: HostRuntime) -> Result<(), Fail> {
-    let row = |short| Row {
-        code: 7,
-        short,
-        severity: Severity::Failure,
-        category: "Content",
-    };
-    let table = [row("First"), row("Second")];
-    assert_eq!(rt; find(&table, 7).map(|row| row.short), Some("First"));
-    assert!(rt; find(&[], 7).is_none());
+    assert_eq!(rt; short_of(&TWINS, 7), Some("First"));
+    assert_eq!(rt; short_of(&[], 7), None);
     Ok(())
 }
 
@@ -90,17 +123,31 @@ fn is_signal(signal: &Signal, about: Option<&[u8]>) -> bool {
         }
 }
 
-/// Whether the error signal with the code 7 says of this message what it should.
+/// The error signal with the code 7 about this message.
 #[tactic(auto, unfolding(exchange_model::specs::ErrorCodes::error_row, exchange_model::specs::ErrorCodes::error_table))]
-fn tells_of(alloc: Global, id: Option<&MessageId>, about: Option<&[u8]>) -> Result<bool, NoMemory> {
-    let signal = error_signal(alloc, 7, id, 0, 1)?;
-    Ok(is_signal(&signal, about))
+fn signal_about(alloc: Global, id: Option<&MessageId>) -> Result<Signal, NoMemory> {
+    error_signal(alloc, 7, id, 0, 1)
+}
+
+/// Whether that signal says of the message what it should.
+fn tells_of(alloc: Global, id: Option<&MessageId>, about: Option<&[u8]>) -> Option<bool> {
+    let signal = signal_about(alloc, id).ok()?;
+    let tells = is_signal(&signal, about);
+    drop(signal);
+    Some(tells)
+}
+
+/// The same of a message with this identifier.
+fn tells_of_id(alloc: Global, about: &[u8]) -> Option<bool> {
+    let id = MessageId::read(alloc, about).ok()?;
+    let tells = tells_of(alloc, Some(&id), Some(about));
+    drop(id);
+    tells
 }
 
 #[test]
 fn an_error_signal_says_what_its_row_says(rt: HostRuntime) -> Result<(), Fail> {
-    let id = MessageId::read(rt.alloc(), b"m1@a")?;
-    assert!(rt; tells_of(rt.alloc(), None, None)?);
-    assert!(rt; tells_of(rt.alloc(), Some(&id), Some(b"m1@a"))?);
+    assert_eq!(rt; tells_of(rt.alloc(), None, None), Some(true));
+    assert_eq!(rt; tells_of_id(rt.alloc(), b"m1@a"), Some(true));
     Ok(())
 }

@@ -1,8 +1,8 @@
-ghost use Rattle.std.specs.Prelude.{◌<◌, ◌≤◌, IfSome, length, vec_len};
+ghost use Rattle.std.specs.Prelude.{◌≡◌, ◌<◌, ◌≤◌, IfSome, length, vec_len};
 
 use as4_values::{
-    Agreement, Code, ErrorItem, MessageId, NoMemory, PartInfo, Party, Property, Seq, Service,
-    Severity, Side, Signal, SignalBody, StampText, Text, Unit, UserHeader, read_stamp,
+    Agreement, Code, ErrorItem, MessageId, PartInfo, Party, Property, Seq, Service, Severity, Side,
+    Signal, SignalBody, StampText, Text, Unit, UserHeader, read_stamp,
 };
 use header_writer::write_envelope;
 use std::alloc::Global;
@@ -29,23 +29,38 @@ const SIGNAL_START: &[u8] =
 
 const REFERENCE: &[u8] = b"<eb:RefToMessageId>m0@a</eb:RefToMessageId>";
 
-/// Whether the unit's envelope is the pieces one after another, between an envelope's start and end.
-fn is_written(alloc: Global, unit: &Unit, pieces: &[&[u8]]) -> Result<bool, NoMemory> {
-    let mut wanted = Vec::from_slice(alloc, START)?;
+/// Whether the text is the pieces one after another.
+fn is_joined(text: &[u8], pieces: &[&[u8]]) -> bool {
+    let mut rest = text;
     for piece in pieces {
-        wanted.extend_from_slice(piece)?;
+        match rest.strip_prefix(*piece) {
+            Some(behind) => rest = behind,
+            None => return false,
+        }
     }
-    wanted.extend_from_slice(END)?;
-    let text = write_envelope(alloc, unit)?;
-    Ok(text.bytes() == wanted.as_slice())
+    rest.is_empty()
 }
 
-/// The same of a unit that may be missing.
+/// Whether the text is that of an envelope around the pieces.
+fn is_envelope(text: &[u8], pieces: &[&[u8]]) -> bool {
+    match text.strip_prefix(START) {
+        Some(rest) => match rest.strip_suffix(END) {
+            Some(inside) => is_joined(inside, pieces),
+            None => false,
+        },
+        None => false,
+    }
+}
+
+/// Whether the unit's envelope is the pieces one after another, between an envelope's start and end.
 fn is_text_of(alloc: Global, unit: Option<Unit>, pieces: &[&[u8]]) -> Option<bool> {
     let unit = unit?;
-    let is_written = is_written(alloc, &unit, pieces);
+    let text = write_envelope(alloc, &unit);
     drop(unit);
-    is_written.ok()
+    let text = text.ok()?;
+    let is_written = is_envelope(text.bytes(), pieces);
+    drop(text);
+    Some(is_written)
 }
 
 fn text(alloc: Global, word: &[u8]) -> Option<Text> {
@@ -177,24 +192,16 @@ fn collaboration(
 fn lists(alloc: Global, full: bool) -> Option<(Seq<Property>, Seq<PartInfo>)>
     ensures { IfSome result (λ lists. (length lists.0 ≤ 2) × (length lists.1 ≤ 2)) }
 {
-    let properties = properties(alloc, full)?;
-    let Some(parts) = parts(alloc, full) else {
-        drop(properties);
-        return None;
-    };
-    Some((properties, parts))
+    properties(alloc, full).zip(parts(alloc, full))
 }
 
 fn header(alloc: Global, full: bool) -> Option<UserHeader> {
     let start = optional(alloc, full, b"urn:mpc").zip(names(alloc, full));
     let who = start.zip(sides(alloc, full));
-    let said = who.zip(collaboration(alloc, full))?;
-    let Some((properties, parts)) = lists(alloc, full) else {
-        drop(said);
-        return None;
-    };
-    let (((mpc, (stamp, id, ref_to)), (from, to)), work) = said;
+    let what = collaboration(alloc, full).zip(lists(alloc, full));
+    let (((mpc, (stamp, id, ref_to)), (from, to)), (work, lists)) = who.zip(what)?;
     let (agreement, service, action, conversation) = work;
+    let (properties, parts) = lists;
     Some(UserHeader {
         mpc,
         stamp,
@@ -218,9 +225,8 @@ fn is_header(alloc: Global, full: bool, wanted: &[u8]) -> Option<bool> {
 
 #[test]
 fn each_part_of_a_header_is_written_or_left_out(rt: HostRuntime) -> Result<(), Fail> {
-    for (full, wanted) in [(true, FULL.as_bytes()), (false, BARE)] {
-        assert_eq!(rt; is_header(rt.alloc(), full, wanted), Some(true), "{full}");
-    }
+    assert_eq!(rt; is_header(rt.alloc(), true, FULL.as_bytes()), Some(true));
+    assert_eq!(rt; is_header(rt.alloc(), false, BARE), Some(true));
     Ok(())
 }
 
@@ -277,13 +283,8 @@ fn is_receipt(alloc: Global, has_copy: bool, wanted: &[u8]) -> Option<bool> {
 
 #[test]
 fn a_receipt_has_a_copy_or_none(rt: HostRuntime) -> Result<(), Fail> {
-    for (has_copy, wanted) in [(false, b"".as_slice()), (true, BARE)] {
-        assert_eq!(rt;
-            is_receipt(rt.alloc(), has_copy, wanted),
-            Some(true),
-            "{has_copy}"
-        );
-    }
+    assert_eq!(rt; is_receipt(rt.alloc(), false, b""), Some(true));
+    assert_eq!(rt; is_receipt(rt.alloc(), true, BARE), Some(true));
     Ok(())
 }
 
@@ -327,12 +328,15 @@ fn error(alloc: Global, full: bool) -> Option<ErrorItem> {
     })
 }
 
+/// One error, full or bare.
+fn items(alloc: Global, full: bool) -> Option<Seq<ErrorItem>>
+    ensures { IfSome result (λ items. length items ≡ 1) }
+{
+    Some(Seq::of(vec![in alloc; error(alloc, full)?].ok()?))
+}
+
 fn errors(alloc: Global, full: bool) -> Option<Unit> {
-    let items = Seq::of(vec![in alloc; error(alloc, full)?].ok()?);
-    let Some((stamp, id, ref_to)) = names(alloc, false) else {
-        drop(items);
-        return None;
-    };
+    let ((stamp, id, ref_to), items) = names(alloc, false).zip(items(alloc, full))?;
     Some(Unit::Signal(Signal {
         stamp,
         id,
@@ -348,20 +352,14 @@ fn is_error(alloc: Global, full: bool, wanted: &[u8]) -> Option<bool> {
     is_text_of(alloc, errors(alloc, full), &pieces)
 }
 
+const FULL_ERROR: &[u8] =
+    b"<eb:Error errorCode=\"EBMS:0004\" severity=\"warning\" origin=\"ebMS\" category=\"Content\" refToMessageInError=\"m0@a\" shortDescription=\"Other\"><eb:Description>described</eb:Description><eb:ErrorDetail>detailed</eb:ErrorDetail>";
+
+const BARE_ERROR: &[u8] = b"<eb:Error errorCode=\"EBMS:0004\" severity=\"failure\">";
+
 #[test]
 fn an_error_has_each_attribute_or_none(rt: HostRuntime) -> Result<(), Fail> {
-    let table = [
-        (
-            true,
-            b"<eb:Error errorCode=\"EBMS:0004\" severity=\"warning\" origin=\"ebMS\" category=\"Content\" refToMessageInError=\"m0@a\" shortDescription=\"Other\"><eb:Description>described</eb:Description><eb:ErrorDetail>detailed</eb:ErrorDetail>".as_slice(),
-        ),
-        (
-            false,
-            b"<eb:Error errorCode=\"EBMS:0004\" severity=\"failure\">",
-        ),
-    ];
-    for (full, wanted) in table {
-        assert_eq!(rt; is_error(rt.alloc(), full, wanted), Some(true), "{full}");
-    }
+    assert_eq!(rt; is_error(rt.alloc(), true, FULL_ERROR), Some(true));
+    assert_eq!(rt; is_error(rt.alloc(), false, BARE_ERROR), Some(true));
     Ok(())
 }

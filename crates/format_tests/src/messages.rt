@@ -48,11 +48,20 @@ fn rewritten(alloc: Global) -> Option<Wire> {
     wire.ok()
 }
 
+/// Whether its media text and its body are those that were read.
+fn are_rewritten(alloc: Global) -> Option<(bool, bool)> {
+    let wire = rewritten(alloc)?;
+    let same = (
+        wire.media.bytes() == MEDIA,
+        wire.body.bytes() == BODY.as_bytes(),
+    );
+    drop(wire);
+    Some(same)
+}
+
 #[test]
 fn a_message_is_read_and_written_again(rt: HostRuntime) -> Result<(), Fail> {
-    let wire = rewritten(rt.alloc()).ok_or("refused")?;
-    assert_eq!(rt; wire.media.bytes(), MEDIA);
-    assert_eq!(rt; wire.body.bytes(), BODY.as_bytes());
+    assert_eq!(rt; are_rewritten(rt.alloc()), Some((true, true)));
     Ok(())
 }
 
@@ -92,10 +101,17 @@ fn receipt_file(alloc: Global) -> Option<Octets> {
     file.ok()
 }
 
+/// Whether the file of the receipt has these bytes.
+fn is_receipt(alloc: Global, wanted: &[u8]) -> Option<bool> {
+    let file = receipt_file(alloc)?;
+    let is_receipt = file.bytes() == wanted;
+    drop(file);
+    Some(is_receipt)
+}
+
 #[test]
 fn a_receipt_is_written(rt: HostRuntime) -> Result<(), Fail> {
-    let file = receipt_file(rt.alloc()).ok_or("refused")?;
-    assert_eq!(rt; file.bytes(), RECEIPT.as_bytes());
+    assert_eq!(rt; is_receipt(rt.alloc(), RECEIPT.as_bytes()), Some(true));
     Ok(())
 }
 
@@ -132,12 +148,23 @@ fn is_same_with(alloc: Global, old: &str, new: &str) -> Option<bool> {
     is_same
 }
 
+/// Changes of the body that make another message of it.
+const CHANGES: [(&str, &str); 3] = [("buyer", "seller"), ("c1", "c2"), ("hello", "hallo")];
+
+/// The first change that isn't read as another message.
+fn first_same(alloc: Global, changes: &[(&str, &str)]) -> Option<usize> {
+    for (at, (old, new)) in changes.iter().enumerate() {
+        if is_same_with(alloc, old, new) != Some(false) {
+            return Some(at);
+        }
+    }
+    None
+}
+
 #[test]
 fn a_copy_of_a_message_is_the_same_and_another_message_is_not(rt: HostRuntime) -> Result<(), Fail> {
     assert_eq!(rt; copy_is_same(rt.alloc()), Some(true));
-    for (old, new) in [("buyer", "seller"), ("c1", "c2"), ("hello", "hallo")] {
-        assert_eq!(rt; is_same_with(rt.alloc(), old, new), Some(false), "{new}");
-    }
+    assert_eq!(rt; first_same(rt.alloc(), &CHANGES), None);
     Ok(())
 }
 
@@ -150,20 +177,26 @@ fn is_read_as(alloc: Global, spelled: &str, text: &[u8]) -> Option<bool> {
     Some(is_read)
 }
 
+/// How an identifier is spelled, and what it is then.
+const SPELLINGS: [(&str, &[u8]); 3] = [
+    ("m&amp;1@a", b"m&1@a"),
+    ("&quot;m&quot;@a", b"\"m\"@a"),
+    ("&amp;amp;", b"&amp;"),
+];
+
+/// The first spelling that isn't read so.
+fn first_misread(alloc: Global, spellings: &[(&str, &[u8])]) -> Option<usize> {
+    for (at, (spelled, text)) in spellings.iter().enumerate() {
+        if is_read_as(alloc, spelled, text) != Some(true) {
+            return Some(at);
+        }
+    }
+    None
+}
+
 #[test]
 fn an_identifier_is_read_without_its_escapes(rt: HostRuntime) -> Result<(), Fail> {
-    let table = [
-        ("m&amp;1@a", b"m&1@a".as_slice()),
-        ("&quot;m&quot;@a", b"\"m\"@a".as_slice()),
-        ("&amp;amp;", b"&amp;".as_slice()),
-    ];
-    for (spelled, text) in table {
-        assert_eq!(rt;
-            is_read_as(rt.alloc(), spelled, text),
-            Some(true),
-            "{spelled}"
-        );
-    }
+    assert_eq!(rt; first_misread(rt.alloc(), &SPELLINGS), None);
     Ok(())
 }
 
@@ -197,48 +230,60 @@ fn refusal_with(alloc: Global, old: &str, new: &str) -> Option<u16> {
     refusal(alloc, MEDIA, body.as_str())
 }
 
+/// Changes of the body after which no message is read.
+const OTHERS: [(&str, &str); 11] = [
+    ("--\r\n", "--\r"),
+    ("--\r\n", "--\r\n\n"),
+    ("hello", "--as4-0000000000000000"),
+    ("hello\r\n", "hello\n"),
+    ("</eb:From>", "</eb:From>\n"),
+    (
+        "<eb:Service>orders</eb:Service><eb:Action>invoice</eb:Action>",
+        "<eb:Action>invoice</eb:Action><eb:Service>orders</eb:Service>",
+    ),
+    ("<eb:ConversationId>c1</eb:ConversationId>", ""),
+    ("m1@a", "&foo;"),
+    ("m1@a", "m1&lt;a"),
+    ("2025-01-02T", "2025-13-02T"),
+    ("Content-ID: <p1@a>", "Content-ID: <p2@a>"),
+];
+
+/// The first change after which the body is read, or refused with a code.
+fn first_read(alloc: Global, changes: &[(&str, &str)]) -> Option<usize> {
+    for (at, (old, new)) in changes.iter().enumerate() {
+        if refusal_with(alloc, old, new) != Some(0) {
+            return Some(at);
+        }
+    }
+    None
+}
+
 #[test]
 fn no_other_spelling_is_read(rt: HostRuntime) -> Result<(), Fail> {
-    let table = [
-        ("--\r\n", "--\r"),
-        ("--\r\n", "--\r\n\n"),
-        ("hello", "--as4-0000000000000000"),
-        ("hello\r\n", "hello\n"),
-        ("</eb:From>", "</eb:From>\n"),
-        (
-            "<eb:Service>orders</eb:Service><eb:Action>invoice</eb:Action>",
-            "<eb:Action>invoice</eb:Action><eb:Service>orders</eb:Service>",
-        ),
-        ("<eb:ConversationId>c1</eb:ConversationId>", ""),
-        ("m1@a", "&foo;"),
-        ("m1@a", "m1&lt;a"),
-        ("2025-01-02T", "2025-13-02T"),
-        ("Content-ID: <p1@a>", "Content-ID: <p2@a>"),
-    ];
-    for (old, new) in table {
-        let refusal = refusal_with(rt.alloc(), old, new);
-        assert_eq!(rt; refusal, Some(0), "{new} for {old}");
-    }
+    assert_eq!(rt; first_read(rt.alloc(), &OTHERS), None);
     Ok(())
+}
+
+/// A media text, a body, and the code of the refusal.
+const OTHER_MEDIA: [(&[u8], &str, u16); 4] = [
+    (MEDIA, "", 0),
+    (b"multipart/related", BODY, 0),
+    (b"", BODY, 7),
+    (b"", "", 7),
+];
+
+/// The first row that isn't refused so.
+fn first_other(alloc: Global, rows: &[(&[u8], &str, u16)]) -> Option<usize> {
+    for (at, (media, body, code)) in rows.iter().enumerate() {
+        if refusal(alloc, media, body) != Some(*code) {
+            return Some(at);
+        }
+    }
+    None
 }
 
 #[test]
 fn no_other_media_text_is_read(rt: HostRuntime) -> Result<(), Fail> {
-    let table: [(&[u8], &str, u16); 4] = [
-        (MEDIA, "", 0),
-        (b"multipart/related", BODY, 0),
-        (b"", BODY, 7),
-        (b"", "", 7),
-    ];
-    for (media, body, code) in table {
-        let refusal = refusal(rt.alloc(), media, body);
-        assert_eq!(rt;
-            refusal,
-            Some(code),
-            "{} and {} bytes",
-            media.len(),
-            body.len()
-        );
-    }
+    assert_eq!(rt; first_other(rt.alloc(), &OTHER_MEDIA), None);
     Ok(())
 }

@@ -16,16 +16,16 @@ use std::process::Abort;
 #[test]
 fn a_tick_and_a_confirmation_are_their_numbers(rt: HostRuntime) {
     assert_eq!(rt;
-        tick_body(1000).as_slice(),
-        b"\x00\x01\x02\x00\x00\x00\x00\x00\x00\x03\xe8".as_slice()
-    );
-    assert_eq!(rt;
-        tick_body(253_402_300_799_999).as_slice(),
-        b"\x00\x01\x02\x00\x00\xe6\x77\xd2\x1f\xdb\xff".as_slice()
-    );
-    assert_eq!(rt;
-        confirm_body(0x0102030405060708).as_slice(),
-        b"\x00\x01\x07\x01\x02\x03\x04\x05\x06\x07\x08".as_slice()
+        [
+            tick_body(1000),
+            tick_body(253_402_300_799_999),
+            confirm_body(0x0102030405060708),
+        ],
+        [
+            *b"\x00\x01\x02\x00\x00\x00\x00\x00\x00\x03\xe8",
+            *b"\x00\x01\x02\x00\x00\xe6\x77\xd2\x1f\xdb\xff",
+            *b"\x00\x01\x07\x01\x02\x03\x04\x05\x06\x07\x08",
+        ]
     );
 }
 
@@ -207,20 +207,6 @@ fn refused(rt: &(impl Abort + AllocGlobal)) -> Effect {
     }
 }
 
-/// Whether the body of the effects is the pieces one after another, and as long, and is read back.
-fn is_body(rt: &(impl Abort + AllocGlobal), effects: Vec<Effect>, pieces: &[&[u8]]) -> bool {
-    assert!(rt; !effects.is_empty() && effects.len() <= 3);
-    let effects = Seq::of(effects);
-    let len = body_len(&effects);
-    assert!(rt; len <= 1000);
-    let wanted = joined(rt, pieces);
-    let body = write_body(rt.alloc(), &effects).expect(rt, "memory");
-    let same = body.bytes() == wanted.as_slice() && len == wanted.len() as u64;
-    let back = is_read_back(rt, &effects, wanted.as_slice());
-    drop(effects);
-    same && back
-}
-
 fn joined(rt: &(impl Abort + AllocGlobal), pieces: &[&[u8]]) -> Vec<u8> {
     let mut bytes = Vec::new(rt.alloc());
     for piece in pieces {
@@ -229,13 +215,31 @@ fn joined(rt: &(impl Abort + AllocGlobal), pieces: &[&[u8]]) -> Vec<u8> {
     bytes
 }
 
+/// Whether the body of the effects is these bytes, and as long.
+fn is_written(rt: &(impl Abort + AllocGlobal), effects: &Seq<Effect>, bytes: &[u8]) -> bool {
+    let count = effects.items().len();
+    assert!(rt; 0 < count && count <= 3);
+    let len = body_len(effects);
+    assert!(rt; len <= 1000);
+    let body = write_body(rt.alloc(), effects).expect(rt, "memory");
+    body.bytes() == bytes && len == bytes.len() as u64
+}
+
 /// Whether the bytes are read as the effects, and written as they stood.
 fn is_read_back(rt: &(impl Abort + AllocGlobal), effects: &Seq<Effect>, bytes: &[u8]) -> bool {
-    assert!(rt; bytes.len() <= 1000);
     let read = read_body(rt.alloc(), bytes).expect(rt, "a body");
-    let again = write_body(rt.alloc(), &read).expect(rt, "memory");
-    let same = read.same(effects) && again.bytes() == bytes;
+    let same = read.same(effects) && is_written(rt, &read, bytes);
     drop(read);
+    same
+}
+
+/// Whether the body of the effects is the pieces one after another, and as long, and is read back.
+fn is_body(rt: &(impl Abort + AllocGlobal), effects: Vec<Effect>, pieces: &[&[u8]]) -> bool {
+    let effects = Seq::of(effects);
+    let wanted = joined(rt, pieces);
+    let same = is_written(rt, &effects, wanted.as_slice())
+        && is_read_back(rt, &effects, wanted.as_slice());
+    drop(effects);
     same
 }
 
@@ -308,6 +312,9 @@ const PUSH: &[u8] = b"\0\0\0\0\x09http://h/";
 /// Retries, period and moment.
 const TERMS: &[u8] = b"\0\0\0\x03\0\0\0\0\0\0\xea\x60\0\0\0\0\0\0\x03\xe8";
 
+/// The body of a bare delivery.
+const DELIVERY: [&[u8]; 6] = [DELIVERED, b"\0", START, M1, BARE, NO_PAYLOADS];
+
 fn is_delivered(rt: &(impl Abort + AllocGlobal), full: bool) -> bool {
     let effects = vec![in rt.alloc(); delivered(rt, full)].expect(rt, "memory");
     if full {
@@ -317,13 +324,22 @@ fn is_delivered(rt: &(impl Abort + AllocGlobal), full: bool) -> bool {
             &[DELIVERED, FULL_MPC, START, M1, FULL, PAYLOAD],
         )
     } else {
-        is_body(
-            rt,
-            effects,
-            &[DELIVERED, b"\0", START, M1, BARE, NO_PAYLOADS],
-        )
+        is_body(rt, effects, &DELIVERY)
     }
 }
+
+/// The body of a bare submission.
+const SUBMISSION: [&[u8]; 9] = [
+    SUBMITTED,
+    SEVEN,
+    b"\0",
+    START,
+    ID,
+    BARE,
+    NO_PAYLOADS,
+    PUSH,
+    TERMS,
+];
 
 fn is_submitted(rt: &(impl Abort + AllocGlobal), full: bool) -> bool {
     let effects = vec![in rt.alloc(); submitted(rt, full)].expect(rt, "memory");
@@ -337,21 +353,7 @@ fn is_submitted(rt: &(impl Abort + AllocGlobal), full: bool) -> bool {
             ],
         )
     } else {
-        is_body(
-            rt,
-            effects,
-            &[
-                SUBMITTED,
-                SEVEN,
-                b"\0",
-                START,
-                ID,
-                BARE,
-                NO_PAYLOADS,
-                PUSH,
-                TERMS,
-            ],
-        )
+        is_body(rt, effects, &SUBMISSION)
     }
 }
 
@@ -375,18 +377,25 @@ const TICK: &[u8] = b"\0\x01\x02\0\0\0\0\0\0\x03\xe8";
 const BLANK: &[u8] =
     b"\0\0\0\0\x01\0\0\0\x01a\0\0\0\0\x01r\0\0\0\x01\0\0\0\x01b\0\0\0\0\x01r\0\0\0\0\x01s\0\0\0\0\x04act \0\0\0\0\x01\0\0\0\x01n\0\0\0\0\0\0";
 
-#[test]
-fn a_tick_is_read(rt: HostRuntime) {
-    let effects = read_body(rt.alloc(), TICK).expect(&rt, "a body");
-    assert_eq!(rt; effects.items().len(), 1);
-    assert!(rt; matches!(&effects.items()[0], Effect::Ticked(tick) if tick.moment == 1000));
+/// The moment of the one tick that is read of the bytes.
+fn tick_of(rt: &(impl Abort + AllocGlobal), bytes: &[u8]) -> Option<u64> {
+    let effects = read_body(rt.alloc(), bytes).expect(rt, "a body");
+    let moment = match effects.items() {
+        [Effect::Ticked(tick)] => Some(tick.moment),
+        _ => None,
+    };
     drop(effects);
+    moment
 }
 
-/// Whether the pieces, one after another, are refused as no body.
-fn are_no_body(rt: &(impl Abort + AllocGlobal), pieces: &[&[u8]]) -> bool {
-    let bytes = joined(rt, pieces);
-    match read_body(rt.alloc(), bytes.as_slice()) {
+#[test]
+fn a_tick_is_read(rt: HostRuntime) {
+    assert_eq!(rt; tick_of(&rt, TICK), Some(1000));
+}
+
+/// Whether the bytes are refused as no body.
+fn is_no_body(rt: &(impl Abort + AllocGlobal), bytes: &[u8]) -> bool {
+    match read_body(rt.alloc(), bytes) {
         Ok(effects) => {
             drop(effects);
             false
@@ -412,7 +421,7 @@ const OTHERS: [(&str, &[u8]); 7] = [
 #[test]
 fn other_bytes_are_no_body(rt: HostRuntime) {
     for (name, bytes) in &OTHERS {
-        assert!(rt; are_no_body(&rt, &[bytes]), "{name}");
+        assert!(rt; is_no_body(&rt, bytes), "{name}");
     }
 }
 
@@ -420,133 +429,80 @@ fn other_bytes_are_no_body(rt: HostRuntime) {
 const ALONE: &[u8] =
     b"\0\0\0\0\0\0\0\0\x01r\0\0\0\x01\0\0\0\x01b\0\0\0\0\x01r\0\0\0\0\x01s\0\0\0\0\x03act\0\0\0\0\x01\0\0\0\x01n\0\0\0\0\0\0";
 
-/// Pieces of the body of a delivery, one of them wrong.
-const OTHER_DELIVERIES: [(&str, [&[u8]; 6]); 9] = [
-    (
-        "a blank at the end of a text",
-        [DELIVERED, b"\0", START, M1, BLANK, NO_PAYLOADS],
-    ),
-    (
-        "a control character",
-        [
-            DELIVERED,
-            b"\x01\0\0\0\x01\x01",
-            START,
-            M1,
-            BARE,
-            NO_PAYLOADS,
-        ],
-    ),
-    (
-        "neither a value nor none",
-        [DELIVERED, b"\x02\0\0\0\x01q", START, M1, BARE, NO_PAYLOADS],
-    ),
-    (
-        "a stamp without a time",
-        [
-            DELIVERED,
-            b"\0",
-            b"\0\0\0\x0a2025-01-02",
-            M1,
-            BARE,
-            NO_PAYLOADS,
-        ],
-    ),
-    (
-        "a space in an identifier",
-        [DELIVERED, b"\0", START, b"\0\0\0\x02m ", BARE, NO_PAYLOADS],
-    ),
-    (
-        "a side of no party",
-        [DELIVERED, b"\0", START, M1, ALONE, NO_PAYLOADS],
-    ),
-    (
-        "a payload without a part info",
-        [DELIVERED, b"\0", START, M1, BARE, PAYLOAD],
-    ),
+/// What is wrong in the body of a delivery, and the place and the bytes of that piece.
+const OTHER_DELIVERIES: [(&str, usize, &[u8]); 9] = [
+    ("a blank at the end of a text", 4, BLANK),
+    ("a control character", 1, b"\x01\0\0\0\x01\x01"),
+    ("neither a value nor none", 1, b"\x02\0\0\0\x01q"),
+    ("a stamp without a time", 2, b"\0\0\0\x0a2025-01-02"),
+    ("a space in an identifier", 3, b"\0\0\0\x02m "),
+    ("a side of no party", 4, ALONE),
+    ("a payload without a part info", 5, PAYLOAD),
     (
         "a space in a Content-ID",
-        [
-            DELIVERED,
-            b"\0",
-            START,
-            M1,
-            BARE,
-            b"\0\0\0\x01\0\0\0\x02p \0\0\0\0\0\0\0\0",
-        ],
+        5,
+        b"\0\0\0\x01\0\0\0\x02p \0\0\0\0\0\0\0\0",
     ),
     (
         "a media text of two lines",
-        [
-            DELIVERED,
-            b"\0",
-            START,
-            M1,
-            BARE,
-            b"\0\0\0\x01\0\0\0\x01p\0\0\0\x03t\n/\0\0\0\0",
-        ],
+        5,
+        b"\0\0\0\x01\0\0\0\x01p\0\0\0\x03t\n/\0\0\0\0",
     ),
 ];
+
+/// Whether the pieces, with another one in this place, are refused as no body.
+fn are_no_body(
+    rt: &(impl Abort + AllocGlobal),
+    pieces: &[&[u8]],
+    place: usize,
+    other: &[u8],
+) -> bool {
+    let mut bytes = Vec::new(rt.alloc());
+    for (at, piece) in pieces.iter().enumerate() {
+        let piece = if at == place { other } else { *piece };
+        bytes.extend_from_slice(piece).expect(rt, "memory");
+    }
+    is_no_body(rt, bytes.as_slice())
+}
+
+/// What is wrong in the first of the others that is a body all the same.
+fn first_body(
+    rt: &(impl Abort + AllocGlobal),
+    pieces: &[&[u8]],
+    others: &[(&'static str, usize, &[u8])],
+) -> Option<&'static str> {
+    for (name, place, other) in others {
+        if !are_no_body(rt, pieces, *place, other) {
+            return Some(*name);
+        }
+    }
+    None
+}
 
 #[test]
 fn other_deliveries_are_no_body(rt: HostRuntime) {
-    assert!(rt; !are_no_body(&rt, &[DELIVERED, b"\0", START, M1, BARE, NO_PAYLOADS]));
-    for (name, pieces) in &OTHER_DELIVERIES {
-        assert!(rt; are_no_body(&rt, pieces), "{name}");
-    }
+    assert!(rt; !is_no_body(&rt, joined(&rt, &DELIVERY).as_slice()));
+    assert_eq!(rt; first_body(&rt, &DELIVERY, &OTHER_DELIVERIES), None);
 }
 
-/// A number, a route and terms, one of them wrong.
-const OTHER_SUBMISSIONS: [(&str, [&[u8]; 3]); 4] = [
+/// What is wrong in the body of a submission, and the place and the bytes of that piece.
+const OTHER_SUBMISSIONS: [(&str, usize, &[u8]); 4] = [
     (
         "another number than the identifier's",
-        [b"\0\0\0\0\0\0\0\x08", PUSH, TERMS],
+        1,
+        b"\0\0\0\0\0\0\0\x08",
     ),
-    (
-        "an unknown route",
-        [SEVEN, b"\x02\0\0\0\x09http://h/", TERMS],
-    ),
-    (
-        "an address without a host",
-        [SEVEN, b"\0\0\0\0\x07http://", TERMS],
-    ),
+    ("an unknown route", 7, b"\x02\0\0\0\x09http://h/"),
+    ("an address without a host", 7, b"\0\0\0\0\x07http://"),
     (
         "1,001 retries",
-        [
-            SEVEN,
-            PUSH,
-            b"\0\0\x03\xe9\0\0\0\0\0\0\xea\x60\0\0\0\0\0\0\x03\xe8",
-        ],
+        8,
+        b"\0\0\x03\xe9\0\0\0\0\0\0\xea\x60\0\0\0\0\0\0\x03\xe8",
     ),
 ];
 
-/// Whether a submission of a bare header and these is refused as no body.
-fn is_no_submission(
-    rt: &(impl Abort + AllocGlobal),
-    number: &[u8],
-    route: &[u8],
-    terms: &[u8],
-) -> bool {
-    are_no_body(
-        rt,
-        &[
-            SUBMITTED,
-            number,
-            b"\0",
-            START,
-            ID,
-            BARE,
-            NO_PAYLOADS,
-            route,
-            terms,
-        ],
-    )
-}
-
 #[test]
 fn other_submissions_are_no_body(rt: HostRuntime) {
-    assert!(rt; !is_no_submission(&rt, SEVEN, PUSH, TERMS));
-    for (name, [number, route, terms]) in &OTHER_SUBMISSIONS {
-        assert!(rt; is_no_submission(&rt, number, route, terms), "{name}");
-    }
+    assert!(rt; !is_no_body(&rt, joined(&rt, &SUBMISSION).as_slice()));
+    assert_eq!(rt; first_body(&rt, &SUBMISSION, &OTHER_SUBMISSIONS), None);
 }

@@ -74,9 +74,14 @@ fn element(
     }
 }
 
-/// An ebMS element without attributes that holds a text.
-fn leaf(alloc: Global, local: &[u8], text: &[u8]) -> Result<Element, NoMemory> {
-    let name = both(octets(alloc, EBMS), octets(alloc, local));
+/// An element without attributes that holds a text.
+fn text_element(
+    alloc: Global,
+    space: &[u8],
+    local: &[u8],
+    text: &[u8],
+) -> Result<Element, NoMemory> {
+    let name = both(octets(alloc, space), octets(alloc, local));
     let ((space, local), text) = both(name, octets(alloc, text))?;
     Ok(Element {
         space,
@@ -85,6 +90,11 @@ fn leaf(alloc: Global, local: &[u8], text: &[u8]) -> Result<Element, NoMemory> {
         text,
         children: Seq::of(Vec::new(alloc)),
     })
+}
+
+/// The same in the namespace of ebMS.
+fn leaf(alloc: Global, local: &[u8], text: &[u8]) -> Result<Element, NoMemory> {
+    text_element(alloc, EBMS, local, text)
 }
 
 /// An ebMS element that holds these elements.
@@ -101,7 +111,8 @@ fn text_of(alloc: Global, tree: &Element) -> Result<Option<Octets>, NoMemory> {
 }
 
 /// Whether the tree is written so.
-fn writes(alloc: Global, tree: Element, wanted: &[u8]) -> Result<bool, NoMemory> {
+fn writes(alloc: Global, tree: Result<Element, NoMemory>, wanted: &[u8]) -> Result<bool, NoMemory> {
+    let tree = tree?;
     let text = text_of(alloc, &tree);
     drop(tree);
     match text? {
@@ -120,67 +131,90 @@ fn can_be_written(tree: Result<Element, NoMemory>) -> Result<bool, NoMemory> {
 
 #[test]
 fn an_empty_element_has_two_tags(rt: HostRuntime) -> Result<(), Fail> {
-    let tree = leaf(rt.alloc(), b"A", b"")?;
+    let tree = leaf(rt.alloc(), b"A", b"");
     let wanted =
         b"<eb:A xmlns:S=\"http://www.w3.org/2003/05/soap-envelope\" xmlns:eb=\"http://docs.oasis-open.org/ebxml-msg/ebms/v3.0/ns/core/200704/\"></eb:A>";
-    assert!(rt; writes(rt.alloc(), tree, wanted)?);
+    assert_eq!(rt; writes(rt.alloc(), tree, wanted), Ok(true));
     Ok(())
+}
+
+/// An element with a text and with two children.
+fn mixed(alloc: Global, text: &[u8]) -> Result<Element, NoMemory> {
+    let children = leaves(alloc, &[(b"B", b"b"), (b"C", b"")])?;
+    let (text, mut tree) = both(octets(alloc, text), nest(alloc, b"A", children))?;
+    tree.text = text;
+    Ok(tree)
 }
 
 #[test]
 fn text_stands_before_children(rt: HostRuntime) -> Result<(), Fail> {
-    let alloc = rt.alloc();
-    let text = octets(alloc, "t\u{e9} \u{1f600}&<>\"'\t\n\r]]>".as_bytes());
-    let children = leaves(alloc, &[(b"B", b"b"), (b"C", b"")])?;
-    let (text, mut tree) = both(text, nest(alloc, b"A", children))?;
-    tree.text = text;
+    let tree = mixed(rt.alloc(), "t\u{e9} \u{1f600}&<>\"'\t\n\r]]>".as_bytes());
     let wanted =
         "<eb:A xmlns:S=\"http://www.w3.org/2003/05/soap-envelope\" xmlns:eb=\"http://docs.oasis-open.org/ebxml-msg/ebms/v3.0/ns/core/200704/\">t\u{e9} \u{1f600}&amp;&lt;&gt;&quot;'&#9;&#10;&#13;]]&gt;<eb:B>b</eb:B><eb:C></eb:C></eb:A>";
-    assert!(rt; writes(alloc, tree, wanted.as_bytes())?);
+    assert_eq!(rt; writes(rt.alloc(), tree, wanted.as_bytes()), Ok(true));
     Ok(())
 }
 
-/// Attributes in each of the two namespaces and in none, with one local name.
-fn three_attributes(alloc: Global) -> Result<Vec<Attribute>, NoMemory> {
+/// An element with attributes in each of the two namespaces and in none, with one local name.
+fn with_three_attributes(alloc: Global) -> Result<Element, NoMemory> {
     let one = attribute(alloc, SOAP, b"x", b"1&\"\t\n\r<>");
     let two = attribute(alloc, b"", b"x", b"");
     let three = attribute(alloc, EBMS, b"x", b"3");
     let ((one, two), three) = both(both(one, two), three)?;
-    Ok(vec![in alloc; one, two, three]?)
+    let attributes = vec![in alloc; one, two, three]?;
+    element(alloc, SOAP, b"A", attributes, Vec::new(alloc))
 }
 
 #[test]
 fn attributes_have_the_prefix_of_their_namespace(rt: HostRuntime) -> Result<(), Fail> {
-    let alloc = rt.alloc();
-    let tree = element(alloc, SOAP, b"A", three_attributes(alloc)?, Vec::new(alloc))?;
+    let tree = with_three_attributes(rt.alloc());
     let wanted =
         b"<S:A xmlns:S=\"http://www.w3.org/2003/05/soap-envelope\" xmlns:eb=\"http://docs.oasis-open.org/ebxml-msg/ebms/v3.0/ns/core/200704/\" S:x=\"1&amp;&quot;&#9;&#10;&#13;&lt;&gt;\" x=\"\" eb:x=\"3\"></S:A>";
-    assert!(rt; writes(alloc, tree, wanted)?);
+    assert_eq!(rt; writes(rt.alloc(), tree, wanted), Ok(true));
     Ok(())
+}
+
+/// A namespace and a text with which no element can be written.
+const OTHER_KINDS: [(&str, &[u8], &[u8]); 4] = [
+    ("another namespace", b"urn:x", b""),
+    ("no namespace", b"", b""),
+    ("no character of XML", EBMS, b"\x01"),
+    ("no UTF-8", EBMS, b"\xc3"),
+];
+
+/// The first kind of which an element can be written.
+fn first_writable(
+    alloc: Global,
+    kinds: &[(&'static str, &[u8], &[u8])],
+) -> Result<Option<&'static str>, NoMemory> {
+    for (kind, space, text) in kinds {
+        if can_be_written(text_element(alloc, space, b"A", text))? {
+            return Ok(Some(*kind));
+        }
+    }
+    Ok(None)
 }
 
 #[test]
 fn trees_of_other_kinds_are_not_written(rt: HostRuntime) -> Result<(), Fail> {
-    let alloc = rt.alloc();
-    let other_space = element(alloc, b"urn:x", b"A", Vec::new(alloc), Vec::new(alloc));
-    assert!(rt; !can_be_written(other_space)?, "another namespace");
-    let no_space = element(alloc, b"", b"A", Vec::new(alloc), Vec::new(alloc));
-    assert!(rt; !can_be_written(no_space)?, "no namespace");
-    assert!(rt;
-        !can_be_written(leaf(alloc, b"A", b"\x01"))?,
-        "no character of XML"
-    );
-    assert!(rt; !can_be_written(leaf(alloc, b"A", b"\xc3"))?, "no UTF-8");
+    assert_eq!(rt; first_writable(rt.alloc(), &OTHER_KINDS), Ok(None));
     Ok(())
+}
+
+/// An element with two attributes of one name.
+fn with_an_attribute_twice(alloc: Global) -> Result<Element, NoMemory> {
+    let one = attribute(alloc, b"", b"x", b"1");
+    let (one, two) = both(one, attribute(alloc, b"", b"x", b"2"))?;
+    let twice = vec![in alloc; one, two]?;
+    element(alloc, SOAP, b"A", twice, Vec::new(alloc))
 }
 
 #[test]
 fn an_attribute_stands_once(rt: HostRuntime) -> Result<(), Fail> {
-    let alloc = rt.alloc();
-    let one = attribute(alloc, b"", b"x", b"1");
-    let (one, two) = both(one, attribute(alloc, b"", b"x", b"2"))?;
-    let twice = vec![in alloc; one, two]?;
-    assert!(rt; !can_be_written(element(alloc, SOAP, b"A", twice, Vec::new(alloc)))?);
+    assert_eq!(rt;
+        can_be_written(with_an_attribute_twice(rt.alloc())),
+        Ok(false)
+    );
     Ok(())
 }
 
@@ -195,8 +229,8 @@ fn levels(alloc: Global, count: usize) -> Result<Element, NoMemory> {
 
 #[test]
 fn a_tree_has_32_levels_at_most(rt: HostRuntime) -> Result<(), Fail> {
-    assert!(rt; can_be_written(levels(rt.alloc(), 32))?);
-    assert!(rt; !can_be_written(levels(rt.alloc(), 33))?);
+    assert_eq!(rt; can_be_written(levels(rt.alloc(), 32)), Ok(true));
+    assert_eq!(rt; can_be_written(levels(rt.alloc(), 33)), Ok(false));
     Ok(())
 }
 
@@ -270,6 +304,6 @@ fn envelope(alloc: Global) -> Result<Element, NoMemory> {
 fn an_envelope_is_its_canonical_text(rt: HostRuntime) -> Result<(), Fail> {
     let wanted =
         b"<S:Envelope xmlns:S=\"http://www.w3.org/2003/05/soap-envelope\" xmlns:eb=\"http://docs.oasis-open.org/ebxml-msg/ebms/v3.0/ns/core/200704/\"><S:Header><eb:Messaging S:mustUnderstand=\"true\"><eb:UserMessage><eb:MessageInfo><eb:Timestamp>2025-01-02T03:04:05.006Z</eb:Timestamp><eb:MessageId>m1@a</eb:MessageId></eb:MessageInfo><eb:PartyInfo><eb:From><eb:PartyId>acme</eb:PartyId><eb:Role>seller</eb:Role></eb:From><eb:To><eb:PartyId>bolt</eb:PartyId><eb:Role>buyer</eb:Role></eb:To></eb:PartyInfo><eb:CollaborationInfo><eb:Service>orders</eb:Service><eb:Action>invoice</eb:Action><eb:ConversationId>c1</eb:ConversationId></eb:CollaborationInfo><eb:PayloadInfo><eb:PartInfo href=\"cid:p1@a\"></eb:PartInfo></eb:PayloadInfo></eb:UserMessage></eb:Messaging></S:Header><S:Body></S:Body></S:Envelope>";
-    assert!(rt; writes(rt.alloc(), envelope(rt.alloc())?, wanted)?);
+    assert_eq!(rt; writes(rt.alloc(), envelope(rt.alloc()), wanted), Ok(true));
     Ok(())
 }

@@ -5,7 +5,6 @@ use Rattle.std.proofs.lemmas.Bool.{and_from, cond-false, eq-eqb}
 use Rattle.std.proofs.lemmas.Slice.Eq.{bytes_eq-Decides}
 use Rattle.as4_effects.specs.declared.effect.Effect.TheVariants as effect
 use Rattle.as4_effects.specs.declared.submission.Submission.{Submission}
-use Rattle.end_tables.proofs.NumberLemmas.{StandAtNumbers, numbered}
 use Rattle.exchange_model.specs.Apply.{is_fit, is_one}
 use Rattle.exchange_model.specs.End.{End}
 use Rattle.exchange_model.specs.Numbered.{AreNumberedFrom}
@@ -31,9 +30,9 @@ unnamed s n (t ∷ sent) h l =
     cond-false _ _ _ (differs s t.submission (omega (arith, h.0))) ∙ unnamed s (suc n) sent h.1 (omega arith)
 
 -- a submission of the next number fits
-pub new_fits : (s : Submission) (end : End) → StandAtNumbers end.sent → s.number ≡ length end.sent
+pub new_fits : (s : Submission) (end : End) → AreNumberedFrom 0 end.sent → s.number ≡ length end.sent
     → is_fit (effect.Submitted s) end ≡ true
 unfolding is_fit
 new_fits s end places next =
-    let none : sent_of s.header.id end.sent ≡ None = unnamed s 0 end.sent (numbered end.sent places) (omega arith) in
+    let none : sent_of s.header.id end.sent ≡ None = unnamed s 0 end.sent places (omega arith) in
     and_from _ _ (eq-eqb s.number (length end.sent) next) (ap (λ o. not (is_one (λ (t : Sent). true) o)) none)

@@ -1,10 +1,12 @@
 mod rig;
 
 use rig::{End, Said, Step, right_steps};
-use std::test::Fail;
+use std::alloc::{AllocError, Global};
 
-/// What happens at two ends, step by step, and what they say.
-type Steps = &'static [(End, Step<'static>, Said)];
+/// What happens at one of two ends, and what it says.
+type Happens = (End, Step, Said);
+
+type Steps = &'static [Happens];
 
 /// A message that comes again is answered again, and delivered once.
 const A_REPEAT: Steps = &[
@@ -73,38 +75,73 @@ const ERRORS: Steps = &[
     (End::A, Step::Status, Said::Refused),
 ];
 
+const EXCHANGES: [Steps; 6] = [
+    A_REPEAT,
+    NO_CHANNEL,
+    PULLS,
+    A_LOST_RECEIPT,
+    RECEIPTS,
+    ERRORS,
+];
+
+/// The place of the first exchange with a step that has another reply.
+fn first_other(alloc: Global) -> Option<usize> {
+    for (at, steps) in EXCHANGES.iter().enumerate() {
+        if right_steps(alloc, steps) != steps.len() {
+            return Some(at);
+        }
+    }
+    None
+}
+
 /// Each end says to each step what it should.
 #[test]
-fn each_step_has_its_reply(rt: HostRuntime) -> Result<(), Fail> {
-    let exchanges = [
-        ("a repeat is delivered once", A_REPEAT),
-        ("a channel that is not known", NO_CHANNEL),
-        ("pulls take turns", PULLS),
-        ("a lost receipt", A_LOST_RECEIPT),
-        ("receipts that come", RECEIPTS),
-        ("errors that come", ERRORS),
-    ];
-    for (name, steps) in exchanges {
-        let right = right_steps(rt.alloc(), steps);
-        assert_eq!(rt; right, steps.len(), "{name}");
+fn each_step_has_its_reply(rt: HostRuntime) {
+    assert_eq!(rt; first_other(rt.alloc()), None);
+}
+
+/// A submission that is sent again each millisecond.
+const BEFORE_ALL_TRIES: Steps = &[(End::A, Step::Submit("often"), Said::Submitted(0))];
+
+/// Its last try was its 1,001st, and a receipt comes.
+const AFTER_ALL_TRIES: Steps = &[
+    (End::A, Step::Status, Said::Pending(1001)),
+    (End::A, Step::Receipt, Said::Quiet),
+    (End::A, Step::Status, Said::Receipted),
+    (End::A, Step::Tick(1001), Said::Ticked(0)),
+];
+
+/// It is tried at this moment, and not twice.
+fn try_at(moment: u64) -> [Happens; 3] {
+    [
+        (End::A, Step::Tick(moment), Said::Ticked(0)),
+        (End::A, Step::Take, Said::Push),
+        (End::A, Step::Take, Said::Nothing),
+    ]
+}
+
+/// Adds 1,001 tries, with what comes before and after them.
+fn add_all_tries(steps: &mut Vec<Happens>) -> Result<(), AllocError> {
+    steps.extend_from_slice(BEFORE_ALL_TRIES)?;
+    for moment in 0..=1000 {
+        steps.extend_from_slice(&try_at(moment))?;
     }
-    Ok(())
+    steps.extend_from_slice(AFTER_ALL_TRIES)
+}
+
+/// How many of these steps have their replies.
+fn right_tries(alloc: Global) -> Option<usize> {
+    let mut steps = Vec::new(alloc);
+    let right = match add_all_tries(&mut steps) {
+        Ok(()) => Some(right_steps(alloc, steps.as_slice())),
+        Err(_) => None,
+    };
+    drop(steps);
+    right
 }
 
 /// It is sent 1,001 times, and its receipt still counts.
 #[test]
-fn all_tries_are_spent(rt: HostRuntime) -> Result<(), Fail> {
-    let mut steps = Vec::new(rt.alloc());
-    steps.push((End::A, Step::Submit("often"), Said::Submitted(0)))?;
-    for moment in 0..=1000 {
-        steps.push((End::A, Step::Tick(moment), Said::Ticked(0)))?;
-        steps.push((End::A, Step::Take, Said::Push))?;
-        steps.push((End::A, Step::Take, Said::Nothing))?;
-    }
-    steps.push((End::A, Step::Status, Said::Pending(1001)))?;
-    steps.push((End::A, Step::Receipt, Said::Quiet))?;
-    steps.push((End::A, Step::Status, Said::Receipted))?;
-    steps.push((End::A, Step::Tick(1001), Said::Ticked(0)))?;
-    assert_eq!(rt; right_steps(rt.alloc(), steps.as_slice()), 3008);
-    Ok(())
+fn all_tries_are_spent(rt: HostRuntime) {
+    assert_eq!(rt; right_tries(rt.alloc()), Some(3008));
 }

@@ -4,7 +4,6 @@ use end_tables::EndTables;
 use made_messages::{act, submission};
 use refusals::refusals_of;
 use std::alloc::Global;
-use std::test::Fail;
 
 /// Takes in the submission of this number.
 fn takes_in(alloc: Global, tables: &mut EndTables, number: u64) -> Option<()> {
@@ -27,9 +26,9 @@ fn takes_in_two(alloc: Global, tables: &mut EndTables, receipted: bool) -> Optio
 
 /// An item of an error signal: how bad it is, its code, and the number of the submission that it names.
 #[derive(Clone, Copy)]
-struct Row<'a> {
+struct Row {
     severity: Severity,
-    code: &'a [u8],
+    code: &'static [u8],
     about: Option<u64>,
 }
 
@@ -41,30 +40,41 @@ fn id_of(alloc: Global, number: Option<u64>) -> Option<Option<MessageId>> {
     }
 }
 
-fn item(alloc: Global, row: &Row<'_>) -> Option<ErrorItem> {
-    let about = id_of(alloc, row.about)?;
-    let code = Code::read(alloc, row.code).ok()?;
-    Some(ErrorItem {
-        code,
-        severity: row.severity,
-        origin: None,
-        category: None,
-        about,
-        short: None,
-        description: None,
-        detail: None,
-    })
+fn item(alloc: Global, row: &Row) -> Option<ErrorItem> {
+    match (id_of(alloc, row.about), Code::read(alloc, row.code)) {
+        (Some(about), Ok(code)) => Some(ErrorItem {
+            code,
+            severity: row.severity,
+            origin: None,
+            category: None,
+            about,
+            short: None,
+            description: None,
+            detail: None,
+        }),
+        (about, code) => {
+            drop(about);
+            drop(code);
+            None
+        }
+    }
 }
 
 /// Adds the item of this row.
-fn adds(alloc: Global, items: &mut Vec<ErrorItem>, row: &Row<'_>) -> bool {
+fn adds(alloc: Global, items: &mut Vec<ErrorItem>, row: &Row) -> bool {
     match item(alloc, row) {
-        Some(item) => items.push(item).is_ok(),
+        Some(item) => match items.push(item) {
+            Ok(()) => true,
+            Err(error) => {
+                drop(error);
+                false
+            }
+        },
         None => false,
     }
 }
 
-fn items(alloc: Global, rows: &[Row<'_>]) -> Option<Vec<ErrorItem>> {
+fn items(alloc: Global, rows: &[Row]) -> Option<Vec<ErrorItem>> {
     let mut items = Vec::new(alloc);
     for row in rows {
         if !adds(alloc, &mut items, row) {
@@ -90,8 +100,9 @@ fn are_refusals(effects: &[Effect], wanted: &[(u64, &[u8])]) -> bool {
     if effects.len() != wanted.len() {
         return false;
     }
-    for (effect, (number, code)) in effects.iter().zip(wanted) {
-        if !is_refusal(effect, *number, code) {
+    for at in 0..wanted.len() {
+        let (number, code) = wanted[at];
+        if !is_refusal(&effects[at], number, code) {
             return false;
         }
     }
@@ -124,28 +135,35 @@ fn refuses_by(
 
 /// An error signal of the other end that finds two submissions.
 #[derive(Clone, Copy)]
-struct Case<'a> {
-    name: &'a str,
+struct Case {
     /// Whether the first is receipted; the others are pending.
     receipted: bool,
     /// The number of the submission that the signal refers to.
     ref_to: Option<u64>,
-    rows: &'a [Row<'a>],
+    rows: &'static [Row],
     /// The numbers and codes of the refusals, in order.
-    wanted: &'a [(u64, &'a [u8])],
+    wanted: &'static [(u64, &'static [u8])],
 }
 
 /// Whether the signal refuses in these tables what it should.
-fn refuses_in(alloc: Global, tables: &EndTables, case: &Case<'_>) -> Option<bool> {
-    let ref_to = id_of(alloc, case.ref_to)?;
-    let items = items(alloc, case.rows)?;
-    let refuses = refuses_by(alloc, tables, &ref_to, items.as_slice(), case.wanted);
-    drop(items);
-    refuses
+fn refuses_in(alloc: Global, tables: &EndTables, case: &Case) -> Option<bool> {
+    match (id_of(alloc, case.ref_to), items(alloc, case.rows)) {
+        (Some(ref_to), Some(items)) => {
+            let refuses = refuses_by(alloc, tables, &ref_to, items.as_slice(), case.wanted);
+            drop(ref_to);
+            drop(items);
+            refuses
+        }
+        (ref_to, items) => {
+            drop(ref_to);
+            drop(items);
+            None
+        }
+    }
 }
 
 /// Whether the signal refuses what it should.
-fn refuses(alloc: Global, case: &Case<'_>) -> Option<bool> {
+fn refuses(alloc: Global, case: &Case) -> Option<bool> {
     let mut tables = EndTables::new(alloc);
     let refuses = match takes_in_two(alloc, &mut tables, case.receipted) {
         Some(()) => refuses_in(alloc, &tables, case),
@@ -156,9 +174,9 @@ fn refuses(alloc: Global, case: &Case<'_>) -> Option<bool> {
 }
 
 /// Signals that come, and what each refuses.
-const CASES: [Case<'static>; 6] = [
+const CASES: [Case; 6] = [
+    // A failure refuses the submission that it names.
     Case {
-        name: "a failure refuses the submission that it names",
         receipted: false,
         ref_to: None,
         rows: &[Row {
@@ -168,8 +186,8 @@ const CASES: [Case<'static>; 6] = [
         }],
         wanted: &[(1, b"EBMS:0004")],
     },
+    // A warning refuses none.
     Case {
-        name: "a warning refuses none",
         receipted: false,
         ref_to: Some(0),
         rows: &[Row {
@@ -179,8 +197,8 @@ const CASES: [Case<'static>; 6] = [
         }],
         wanted: &[],
     },
+    // Of two failures the first refuses.
     Case {
-        name: "of two failures the first refuses",
         receipted: false,
         ref_to: None,
         rows: &[
@@ -202,8 +220,8 @@ const CASES: [Case<'static>; 6] = [
         ],
         wanted: &[(1, b"EBMS:0102"), (0, b"EBMS:0004")],
     },
+    // A failure that names none refuses what its signal refers to.
     Case {
-        name: "a failure that names none refuses what its signal refers to",
         receipted: false,
         ref_to: Some(1),
         rows: &[Row {
@@ -213,8 +231,8 @@ const CASES: [Case<'static>; 6] = [
         }],
         wanted: &[(1, b"EBMS:0004")],
     },
+    // A failure that names none, in a signal that refers to none.
     Case {
-        name: "a failure that names none, in a signal that refers to none",
         receipted: false,
         ref_to: None,
         rows: &[Row {
@@ -224,8 +242,8 @@ const CASES: [Case<'static>; 6] = [
         }],
         wanted: &[],
     },
+    // What is unknown or settled is not refused.
     Case {
-        name: "what is unknown or settled is not refused",
         receipted: true,
         ref_to: Some(1),
         rows: &[
@@ -244,10 +262,17 @@ const CASES: [Case<'static>; 6] = [
     },
 ];
 
-#[test]
-fn an_error_signal_refuses_what_its_failures_are_about(rt: HostRuntime) -> Result<(), Fail> {
-    for case in &CASES {
-        assert_eq!(rt; refuses(rt.alloc(), case), Some(true), "{}", case.name);
+/// The place of the first signal that does not refuse what it should.
+fn first_other(alloc: Global, cases: &[Case]) -> Option<usize> {
+    for (at, case) in cases.iter().enumerate() {
+        if refuses(alloc, case) != Some(true) {
+            return Some(at);
+        }
     }
-    Ok(())
+    None
+}
+
+#[test]
+fn an_error_signal_refuses_what_its_failures_are_about(rt: HostRuntime) {
+    assert_eq!(rt; first_other(rt.alloc(), &CASES), None);
 }

@@ -1,7 +1,7 @@
-use as4_values::{PlainData, Signal, SignalBody, UserHeader};
+use as4_values::{PlainData, Signal, SignalBody, Text, UserHeader};
 use machine_rows::{pull_request, receipt};
 use made_messages::{header_of, text};
-use std::test::Fail;
+use std::alloc::Global;
 
 /// The identifier of a signal with the nonce 1.
 const SIGNAL_ID: &[u8] = b"s.00000000-0000-0000-0000-000000000001@as4";
@@ -24,32 +24,48 @@ fn asks_for(body: &SignalBody, channel: &[u8]) -> bool {
     matches!(body, SignalBody::Pull { mpc } if mpc.bytes() == channel)
 }
 
-#[test]
-fn a_receipt_refers_to_its_message_and_copies_the_header(rt: HostRuntime) -> Result<(), Fail> {
-    let header = header_of(rt.alloc(), 0).ok_or("no header")?;
-    match receipt(rt.alloc(), &header, MOMENT, 1) {
-        Ok(signal) => {
-            assert!(rt; is_made(&signal));
-            assert!(rt; matches!(&signal.ref_to, Some(id) if id.same(&header.id)));
-            assert!(rt; is_copy(&signal.body, &header));
-            drop(signal);
-            drop(header);
-            Ok(())
-        }
-        Err(error) => {
-            drop(header);
-            Err(error.into())
-        }
-    }
+/// Whether the receipt of the message of this header is made at the moment, refers to the message, and copies the
+/// header.
+fn told_of_receipt(alloc: Global, header: &UserHeader) -> Option<[bool; 3]> {
+    let signal = receipt(alloc, header, MOMENT, 1).ok()?;
+    let refers = matches!(&signal.ref_to, Some(id) if id.same(&header.id));
+    let told = [is_made(&signal), refers, is_copy(&signal.body, header)];
+    drop(signal);
+    Some(told)
+}
+
+fn receipt_of_first(alloc: Global) -> Option<[bool; 3]> {
+    let header = header_of(alloc, 0)?;
+    let told = told_of_receipt(alloc, &header);
+    drop(header);
+    told
 }
 
 #[test]
-fn a_pull_request_names_its_channel(rt: HostRuntime) -> Result<(), Fail> {
-    let channel = text(rt.alloc(), b"c").ok_or("no channel")?;
-    let signal = pull_request(rt.alloc(), &channel, MOMENT, 1)?;
-    assert!(rt; is_made(&signal));
-    assert!(rt; signal.ref_to.is_none());
-    assert!(rt; asks_for(&signal.body, b"c"));
+fn a_receipt_refers_to_its_message_and_copies_the_header(rt: HostRuntime) {
+    assert_eq!(rt; receipt_of_first(rt.alloc()), Some([true; 3]));
+}
+
+/// The channel that is asked for.
+const CHANNEL: &[u8] = b"c";
+
+/// Whether the pull request for this channel is made at the moment, refers to no message, and asks for `CHANNEL`.
+fn told_of_request(alloc: Global, channel: &Text) -> Option<[bool; 3]> {
+    let signal = pull_request(alloc, channel, MOMENT, 1).ok()?;
+    let asks = asks_for(&signal.body, CHANNEL);
+    let told = [is_made(&signal), signal.ref_to.is_none(), asks];
     drop(signal);
-    Ok(())
+    Some(told)
+}
+
+fn request_for_channel(alloc: Global) -> Option<[bool; 3]> {
+    let channel = text(alloc, CHANNEL)?;
+    let told = told_of_request(alloc, &channel);
+    drop(channel);
+    told
+}
+
+#[test]
+fn a_pull_request_names_its_channel(rt: HostRuntime) {
+    assert_eq!(rt; request_for_channel(rt.alloc()), Some([true; 3]));
 }

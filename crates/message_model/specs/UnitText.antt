@@ -1,5 +1,5 @@
 -- The canonical text of a message unit (ebMS 3.0 Core, sections 5.2 and 6), element by element.
-use Rattle.std.specs.Prelude.{ℕ, List, [], ◌∷◌, ◌++◌, Option, Some, None, unwrap_or, codes}
+use Rattle.std.specs.Prelude.{ℕ, List, [], ◌++◌, Option, Some, None, unwrap_or, codes}
 use Rattle.std.specs.List.{flat_map}
 use Rattle.message_model.specs.Markup.{element, attribute, escaped, text_element, optional_attribute, optional_element, listed}
 use Rattle.as4_values.specs.declared.header.Party.{Party}

@@ -1,5 +1,5 @@
 -- Effects are made again one after another, until one doesn't fit.
-use Rattle.std.proofs.Common.{◌≡◌, ℕ, suc, ◌+◌, List, [], ◌∷◌, Bool, true, false, Option, Some, None, option_map, length, refl, ap, ◌∙◌, arith}
+use Rattle.std.proofs.Common.{◌≡◌, ℕ, suc, ◌+◌, List, ◌∷◌, Bool, true, false, Option, Some, None, option_map, length, refl, ap, ◌∙◌, arith}
 use Rattle.std.specs.Prelude.{if◌then◌else◌}
 use Rattle.as4_effects.specs.declared.effect.Effect.{Effect}
 use Rattle.exchange_model.specs.Apply.{after, after_all, first_unfit, is_fit}
@@ -11,13 +11,6 @@ pub record IsBehind (effects : List Effect) (start : End) (at : ℕ) (rest : Lis
   pub place : first_unfit effects start ≡ option_map (λ n. at + n) (first_unfit rest end)
   pub counted : at + length rest ≡ length effects
 
-moved_by_none : (found : Option ℕ) → found ≡ option_map (λ n. 0 + n) found
-moved_by_none None = refl
-moved_by_none (Some n) = ap Some (let e : n ≡ 0 + n = omega arith in e)
-
-pub none_made : (effects : List Effect) (start : End) → IsBehind effects start 0 effects start
-none_made effects start = record { leads = refl; place = moved_by_none (first_unfit effects start); counted = omega arith }
-
 moved_on : (at : ℕ) (found : Option ℕ) → option_map (λ n. at + n) (option_map suc found) ≡ option_map (λ n. (at + 1) + n) found
 moved_on at None = refl
 moved_on at (Some n) = ap Some (let e : at + suc n ≡ (at + 1) + n = omega arith in e)
@@ -25,10 +18,6 @@ moved_on at (Some n) = ap Some (let e : at + suc n ≡ (at + 1) + n = omega arit
 chosen : (b : Bool) (x : Option ℕ) → b ≡ true → (if b then option_map suc x else Some 0) ≡ option_map suc x
 chosen true x e = refl
 chosen false x e = absurd cc
-
-refused : (b : Bool) (x : Option ℕ) → b ≡ false → (if b then option_map suc x else Some 0) ≡ Some 0
-refused true x e = absurd cc
-refused false x e = refl
 
 -- one more is made
 pub one_made : (effects : List Effect) (start : End) (at : ℕ) (e : Effect) (rest : List Effect) (end : End)
@@ -39,15 +28,3 @@ one_made effects start at e rest end behind fits = record {
       ∙ moved_on at (first_unfit rest (after e end));
   counted = let all : at + length (e ∷ rest) ≡ length effects = behind.counted in omega arith;
 }
-
--- the next one doesn't fit
-pub unfit_at : (effects : List Effect) (start : End) (at : ℕ) (e : Effect) (rest : List Effect) (end : End)
-    → IsBehind effects start at (e ∷ rest) end → is_fit e end ≡ false → first_unfit effects start ≡ Some at
-unfit_at effects start at e rest end behind fits =
-    behind.place ∙ ap (option_map (λ n. at + n)) (refused (is_fit e end) (first_unfit rest (after e end)) fits)
-    ∙ ap Some (let same : at + 0 ≡ at = omega arith in same)
-
--- all are made
-pub all_made : (effects : List Effect) (start : End) (at : ℕ) (end : End) → IsBehind effects start at [] end
-    → (end ≡ after_all effects start) × (first_unfit effects start ≡ None)
-all_made effects start at end behind = (behind.leads, behind.place)

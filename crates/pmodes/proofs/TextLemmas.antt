@@ -51,9 +51,6 @@ core_is front core back blank_front blank_back trimmed =
     )
 
 -- a text of 255 bytes that the bytes spell is their value
-kept : (test : Bool) (core : List ℕ) → test ≡ true → cond test (Some core) None ≡ Some core
-kept test core passes = rw passes
-
 pub value_of_spelled : (bytes text : List ℕ) → Spells bytes text → IsTrue (is_short text) → text_value bytes ≡ Some text
 unfolding text_value
 value_of_spelled bytes text spelled short =

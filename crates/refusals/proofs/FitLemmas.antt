@@ -2,28 +2,23 @@
 use Rattle.std.proofs.Common.{◌≡◌, ℕ, ◌≤◌, List, [], ◌∷◌, Bool, true, false, cond, eqb, Option, Some, None, option_map, length, map, refl, ap, sym, ◌∙◌, arith, inl, inr, suc}
 use Rattle.std.specs.Prelude.{not}
 use Rattle.std.specs.List.{AllByRecursion, cons_option, filter, filter_map}
-use Rattle.std.specs.Option.{IfSome, option_and_then, option_or}
+use Rattle.std.specs.Option.{IfSome, option_or}
 use Rattle.std.proofs.lemmas.Bool.{cases_Bool, ne_eqb}
 use Rattle.std.proofs.lemmas.List.{length-map}
 use Rattle.as4_effects.specs.declared.effect.Effect.{Effect}
 use Rattle.as4_effects.specs.declared.effect.Effect.TheVariants.{Refused}
 use Rattle.as4_values.specs.declared.signal_body.ErrorItem.{ErrorItem}
-use Rattle.as4_values.specs.declared.signal_body.Severity.{Severity}
-use Rattle.as4_values.specs.declared.signal_body.Severity.TheVariants.{Failure, Warning}
-use Rattle.end_tables.proofs.NumberLemmas.{StandAtNumbers, numbered}
 use Rattle.end_tables.specs.Rooms.{TakesNoRoom}
 use Rattle.end_tables.specs.Standing.{CanStand, TakeOneRoom}
 use Rattle.exchange_model.specs.Apply.{after, changed, first_unfit, is_fit, is_one, marked}
 use Rattle.exchange_model.specs.End.{End}
 use Rattle.exchange_model.specs.Numbered.{AreNumberedFrom}
-use Rattle.exchange_model.specs.Questions.{is_pending, sent_at, sent_of}
-use Rattle.exchange_model.specs.Refusing.{Refusal, once, refusal_by, refusal_of, refusal_with, refusals_of}
+use Rattle.exchange_model.specs.Questions.{is_pending, sent_at}
+use Rattle.exchange_model.specs.Refusing.{Refusal, once, refusal_of, refusals_of}
 use Rattle.exchange_model.specs.declared.sent.Mark.{Mark}
 use Rattle.exchange_model.specs.declared.sent.Mark.TheVariants as mark
 use Rattle.exchange_model.specs.declared.sent.Sent.{Sent}
-use Rattle.exchange_model.proofs.FoundLemmas.{sent_of_has}
-use Rattle.exchange_model.proofs.ListLemmas.{Has}
-use Rattle.exchange_model.proofs.NumberedLemmas.{itself}
+use Rattle.exchange_model.proofs.PendingLemmas.{pending_by}
 
 abbrev pub effect_of : Refusal → Effect
 effect_of refusal = Refused refusal.number refusal.code
@@ -125,26 +120,6 @@ unfolding once
 few_once [] = omega arith
 few_once (r ∷ refusals) = omega (arith, few_left (is_other r.number) (once refusals), few_once refusals)
 
--- a refusal by number names a submission that is found by it, and pending
-pending_with : (code : List ℕ) (sent : List Sent) (s : Sent) → sent_at s.submission.number sent ≡ Some s
-    → IfSome (refusal_with code s) (λ r. is_one is_pending (sent_at r.number sent) ≡ true)
-pending_with code sent s found =
-    elim (cases_Bool (is_pending s)) [
-      | inl e ↦ rw e (ap (is_one is_pending) found ∙ e)
-      | inr e ↦ rw e tt
-    ]
-
-pending_found : (code : List ℕ) (sent : List Sent) (o : Option Sent) → AreNumberedFrom 0 sent → ((s : Sent) → o ≡ Some s → Has sent s)
-    → IfSome (option_and_then (refusal_with code) o) (λ r. is_one is_pending (sent_at r.number sent) ≡ true)
-pending_found code sent None h there = tt
-pending_found code sent (Some s) h there = pending_with code sent s (itself 0 sent s h (there s refl))
-
-pending_by : (severity : Severity) (code : List ℕ) (about : Option (List ℕ)) (sent : List Sent) → AreNumberedFrom 0 sent
-    → IfSome (refusal_by severity code about sent) (λ r. is_one is_pending (sent_at r.number sent) ≡ true)
-pending_by Warning code about sent h = tt
-pending_by Failure code None sent h = tt
-pending_by Failure code (Some id) sent h = pending_found code sent (sent_of id sent) h (λ s found. (sent_of_has id sent s found).0)
-
 consed : (sent : List Sent) (o : Option Refusal) (refusals : List Refusal) → IfSome o (λ r. is_one is_pending (sent_at r.number sent) ≡ true)
     → ArePending sent refusals → ArePending sent (cons_option o refusals)
 consed sent None refusals one pending = pending
@@ -177,7 +152,7 @@ one_room (r ∷ []) = tt
 one_room (r ∷ q ∷ refusals) = no_room (r ∷ q ∷ refusals)
 
 -- what an error signal changes can stand
-pub all_stand : (ref_to : Option (List ℕ)) (end : End) (items : List ErrorItem) → StandAtNumbers end.sent → length items ≤ 256
+pub all_stand : (ref_to : Option (List ℕ)) (end : End) (items : List ErrorItem) → AreNumberedFrom 0 end.sent → length items ≤ 256
     → CanStand end (refusals_of ref_to end.sent items)
 unfolding refusals_of
 all_stand ref_to end items stand few =
@@ -186,7 +161,7 @@ all_stand ref_to end items stand few =
     let shorter : length (once refusals) ≤ length refusals = few_once refusals in
     record {
       fit = fits_all (once refusals) end (once_differ refusals)
-          (once_pending end.sent refusals (all_pending ref_to end.sent items (numbered end.sent stand)));
+          (once_pending end.sent refusals (all_pending ref_to end.sent items stand));
       few = omega (arith, length-map (once refusals) effect_of);
       one_room = one_room (once refusals);
     }

@@ -5,6 +5,7 @@ use as4_effects::Submission;
 use as4_values::{
     Load, Mode, Octets, PartInfo, Party, Payload, Route, Seq, Service, Side, Text, is_address,
 };
+use std::alloc::Global;
 use std::process::Abort;
 use submissions::{Intake, are_too_large, submission};
 
@@ -105,21 +106,28 @@ fn too_large(rt: &(impl Abort + AllocGlobal), count: usize, media: &[u8]) -> boo
     are_too_large
 }
 
-/// The first submission, of so many loads, at the moment 1 by the end's clock and 2 by the event's.
-fn made(rt: &(impl Abort + AllocGlobal), is_pulled: bool, count: usize) -> Submission {
-    let mode = mode(rt, is_pulled);
-    let loads = loads(rt, count, b"t/x");
-    assert!(rt; !are_too_large(loads.items()));
+/// The first submission, by the mode and of the loads, at the moment 1 by the end's clock and 2 by the event's.
+fn made_of(alloc: Global, mode: &Mode, loads: &Seq<Load>) -> Option<Submission> {
+    if are_too_large(loads.items()) {
+        return None;
+    }
     let intake = Intake {
         number: 0,
         now: 1,
         stamp: 2,
         nonce: 0,
     };
-    let made = submission(rt.alloc(), &mode, intake, &None, &loads).expect(rt, "memory");
+    submission(alloc, mode, intake, &None, loads).ok()
+}
+
+/// The same, of so many loads, pushed or pulled.
+fn made(rt: &(impl Abort + AllocGlobal), is_pulled: bool, count: usize) -> Submission {
+    let mode = mode(rt, is_pulled);
+    let loads = loads(rt, count, b"t/x");
+    let made = made_of(rt.alloc(), &mode, &loads);
     drop(mode);
     drop(loads);
-    made
+    made.expect(rt, "a submission")
 }
 
 /// The bytes of a text, and none where there is no text.
@@ -130,20 +138,33 @@ fn bytes(text: &Option<Text>) -> &[u8] {
     }
 }
 
+/// Whether it has the identifier, the moment and the stamp of the first submission, and is without a channel, a part
+/// and a payload.
+fn told_of_a_push(made: &Submission) -> [bool; 6] {
+    let header = &made.header;
+    [
+        header.id.bytes() == ID,
+        made.moment == 1,
+        header.stamp.bytes() == b"1970-01-01T00:00:00.002Z".as_slice(),
+        header.mpc.is_none(),
+        header.parts.items().is_empty(),
+        made.payloads.items().is_empty(),
+    ]
+}
+
 #[test]
 fn nothing_is_pushed(rt: HostRuntime) {
     let made = made(&rt, false, 0);
-    assert_eq!(rt; made.header.id.bytes(), ID);
-    assert_eq!(rt; made.moment, 1);
-    assert_eq!(rt;
-        made.header.stamp.bytes(),
-        b"1970-01-01T00:00:00.002Z".as_slice()
-    );
-    assert!(rt; made.header.mpc.is_none());
-    assert!(rt; made.header.parts.items().is_empty());
-    assert!(rt; made.payloads.items().is_empty());
+    let told = told_of_a_push(&made);
     drop(made);
+    assert_eq!(rt; told, [true; 6]);
 }
+
+/// The Content-IDs of the first submission.
+const CIDS: [&[u8]; 2] = [
+    b"1.0.00000000-0000-0000-0000-000000000000@as4",
+    b"2.0.00000000-0000-0000-0000-000000000000@as4",
+];
 
 /// Whether a payload of the media text `t/x` has this Content-ID, and the part info names it.
 fn are_named(part: &PartInfo, payload: &Payload, cid: &[u8]) -> bool {
@@ -152,30 +173,42 @@ fn are_named(part: &PartInfo, payload: &Payload, cid: &[u8]) -> bool {
         && payload.media.bytes() == b"t/x".as_slice()
 }
 
+/// Whether it waits in the channel `c`, and two payloads have their Content-IDs.
+fn told_of_a_pull(made: &Submission) -> (bool, [bool; 2]) {
+    let waits = bytes(&made.header.mpc) == b"c".as_slice();
+    match (made.header.parts.items(), made.payloads.items()) {
+        ([part, other_part], [payload, other_payload]) => (
+            waits,
+            [
+                are_named(part, payload, CIDS[0]),
+                are_named(other_part, other_payload, CIDS[1]),
+            ],
+        ),
+        _ => (waits, [false; 2]),
+    }
+}
+
 #[test]
 fn two_payloads_wait_in_the_channel(rt: HostRuntime) {
-    let cids = [
-        b"1.0.00000000-0000-0000-0000-000000000000@as4".as_slice(),
-        b"2.0.00000000-0000-0000-0000-000000000000@as4".as_slice(),
-    ];
     let made = made(&rt, true, 2);
-    assert_eq!(rt; bytes(&made.header.mpc), b"c".as_slice());
-    let (parts, payloads) = (made.header.parts.items(), made.payloads.items());
-    assert_eq!(rt; parts.len(), 2);
-    assert_eq!(rt; payloads.len(), 2);
-    for at in 0..2 {
-        assert!(rt; are_named(&parts[at], &payloads[at], cids[at]), "{at}");
-    }
+    let told = told_of_a_pull(&made);
     drop(made);
+    assert_eq!(rt; told, (true, [true; 2]));
+}
+
+/// Whether a load whose media text has so many bytes is too large.
+fn long_is_too_large(rt: &(impl Abort + AllocGlobal), length: usize) -> bool {
+    let mut media = Vec::from_slice(rt.alloc(), b"t/x").expect(rt, "memory");
+    media.resize(length, b'x').expect(rt, "memory");
+    let is_too_large = too_large(rt, 1, &media);
+    drop(media);
+    is_too_large
 }
 
 #[test]
 fn media_texts_are_one_line_of_1024_bytes(rt: HostRuntime) {
-    let mut text = Vec::from_slice(rt.alloc(), b"t/x").expect(&rt, "memory");
-    text.resize(1024, b'x').expect(&rt, "memory");
-    assert!(rt; !too_large(&rt, 1, &text));
-    text.resize(1025, b'x').expect(&rt, "memory");
-    assert!(rt; too_large(&rt, 1, &text));
+    assert!(rt; !long_is_too_large(&rt, 1024));
+    assert!(rt; long_is_too_large(&rt, 1025));
     assert!(rt; too_large(&rt, 1, b"t/\nx"));
     assert!(rt; too_large(&rt, 1, b"t/x "));
     assert!(rt; !too_large(&rt, 1, b""));

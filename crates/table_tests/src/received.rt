@@ -10,16 +10,23 @@ fn header_of(alloc: Global, id: &[u8]) -> Option<UserHeader> {
     header(alloc, MessageId::read(alloc, id).ok()?)
 }
 
-/// One payload of no bytes.
+/// The payload of no bytes with this Content-ID.
 #[tactic(auto, unfolding(as4_values::specs::Payload::is_media_text))]
-fn payloads(alloc: Global) -> Option<Seq<Payload>> {
-    let name = MessageId::read(alloc, b"p").ok()?;
-    let payload = Payload {
-        cid: Octets::of(Vec::from_slice(alloc, name.bytes()).ok()?),
+fn payload(alloc: Global, name: &MessageId) -> Option<Payload> {
+    let cid = Vec::from_slice(alloc, name.bytes()).ok()?;
+    Some(Payload {
+        cid: Octets::of(cid),
         media: Octets::of(Vec::new(alloc)),
         content: Octets::of(Vec::new(alloc)),
-    };
-    Some(Seq::of(vec![in alloc; payload].ok()?))
+    })
+}
+
+/// One payload of no bytes.
+fn payloads(alloc: Global) -> Option<Seq<Payload>> {
+    let name = MessageId::read(alloc, b"p").ok()?;
+    let payload = payload(alloc, &name);
+    drop(name);
+    Some(Seq::of(vec![in alloc; payload?].ok()?))
 }
 
 /// An inbox to which this message came. (What was made is let go by name, which is proved sooner than where its scope

@@ -115,7 +115,7 @@ fn has_code(outbox: &Outbox, number: u64, code: &[u8]) -> bool {
 }
 
 /// What is done with an outbox, or asked of it.
-#[derive(Clone, Copy, Debug)]
+#[derive(Clone, Copy)]
 enum Step {
     Try { number: u64, moment: u64 },
     Receipt(u64),
@@ -130,7 +130,7 @@ enum Step {
 }
 
 /// What it says.
-#[derive(Clone, Copy, Debug, PartialEq, Eq)]
+#[derive(Clone, Copy, PartialEq, Eq)]
 enum Said {
     Done,
     NotDone,
@@ -185,109 +185,120 @@ const TRIED_ONCE: Said = Said::Status(Some(Standing::Pending { tries: 1 }));
 
 const TRIED_TWICE: Said = Said::Status(Some(Standing::Pending { tries: 2 }));
 
+/// Two submissions to which nothing has happened.
+const NUMBERED: [(Step, Said); 9] = [
+    (Step::Len, Said::Count(2)),
+    (
+        Step::NumberOf {
+            number: 0,
+            nonce: 1,
+        },
+        Said::Number(Some(0)),
+    ),
+    (Step::Status(0), UNTRIED),
+    (Step::Due(0), Said::Due(Some(1000))),
+    (
+        Step::NumberOf {
+            number: 1,
+            nonce: 1,
+        },
+        Said::Number(Some(1)),
+    ),
+    (Step::Status(1), UNTRIED),
+    (Step::Due(1), Said::Due(Some(1000))),
+    (
+        Step::NumberOf {
+            number: 1,
+            nonce: 2,
+        },
+        Said::Number(None),
+    ),
+    (Step::Status(2), Said::Status(None)),
+];
+
 #[test]
 fn submissions_stand_at_their_numbers(rt: HostRuntime) {
-    let rows = [
-        (Step::Len, Said::Count(2)),
-        (
-            Step::NumberOf {
-                number: 0,
-                nonce: 1,
-            },
-            Said::Number(Some(0)),
-        ),
-        (Step::Status(0), UNTRIED),
-        (Step::Due(0), Said::Due(Some(1000))),
-        (
-            Step::NumberOf {
-                number: 1,
-                nonce: 1,
-            },
-            Said::Number(Some(1)),
-        ),
-        (Step::Status(1), UNTRIED),
-        (Step::Due(1), Said::Due(Some(1000))),
-        (
-            Step::NumberOf {
-                number: 1,
-                nonce: 2,
-            },
-            Said::Number(None),
-        ),
-        (Step::Status(2), Said::Status(None)),
-    ];
-    assert_eq!(rt; right(rt.alloc(), &[0, 0], &rows), Some(rows.len()));
+    assert_eq!(rt; right(rt.alloc(), &[0, 0], &NUMBERED), Some(NUMBERED.len()));
 }
+
+/// A try and a receipt of one submission, and an error about another.
+const MARKED: [(Step, Said); 9] = [
+    (
+        Step::Try {
+            number: 0,
+            moment: 5000,
+        },
+        Said::Done,
+    ),
+    (Step::Status(0), TRIED_ONCE),
+    (Step::Due(0), Said::Due(Some(65_000))),
+    (Step::Receipt(0), Said::Done),
+    (Step::Status(0), Said::Status(Some(Standing::Receipted))),
+    (Step::Refuse(1), Said::Done),
+    (Step::Status(1), Said::Status(Some(Standing::Refused))),
+    (Step::HasNoCode(0), Said::Done),
+    (Step::HasCode(1), Said::Done),
+];
 
 #[test]
 fn tries_receipts_and_errors_are_kept(rt: HostRuntime) {
-    let rows = [
-        (
-            Step::Try {
-                number: 0,
-                moment: 5000,
-            },
-            Said::Done,
-        ),
-        (Step::Status(0), TRIED_ONCE),
-        (Step::Due(0), Said::Due(Some(65_000))),
-        (Step::Receipt(0), Said::Done),
-        (Step::Status(0), Said::Status(Some(Standing::Receipted))),
-        (Step::Refuse(1), Said::Done),
-        (Step::Status(1), Said::Status(Some(Standing::Refused))),
-        (Step::HasNoCode(0), Said::Done),
-        (Step::HasCode(1), Said::Done),
-    ];
-    assert_eq!(rt; right(rt.alloc(), &[0, 0], &rows), Some(rows.len()));
+    assert_eq!(rt; right(rt.alloc(), &[0, 0], &MARKED), Some(MARKED.len()));
 }
+
+/// A submission without retries that is tried.
+const SPENT: [(Step, Said); 6] = [
+    (
+        Step::Try {
+            number: 0,
+            moment: 5000,
+        },
+        Said::Done,
+    ),
+    (Step::FailSpent(64_999), Said::Count(0)),
+    (Step::Status(0), TRIED_ONCE),
+    (Step::FailSpent(65_000), Said::Count(1)),
+    (Step::Status(0), Said::Status(Some(Standing::Failed))),
+    (Step::FailSpent(65_000), Said::Count(0)),
+];
 
 #[test]
 fn one_without_retries_is_given_up_a_period_after_its_try(rt: HostRuntime) {
-    let rows = [
-        (
-            Step::Try {
-                number: 0,
-                moment: 5000,
-            },
-            Said::Done,
-        ),
-        (Step::FailSpent(64_999), Said::Count(0)),
-        (Step::Status(0), TRIED_ONCE),
-        (Step::FailSpent(65_000), Said::Count(1)),
-        (Step::Status(0), Said::Status(Some(Standing::Failed))),
-        (Step::FailSpent(65_000), Said::Count(0)),
-    ];
-    assert_eq!(rt; right(rt.alloc(), &[0], &rows), Some(rows.len()));
+    assert_eq!(rt; right(rt.alloc(), &[0], &SPENT), Some(SPENT.len()));
 }
+
+/// A submission with a try left, and one that is receipted.
+const NOT_SPENT: [(Step, Said); 7] = [
+    (
+        Step::Try {
+            number: 0,
+            moment: 1000,
+        },
+        Said::Done,
+    ),
+    (
+        Step::Try {
+            number: 0,
+            moment: 61_000,
+        },
+        Said::Done,
+    ),
+    (
+        Step::Try {
+            number: 1,
+            moment: 1000,
+        },
+        Said::Done,
+    ),
+    (Step::Receipt(1), Said::Done),
+    (Step::FailSpent(MAX_MOMENT), Said::Count(0)),
+    (Step::Status(0), TRIED_TWICE),
+    (Step::Status(1), Said::Status(Some(Standing::Receipted))),
+];
 
 #[test]
 fn one_with_tries_left_or_a_receipt_is_not_given_up(rt: HostRuntime) {
-    let rows = [
-        (
-            Step::Try {
-                number: 0,
-                moment: 1000,
-            },
-            Said::Done,
-        ),
-        (
-            Step::Try {
-                number: 0,
-                moment: 61_000,
-            },
-            Said::Done,
-        ),
-        (
-            Step::Try {
-                number: 1,
-                moment: 1000,
-            },
-            Said::Done,
-        ),
-        (Step::Receipt(1), Said::Done),
-        (Step::FailSpent(MAX_MOMENT), Said::Count(0)),
-        (Step::Status(0), TRIED_TWICE),
-        (Step::Status(1), Said::Status(Some(Standing::Receipted))),
-    ];
-    assert_eq!(rt; right(rt.alloc(), &[2, 0], &rows), Some(rows.len()));
+    assert_eq!(rt;
+        right(rt.alloc(), &[2, 0], &NOT_SPENT),
+        Some(NOT_SPENT.len())
+    );
 }

@@ -1,10 +1,10 @@
-ghost use Rattle.std.specs.Prelude.{◌≡◌, ◌<◌, None, OnOk};
+ghost use Rattle.std.specs.Prelude.{[], ◌≡◌, ◌<◌, None, OnOk};
 ghost use Rattle.channels.specs.Queues.{inserted, waiting_at};
 
 use as4_effects::Queue;
 use as4_values::{NoMemory, Text};
 use channels::Channels;
-use std::test::Fail;
+use std::alloc::Global;
 
 fn add(channels: &mut Channels, queue: &Queue, due: u64, number: u64) -> Result<(), NoMemory>
     requires range { number < 1048576 }
@@ -17,31 +17,69 @@ fn add(channels: &mut Channels, queue: &Queue, due: u64, number: u64) -> Result<
     Ok(())
 }
 
-#[test]
+/// The heads at three moments of three that are pushed, and the head once it is taken out.
 #[tactic(auto, unfolding(channels::specs::Queues::inserted))]
-fn the_head_is_due_first_and_has_the_least_number(rt: HostRuntime) -> Result<(), Fail> {
-    let mut channels = Channels::new(rt.alloc());
-    add(&mut channels, &Queue::Push, 20, 7)?;
-    add(&mut channels, &Queue::Push, 30, 3)?;
-    add(&mut channels, &Queue::Push, 20, 5)?;
-    for (moment, head) in [(19, None), (20, Some(5)), (30, Some(5))] {
-        assert_eq!(rt; channels.head(&Queue::Push, moment), head, "{moment}");
-    }
+fn heads_of_one(channels: &mut Channels) -> Result<[Option<u64>; 4], NoMemory>
+    requires { channels.old.waiting ≡ [] }
+{
+    add(channels, &Queue::Push, 20, 7)?;
+    add(channels, &Queue::Push, 30, 3)?;
+    add(channels, &Queue::Push, 20, 5)?;
+    let before = channels.head(&Queue::Push, 19);
+    let due = channels.head(&Queue::Push, 20);
+    let later = channels.head(&Queue::Push, 30);
     channels.remove(&Queue::Push, 20, 5);
-    assert_eq!(rt; channels.head(&Queue::Push, 30), Some(7));
-    Ok(())
+    Ok([before, due, later, channels.head(&Queue::Push, 30)])
 }
 
 #[test]
-#[tactic(auto, unfolding(channels::specs::Queues::inserted))]
-fn queues_do_not_mix(rt: HostRuntime) -> Result<(), Fail> {
-    let orders = Queue::Channel(Text::read(rt.alloc(), b"orders")?);
-    let bills = Queue::Channel(Text::read(rt.alloc(), b"bills")?);
+fn the_head_is_due_first_and_has_the_least_number(rt: HostRuntime) {
     let mut channels = Channels::new(rt.alloc());
-    add(&mut channels, &orders, 20, 1)?;
-    add(&mut channels, &Queue::Push, 10, 2)?;
-    assert_eq!(rt; channels.head(&orders, 20), Some(1));
-    assert_eq!(rt; channels.head(&Queue::Push, 20), Some(2));
-    assert_eq!(rt; channels.head(&bills, 20), None);
-    Ok(())
+    let heads = heads_of_one(&mut channels).ok();
+    drop(channels);
+    assert_eq!(rt; heads, Some([None, Some(5), Some(5), Some(7)]));
+}
+
+/// The heads of two channels and of those that are pushed, where one waits in the first and one is pushed.
+#[tactic(auto, unfolding(channels::specs::Queues::inserted))]
+fn heads_of_each(
+    channels: &mut Channels,
+    orders: &Queue,
+    bills: &Queue,
+) -> Result<[Option<u64>; 3], NoMemory>
+    requires { channels.old.waiting ≡ [] }
+{
+    add(channels, orders, 20, 1)?;
+    add(channels, &Queue::Push, 10, 2)?;
+    Ok([
+        channels.head(orders, 20),
+        channels.head(bills, 20),
+        channels.head(&Queue::Push, 20),
+    ])
+}
+
+/// The same, of two channels of these names.
+fn heads_in_new(alloc: Global, orders: &[u8], bills: &[u8]) -> Option<[Option<u64>; 3]> {
+    match (Text::read(alloc, orders), Text::read(alloc, bills)) {
+        (Ok(orders), Ok(bills)) => {
+            let (orders, bills) = (Queue::Channel(orders), Queue::Channel(bills));
+            let mut channels = Channels::new(alloc);
+            let heads = heads_of_each(&mut channels, &orders, &bills);
+            drop(channels);
+            drop(orders);
+            drop(bills);
+            heads.ok()
+        }
+        (orders, bills) => {
+            drop(orders);
+            drop(bills);
+            None
+        }
+    }
+}
+
+#[test]
+fn queues_do_not_mix(rt: HostRuntime) {
+    let heads = heads_in_new(rt.alloc(), b"orders", b"bills");
+    assert_eq!(rt; heads, Some([Some(1), None, Some(2)]));
 }

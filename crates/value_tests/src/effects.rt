@@ -41,54 +41,71 @@ fn payload(rt: &(impl Abort + AllocGlobal), cid: &[u8]) -> Payload {
     }
 }
 
-/// Whether two part infos, or fewer where there are empty references, and two payloads pair.
-fn are_paired(rt: &(impl Abort + AllocGlobal), hrefs: &[&[u8]; 2], cids: &[&[u8]; 2]) -> bool {
+/// A part info for each of the references.
+fn parts_of(rt: &(impl Abort + AllocGlobal), hrefs: &str) -> Vec<PartInfo> {
     let mut parts = Vec::new(rt.alloc());
-    for href in hrefs {
-        if !href.is_empty() {
-            parts.push(part(rt, href)).expect(rt, "memory");
-        }
+    for href in hrefs.split_whitespace() {
+        parts.push(part(rt, href.as_bytes())).expect(rt, "memory");
     }
-    let mut payloads = Vec::new(rt.alloc());
-    for cid in cids {
-        if !cid.is_empty() {
-            payloads.push(payload(rt, cid)).expect(rt, "memory");
-        }
-    }
-    let paired = pairs(rt.alloc(), parts.as_slice(), payloads.as_slice()).expect(rt, "memory");
-    drop(parts);
-    drop(payloads);
-    paired
+    parts
 }
 
-/// References, Content-IDs and whether they pair.
-const REFERENCES: [([&[u8]; 2], [&[u8]; 2], bool); 19] = [
-    ([b"", b""], [b"", b""], true),
-    ([b"cid:a%40b", b""], [b"a@b", b""], true),
-    ([b"CID:a@b", b""], [b"a@b", b""], true),
-    ([b"cId:%61", b""], [b"a", b""], true),
-    ([b"cid:a%4", b""], [b"a%4", b""], true),
-    ([b"cid:a%4", b""], [b"a", b""], false),
-    ([b"cid:a", b"cid:b"], [b"b", b"a"], true),
-    ([b"cid:a@b", b"CID:a%40b"], [b"a@b", b""], false),
-    ([b"cid:a", b"cid:a"], [b"a", b"b"], false),
-    ([b"cid:a", b"cid:b"], [b"a", b"a"], false),
-    ([b"cid:a", b""], [b"a", b"b"], false),
-    ([b"cid:a", b"cid:b"], [b"a", b""], false),
-    ([b"cid:a", b""], [b"A", b""], false),
-    ([b"-", b""], [b"a", b""], false),
-    ([b"-", b""], [b"", b""], false),
-    ([b"http://x", b""], [b"//x", b""], false),
-    ([b"%63id:x", b""], [b"x", b""], false),
-    ([b"cid", b""], [b"cid", b""], false),
-    ([b"#a", b""], [b"a", b""], false),
+/// A payload for each of the Content-IDs.
+fn payloads_of(rt: &(impl Abort + AllocGlobal), cids: &str) -> Vec<Payload> {
+    let mut payloads = Vec::new(rt.alloc());
+    for cid in cids.split_whitespace() {
+        payloads
+            .push(payload(rt, cid.as_bytes()))
+            .expect(rt, "memory");
+    }
+    payloads
+}
+
+/// Whether part infos of these references and payloads of these Content-IDs pair.
+fn are_paired(rt: &(impl Abort + AllocGlobal), hrefs: &str, cids: &str) -> bool {
+    let (parts, payloads) = (parts_of(rt, hrefs), payloads_of(rt, cids));
+    let paired = pairs(rt.alloc(), parts.as_slice(), payloads.as_slice());
+    drop(parts);
+    drop(payloads);
+    paired.expect(rt, "memory")
+}
+
+/// References and Content-IDs, with blanks between them, and whether they pair.
+const REFERENCES: [(&str, &str, bool); 19] = [
+    ("", "", true),
+    ("cid:a%40b", "a@b", true),
+    ("CID:a@b", "a@b", true),
+    ("cId:%61", "a", true),
+    ("cid:a%4", "a%4", true),
+    ("cid:a%4", "a", false),
+    ("cid:a cid:b", "b a", true),
+    ("cid:a@b CID:a%40b", "a@b", false),
+    ("cid:a cid:a", "a b", false),
+    ("cid:a cid:b", "a a", false),
+    ("cid:a", "a b", false),
+    ("cid:a cid:b", "a", false),
+    ("cid:a", "A", false),
+    ("-", "a", false),
+    ("-", "", false),
+    ("http://x", "//x", false),
+    ("%63id:x", "x", false),
+    ("cid", "cid", false),
+    ("#a", "a", false),
 ];
+
+/// The first row that pairs though it shouldn't, or doesn't though it should.
+fn first_other_pairing(rt: &(impl Abort + AllocGlobal)) -> Option<usize> {
+    for (row, (hrefs, cids, wanted)) in REFERENCES.iter().enumerate() {
+        if are_paired(rt, hrefs, cids) != *wanted {
+            return Some(row);
+        }
+    }
+    None
+}
 
 #[test]
 fn references_pair_with_payloads(rt: HostRuntime) {
-    for (at, (hrefs, cids, wanted)) in REFERENCES.iter().enumerate() {
-        assert_eq!(rt; are_paired(&rt, hrefs, cids), *wanted, "{at}");
-    }
+    assert_eq!(rt; first_other_pairing(&rt), None);
 }
 
 fn is_of(rt: &(impl Abort + AllocGlobal), number: u64, id: &[u8]) -> bool {
@@ -113,11 +130,19 @@ const IDENTIFIERS: [(u64, &[u8], bool); 10] = [
     (7, b"7", false),
 ];
 
+/// The first row that is told otherwise.
+fn first_other_id(rt: &(impl Abort + AllocGlobal)) -> Option<usize> {
+    for (row, (number, id, wanted)) in IDENTIFIERS.iter().enumerate() {
+        if is_of(rt, *number, id) != *wanted {
+            return Some(row);
+        }
+    }
+    None
+}
+
 #[test]
 fn identifiers_of_submissions_are_told_from_others(rt: HostRuntime) {
-    for (at, (number, id, wanted)) in IDENTIFIERS.iter().enumerate() {
-        assert_eq!(rt; is_of(&rt, *number, id), *wanted, "{at}");
-    }
+    assert_eq!(rt; first_other_id(&rt), None);
 }
 
 /// Whether both routes have an address that is one.
@@ -135,32 +160,52 @@ fn are_routes(rt: &(impl Abort + AllocGlobal), address: &[u8]) -> (bool, bool) {
     told
 }
 
+/// Addresses, and whether they are a route's.
+const ADDRESSES: [(&[u8], bool); 3] = [
+    (b"http://host:8080/in", true),
+    (b"https://host/", false),
+    (b"http://", false),
+];
+
+/// The first row that is told otherwise of one of the routes.
+fn first_other_route(rt: &(impl Abort + AllocGlobal)) -> Option<usize> {
+    for (row, (address, wanted)) in ADDRESSES.iter().enumerate() {
+        if are_routes(rt, address) != (*wanted, *wanted) {
+            return Some(row);
+        }
+    }
+    None
+}
+
 #[test]
 fn the_address_of_a_route_is_one(rt: HostRuntime) {
-    let rows: [(&[u8], bool); 3] = [
-        (b"http://host:8080/in", true),
-        (b"https://host/", false),
-        (b"http://", false),
-    ];
-    for (at, (address, wanted)) in rows.iter().enumerate() {
-        assert_eq!(rt; are_routes(&rt, address), (*wanted, *wanted), "{at}");
+    assert_eq!(rt; first_other_route(&rt), None);
+}
+
+/// Bytes, and whether they are one line without blanks at its ends.
+const MEDIA_TEXTS: [(&[u8], bool); 7] = [
+    (b"", true),
+    (b"text/xml; charset=utf-8", true),
+    (b"text/xml ", false),
+    (b"\ttext/xml", false),
+    (b" ", false),
+    (b"text/\nxml", false),
+    (b"text/xml\r", false),
+];
+
+/// The first row that is told otherwise.
+fn first_other_media() -> Option<usize> {
+    for (row, (text, wanted)) in MEDIA_TEXTS.iter().enumerate() {
+        if is_media_text(text) != *wanted {
+            return Some(row);
+        }
     }
+    None
 }
 
 #[test]
 fn media_texts_are_one_line(rt: HostRuntime) {
-    let rows: [(&[u8], bool); 7] = [
-        (b"", true),
-        (b"text/xml; charset=utf-8", true),
-        (b"text/xml ", false),
-        (b"\ttext/xml", false),
-        (b" ", false),
-        (b"text/\nxml", false),
-        (b"text/xml\r", false),
-    ];
-    for (at, (text, wanted)) in rows.iter().enumerate() {
-        assert_eq!(rt; is_media_text(text), *wanted, "{at}");
-    }
+    assert_eq!(rt; first_other_media(), None);
 }
 
 /// Whether each copy equals its source, and no value another.

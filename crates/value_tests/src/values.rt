@@ -1,75 +1,98 @@
-ghost use Rattle.std.specs.Prelude.{◌≡◌, IfOk};
+ghost use Rattle.std.specs.Prelude.{◌≡◌, IfSome};
 
 mod headers;
 mod stamps;
 mod texts;
 mod words;
 
-use as4_values::{Load, MessageId, Octets, Payload, PlainData};
-use std::alloc::Global;
-use std::test::Fail;
+use as4_values::{Load, MessageId, NoMemory, Octets, Payload, PlainData};
+use std::alloc::{AllocError, Global};
 
 /// These bytes, then so many letters, and then those bytes.
-fn letters(alloc: Global, front: &[u8], count: usize, back: &[u8]) -> Result<Vec<u8>, Fail> {
-    let mut bytes = Vec::from_slice(alloc, front)?;
-    for _ in 0..count {
-        bytes.push(b'a')?;
+fn letters(alloc: Global, front: &[u8], count: usize, back: &[u8]) -> Result<Vec<u8>, AllocError> {
+    let letters = vec![in alloc; b'a'; count]?;
+    [front, letters.as_slice(), back].concat(alloc)
+}
+
+/// Whether the identifier was made and has these bytes.
+fn is_made(made: Result<MessageId, NoMemory>, bytes: &[u8]) -> bool {
+    match made {
+        Ok(id) => {
+            let is_same = id.bytes() == bytes;
+            drop(id);
+            is_same
+        }
+        Err(_) => false,
     }
-    bytes.extend_from_slice(back)?;
-    Ok(bytes)
 }
 
 #[test]
-fn identifiers_are_made_from_numbers(rt: HostRuntime) -> Result<(), Fail> {
-    let signal = MessageId::of_signal(rt.alloc(), 1)?;
-    assert_eq!(rt;
-        signal.bytes(),
-        b"s.00000000-0000-0000-0000-000000000001@as4".as_slice()
-    );
-    let submission = MessageId::of_submission(rt.alloc(), 7, 1)?;
-    assert_eq!(rt;
-        submission.bytes(),
-        b"7.00000000-0000-0000-0000-000000000001@as4".as_slice()
-    );
-    Ok(())
+fn identifiers_are_made_from_numbers(rt: HostRuntime) {
+    let signal = MessageId::of_signal(rt.alloc(), 1);
+    assert!(rt; is_made(signal, b"s.00000000-0000-0000-0000-000000000001@as4"));
+    let submission = MessageId::of_submission(rt.alloc(), 7, 1);
+    assert!(rt; is_made(submission, b"7.00000000-0000-0000-0000-000000000001@as4"));
 }
 
-/// Whether a copy is made and equals its source.
-fn copies<T: PlainData + Drop>(alloc: Global, value: &T) -> Result<bool, Fail> {
-    Ok(value.try_clone(alloc)?.same(value))
+/// Whether the value was made and a copy of it equals it.
+fn is_copied<T: PlainData + Drop>(alloc: Global, made: Option<T>) -> Option<bool> {
+    let value = made?;
+    match value.try_clone(alloc) {
+        Ok(copy) => {
+            let is_same = copy.same(&value);
+            drop(copy);
+            drop(value);
+            Some(is_same)
+        }
+        Err(_) => {
+            drop(value);
+            None
+        }
+    }
 }
 
-fn octets(alloc: Global, bytes: &[u8]) -> Result<Octets, Fail>
-    ensures { IfOk result (λ octets. octets ≡ bytes.now) }
+fn octets(alloc: Global, bytes: &[u8]) -> Option<Octets>
+    ensures { IfSome result (λ octets. octets ≡ bytes.now) }
 {
-    Ok(Octets::of(Vec::from_slice(alloc, bytes)?))
+    match Vec::from_slice(alloc, bytes) {
+        Ok(items) => Some(Octets::of(items)),
+        Err(_) => None,
+    }
 }
 
 #[tactic(auto, unfolding(as4_values::specs::Payload::is_media_text))]
-fn payload(alloc: Global) -> Result<Payload, Fail> {
-    let cid = octets(alloc, b"p1@a")?;
+fn payload(alloc: Global) -> Option<Payload> {
+    match (
+        octets(alloc, b"p1@a"),
+        octets(alloc, b"text/plain"),
+        octets(alloc, b"order 1"),
+    ) {
+        (Some(cid), Some(media), Some(content)) => Some(Payload {
+            cid,
+            media,
+            content,
+        }),
+        (cid, media, content) => {
+            drop(cid);
+            drop(media);
+            drop(content);
+            None
+        }
+    }
+}
+
+#[test]
+fn a_copy_of_a_payload_is_the_same(rt: HostRuntime) {
+    assert_eq!(rt; is_copied(rt.alloc(), payload(rt.alloc())), Some(true));
+}
+
+fn load(alloc: Global) -> Option<Load> {
     let media = octets(alloc, b"text/plain")?;
     let content = octets(alloc, b"order 1")?;
-    Ok(Payload {
-        cid,
-        media,
-        content,
-    })
+    Some(Load { media, content })
 }
 
 #[test]
-fn a_copy_of_a_payload_is_the_same(rt: HostRuntime) -> Result<(), Fail> {
-    let payload = payload(rt.alloc())?;
-    assert!(rt; copies(rt.alloc(), &payload)?);
-    Ok(())
-}
-
-#[test]
-fn a_copy_of_a_load_is_the_same(rt: HostRuntime) -> Result<(), Fail> {
-    let load = Load {
-        media: octets(rt.alloc(), b"text/plain")?,
-        content: octets(rt.alloc(), b"order 1")?,
-    };
-    assert!(rt; copies(rt.alloc(), &load)?);
-    Ok(())
+fn a_copy_of_a_load_is_the_same(rt: HostRuntime) {
+    assert_eq!(rt; is_copied(rt.alloc(), load(rt.alloc())), Some(true));
 }

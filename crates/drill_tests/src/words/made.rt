@@ -1,10 +1,10 @@
 //! Replies and messages made by hand.
 
-ghost use Rattle.std.specs.Prelude.{◌≡◌, IfOk};
+ghost use Rattle.std.specs.Prelude.{◌≡◌, IfOk, IfSome, length};
 
 use as4_values::{
     Code, ErrorItem, Message, MessageId, NoMemory, Octets, Payload, Seq, Severity, Signal,
-    SignalBody, StampText, stamp_text,
+    SignalBody, StampText, UserHeader, stamp_text,
 };
 use exchange_model::Reply;
 use made_messages::{header, text};
@@ -32,21 +32,34 @@ fn octets(alloc: Global, bytes: &[u8]) -> Result<Octets, NoMemory>
 
 /// A payload of five bytes.
 #[tactic(auto, unfolding(as4_values::specs::Payload::is_media_text))]
-fn payload(alloc: Global) -> Result<Payload, NoMemory> {
-    let cid = octets(alloc, b"p1@a")?;
-    let media = octets(alloc, b"text/plain")?;
-    let content = octets(alloc, b"hello")?;
-    Ok(Payload {
-        cid,
-        media,
-        content,
-    })
+fn payload(alloc: Global) -> Option<Payload> {
+    match (
+        octets(alloc, b"p1@a"),
+        octets(alloc, b"text/plain"),
+        octets(alloc, b"hello"),
+    ) {
+        (Ok(cid), Ok(media), Ok(content)) => Some(Payload {
+            cid,
+            media,
+            content,
+        }),
+        (cid, media, content) => {
+            drop(cid);
+            drop(media);
+            drop(content);
+            None
+        }
+    }
 }
 
 fn payloads(alloc: Global) -> Option<Seq<Payload>> {
-    let mut payloads = Vec::with_capacity(alloc, 1).ok()?;
-    payloads.push_reserved(payload(alloc).ok()?);
-    Some(Seq::of(payloads))
+    let payload = payload(alloc)?;
+    Some(Seq::of(vec![in alloc; payload].ok()?))
+}
+
+/// The header of the submission 0.
+fn first_header(alloc: Global) -> Option<UserHeader> {
+    header(alloc, id(alloc)?)
 }
 
 pub fn submitted(alloc: Global) -> Option<Reply> {
@@ -55,35 +68,60 @@ pub fn submitted(alloc: Global) -> Option<Reply> {
 }
 
 pub fn pushed(alloc: Global) -> Option<Reply> {
-    let address = text(alloc, b"http://drill/")?;
-    let payloads = Seq::of(Vec::new(alloc));
-    let header = header(alloc, id(alloc)?)?;
-    Some(Reply::Push {
-        address,
-        message: Message::User { header, payloads },
-    })
+    match (text(alloc, b"http://drill/"), first_header(alloc)) {
+        (Some(address), Some(header)) => Some(Reply::Push {
+            address,
+            message: Message::User {
+                header,
+                payloads: Seq::of(Vec::new(alloc)),
+            },
+        }),
+        (address, header) => {
+            drop(address);
+            drop(header);
+            None
+        }
+    }
 }
 
-pub fn requested(alloc: Global) -> Option<Reply> {
-    let address = text(alloc, b"http://drill/")?;
-    let mpc = text(alloc, b"drill-m")?;
-    let stamp = stamp(alloc)?;
-    let id = id(alloc)?;
-    Some(Reply::Request {
-        address,
-        message: Message::Signal(Signal {
+/// A pull request of the submission 0.
+fn request(alloc: Global) -> Option<Message> {
+    match (stamp(alloc), id(alloc), text(alloc, b"drill-m")) {
+        (Some(stamp), Some(id), Some(mpc)) => Some(Message::Signal(Signal {
             stamp,
             id,
             ref_to: None,
             body: SignalBody::Pull { mpc },
-        }),
-    })
+        })),
+        (stamp, id, mpc) => {
+            drop(stamp);
+            drop(id);
+            drop(mpc);
+            None
+        }
+    }
+}
+
+pub fn requested(alloc: Global) -> Option<Reply> {
+    match (text(alloc, b"http://drill/"), request(alloc)) {
+        (Some(address), Some(message)) => Some(Reply::Request { address, message }),
+        (address, message) => {
+            drop(address);
+            drop(message);
+            None
+        }
+    }
 }
 
 pub fn entry(alloc: Global) -> Option<Reply> {
-    let payloads = payloads(alloc)?;
-    let header = header(alloc, id(alloc)?)?;
-    Some(Reply::Entry { header, payloads })
+    match (first_header(alloc), payloads(alloc)) {
+        (Some(header), Some(payloads)) => Some(Reply::Entry { header, payloads }),
+        (header, payloads) => {
+            drop(header);
+            drop(payloads);
+            None
+        }
+    }
 }
 
 pub fn refused(alloc: Global) -> Option<Reply> {
@@ -91,27 +129,33 @@ pub fn refused(alloc: Global) -> Option<Reply> {
     Some(Reply::RefusedWith { code })
 }
 
-/// The receipt of the submission 0.
-pub fn receipt(alloc: Global) -> Option<Message> {
-    let stamp = stamp(alloc)?;
-    let signal = MessageId::of_signal(alloc, 1).ok()?;
-    let id = id(alloc)?;
-    Some(Message::Signal(Signal {
-        stamp,
-        id: signal,
-        ref_to: Some(id),
-        body: SignalBody::Receipt { copy: None },
-    }))
+fn signal_id(alloc: Global) -> Option<MessageId> {
+    MessageId::of_signal(alloc, 1).ok()
 }
 
-/// An error signal of one error.
-pub fn error(alloc: Global) -> Option<Message> {
-    let mut items = Vec::with_capacity(alloc, 1).ok()?;
-    let code = code(alloc, b"EBMS:0006")?;
-    let stamp = stamp(alloc)?;
-    let id = id(alloc)?;
-    items.push_reserved(ErrorItem {
-        code,
+/// The receipt of the submission 0.
+pub fn receipt(alloc: Global) -> Option<Message> {
+    match (stamp(alloc), signal_id(alloc), id(alloc)) {
+        (Some(stamp), Some(signal), Some(id)) => Some(Message::Signal(Signal {
+            stamp,
+            id: signal,
+            ref_to: Some(id),
+            body: SignalBody::Receipt { copy: None },
+        })),
+        (stamp, signal, id) => {
+            drop(stamp);
+            drop(signal);
+            drop(id);
+            None
+        }
+    }
+}
+
+fn one_item(alloc: Global) -> Option<Seq<ErrorItem>>
+    ensures { IfSome result (λ items. length items ≡ 1) }
+{
+    let item = ErrorItem {
+        code: code(alloc, b"EBMS:0006")?,
         severity: Severity::Warning,
         origin: None,
         category: None,
@@ -119,13 +163,24 @@ pub fn error(alloc: Global) -> Option<Message> {
         short: None,
         description: None,
         detail: None,
-    });
-    Some(Message::Signal(Signal {
-        stamp,
-        id,
-        ref_to: None,
-        body: SignalBody::Errors {
-            items: Seq::of(items),
-        },
-    }))
+    };
+    Some(Seq::of(vec![in alloc; item].ok()?))
+}
+
+/// An error signal of one error.
+pub fn error(alloc: Global) -> Option<Message> {
+    match (stamp(alloc), id(alloc), one_item(alloc)) {
+        (Some(stamp), Some(id), Some(items)) => Some(Message::Signal(Signal {
+            stamp,
+            id,
+            ref_to: None,
+            body: SignalBody::Errors { items },
+        })),
+        (stamp, id, items) => {
+            drop(stamp);
+            drop(id);
+            drop(items);
+            None
+        }
+    }
 }

@@ -44,17 +44,17 @@ pub enum Said {
 
 /// What happens at an end.
 #[derive(Clone, Copy)]
-pub enum Step<'a> {
+pub enum Step {
     /// The bytes `hello` are handed in by this mode.
-    Submit(&'a str),
+    Submit(&'static str),
     Tick(u64),
     Take,
     /// A pull request by this mode is asked for.
-    Ask(&'a str),
+    Ask(&'static str),
     /// The message comes that the other end pushed last.
     Hear,
     /// A pull request for this channel comes.
-    Pull(&'a str),
+    Pull(&'static str),
     /// A receipt comes of the message that it pushed last.
     Receipt,
     /// The same, without a copy of the header.
@@ -62,7 +62,7 @@ pub enum Step<'a> {
     /// The same, with a copy that has another action.
     OtherReceipt,
     /// A receipt comes of the message of this identifier.
-    ReceiptOf(&'a str),
+    ReceiptOf(&'static str),
     /// The error 0006, a warning, comes about the message that it pushed last.
     Warning,
     /// The error 0301, a failure, comes about it.
@@ -138,7 +138,7 @@ struct Rig {
 }
 
 /// How many steps two new ends answer as they should, up to the first that they don't.
-pub fn right_steps(alloc: Global, steps: &[(End, Step<'_>, Said)]) -> usize {
+pub fn right_steps(alloc: Global, steps: &[(End, Step, Said)]) -> usize {
     match (new_end(alloc), new_end(alloc)) {
         (Some(mut a), Some(mut b)) => {
             let right = right_steps_of(&mut a, &mut b, steps);
@@ -155,7 +155,7 @@ pub fn right_steps(alloc: Global, steps: &[(End, Step<'_>, Said)]) -> usize {
 }
 
 /// How many steps these two answer as they should, up to the first that they don't.
-fn right_steps_of(a: &mut Rig, b: &mut Rig, steps: &[(End, Step<'_>, Said)]) -> usize {
+fn right_steps_of(a: &mut Rig, b: &mut Rig, steps: &[(End, Step, Said)]) -> usize {
     for place in 0..steps.len() {
         let (end, step, said) = steps[place];
         let answer = match end {
@@ -182,14 +182,27 @@ fn new_end(alloc: Global) -> Option<Rig> {
 
 impl Rig {
     /// What it says to a step.
-    #[tactic(auto, unfolding(exchange_model::specs::Coming::may_come, exchange_model::specs::ErrorCodes::error_row, exchange_model::specs::ErrorCodes::error_table))]
-    fn does(&mut self, step: Step<'_>, other: &Rig) -> Option<Said> {
+    #[tactic(auto, unfolding(exchange_model::specs::Coming::may_come))]
+    fn does(&mut self, step: Step, other: &Rig) -> Option<Said> {
         match step {
             Step::Submit(mode) => self.submits(mode),
             Step::Tick(moment) => self.ticks(moment),
             Step::Take => self.says(What::Take),
             Step::Ask(mode) => self.asks(mode),
             Step::Hear => self.hears(other),
+            Step::Read(n) => self.says(What::Read { n }),
+            Step::Status => self.status(),
+            Step::Inbox => Some(Said::Count(self.core.totals().inbox)),
+            Step::Receipts => Some(Said::Count(self.core.totals().receipted)),
+            Step::Size => Some(Said::Count(self.core.size())),
+            signal => self.hears_of(signal),
+        }
+    }
+
+    /// What it says to a signal that comes.
+    #[tactic(auto, unfolding(exchange_model::specs::ErrorCodes::error_row, exchange_model::specs::ErrorCodes::error_table))]
+    fn hears_of(&mut self, signal: Step) -> Option<Said> {
+        match signal {
             Step::Pull(channel) => self.is_pulled(channel),
             Step::Receipt => self.is_answered(true),
             Step::BareReceipt => self.is_answered(false),
@@ -197,11 +210,7 @@ impl Rig {
             Step::ReceiptOf(id) => self.is_answered_for(id),
             Step::Warning => self.is_refused(6),
             Step::Failure => self.is_refused(301),
-            Step::Read(n) => self.says(What::Read { n }),
-            Step::Status => self.status(),
-            Step::Inbox => Some(Said::Count(self.core.totals().inbox)),
-            Step::Receipts => Some(Said::Count(self.core.totals().receipted)),
-            Step::Size => Some(Said::Count(self.core.size())),
+            _ => None,
         }
     }
 
@@ -277,13 +286,18 @@ impl Rig {
     /// The bytes `hello` are handed in by this mode.
     #[tactic(auto, unfolding(exchange_model::specs::Coming::may_come))]
     fn submits(&mut self, mode: &str) -> Option<Said> {
-        let mode = Text::read(self.alloc, mode.as_bytes()).ok()?;
-        let loads = hello(self.alloc)?;
-        self.says(What::Submit {
-            mode,
-            conversation: None,
-            loads,
-        })
+        match (Text::read(self.alloc, mode.as_bytes()), hello(self.alloc)) {
+            (Ok(mode), Some(loads)) => self.says(What::Submit {
+                mode,
+                conversation: None,
+                loads,
+            }),
+            (mode, loads) => {
+                drop(mode);
+                drop(loads);
+                None
+            }
+        }
     }
 }
 
@@ -373,9 +387,20 @@ impl Rig {
 
 /// The bytes `hello`.
 fn hello(alloc: Global) -> Option<Seq<Load>> {
-    let media = Octets::of(Vec::from_slice(alloc, b"text/plain").ok()?);
-    let content = Octets::of(Vec::from_slice(alloc, b"hello").ok()?);
-    Some(Seq::of(vec![in alloc; Load { media, content }].ok()?))
+    match (octets(alloc, b"text/plain"), octets(alloc, b"hello")) {
+        (Some(media), Some(content)) => {
+            Some(Seq::of(vec![in alloc; Load { media, content }].ok()?))
+        }
+        (media, content) => {
+            drop(media);
+            drop(content);
+            None
+        }
+    }
+}
+
+fn octets(alloc: Global, bytes: &[u8]) -> Option<Octets> {
+    Some(Octets::of(Vec::from_slice(alloc, bytes).ok()?))
 }
 
 /// A receipt of the message of this identifier, without a copy of its header.

@@ -1,6 +1,6 @@
-use super::{Said, outcome, read_table, read_two};
+use super::{Row, Said, first_other, outcome, read_two};
 use pmodes::{Key, Modes};
-use std::test::Fail;
+use std::alloc::Global;
 
 const DOCUMENTS: [(&[u8], Said); 11] = [
     (b"[[", Said::Toml),
@@ -16,37 +16,40 @@ const DOCUMENTS: [(&[u8], Said); 11] = [
     (b"", Said::Modes(0)),
 ];
 
-#[test]
-fn a_document_has_an_array_of_tables(rt: HostRuntime) -> Result<(), Fail> {
-    for (bytes, expected) in DOCUMENTS {
-        let read = outcome(Modes::read(rt.alloc(), bytes));
-        assert_eq!(rt; read, expected, "{} bytes", bytes.len());
+/// The first document of which something else is said.
+fn first_other_document(alloc: Global) -> Option<usize> {
+    for (row, (bytes, said)) in DOCUMENTS.iter().enumerate() {
+        if outcome(Modes::read(alloc, bytes)) != *said {
+            return Some(row);
+        }
     }
-    Ok(())
+    None
 }
 
 #[test]
-fn the_first_fault_is_named(rt: HostRuntime) -> Result<(), Fail> {
-    assert_eq!(rt;
-        read_table(
-            rt.alloc(),
-            "name",
-            "name = \" m\"\nperiods = 1\ncollect = 1"
-        )?,
-        Said::Range(0, Key::Name)
-    );
-    assert_eq!(rt;
-        read_table(rt.alloc(), "period", "collect = 1")?,
-        Said::Missing(0, Key::Period)
-    );
-    assert_eq!(rt;
-        read_two(rt.alloc(), "retries", "retries = 1001")?,
-        Said::Range(1, Key::Retries)
-    );
-    Ok(())
+fn a_document_has_an_array_of_tables(rt: HostRuntime) {
+    assert_eq!(rt; first_other_document(rt.alloc()), None);
 }
 
-const SECOND_TABLES: [(&str, &str, Said); 6] = [
+/// Tables with more than one fault.
+const TWO_FAULTS: [Row; 2] = [
+    (
+        "name",
+        "name = \" m\"\nperiods = 1\ncollect = 1",
+        Said::Range(0, Key::Name),
+    ),
+    ("period", "collect = 1", Said::Missing(0, Key::Period)),
+];
+
+#[test]
+fn the_first_fault_is_named(rt: HostRuntime) {
+    let first = first_other(rt.alloc(), &TWO_FAULTS);
+    let second = read_two(rt.alloc(), "retries", "retries = 1001");
+    assert_eq!(rt; (first, second), (None, Said::Range(1, Key::Retries)));
+}
+
+/// Tables behind the right one, and what is said of both.
+const SECOND_TABLES: [Row; 6] = [
     ("name", "name = \"n\"", Said::Twice),
     ("action", "action = \"d\"", Said::Modes(2)),
     ("", "agreement = \"g\"", Said::Modes(2)),
@@ -55,11 +58,17 @@ const SECOND_TABLES: [(&str, &str, Said); 6] = [
     ("action", "action = \" c \"", Said::Ambiguous),
 ];
 
-#[test]
-fn modes_have_different_names_and_terms(rt: HostRuntime) -> Result<(), Fail> {
-    for (without, line, expected) in SECOND_TABLES {
-        let read = read_two(rt.alloc(), without, line)?;
-        assert_eq!(rt; read, expected, "{line}");
+/// The first row of whose table behind the right one something else is said.
+fn first_other_second(alloc: Global) -> Option<usize> {
+    for (row, (without, line, said)) in SECOND_TABLES.iter().enumerate() {
+        if read_two(alloc, without, line) != *said {
+            return Some(row);
+        }
     }
-    Ok(())
+    None
+}
+
+#[test]
+fn modes_have_different_names_and_terms(rt: HostRuntime) {
+    assert_eq!(rt; first_other_second(rt.alloc()), None);
 }

@@ -1,6 +1,5 @@
-use super::{Said, read_table};
+use super::{Row, Said, first_in_range, first_other};
 use pmodes::Key;
-use std::test::Fail;
 
 const WRONG_NAMES: [&str; 6] = [
     "name = 1",
@@ -12,15 +11,12 @@ const WRONG_NAMES: [&str; 6] = [
 ];
 
 #[test]
-fn a_name_is_1_to_64_plain_characters(rt: HostRuntime) -> Result<(), Fail> {
-    for line in WRONG_NAMES {
-        let read = read_table(rt.alloc(), "name", line)?;
-        assert_eq!(rt; read, Said::Range(0, Key::Name), "{line}");
-    }
-    Ok(())
+fn a_name_is_1_to_64_plain_characters(rt: HostRuntime) {
+    let in_range = first_in_range(rt.alloc(), "name", Key::Name, &WRONG_NAMES);
+    assert_eq!(rt; in_range, None);
 }
 
-const WRONG_SIDES: [(&str, &str, Said); 11] = [
+const WRONG_SIDES: [Row; 11] = [
     ("name", "", Said::Missing(0, Key::Name)),
     ("from", "", Said::Missing(0, Key::From)),
     ("from", "from = \"a\"", Said::Range(0, Key::From)),
@@ -39,63 +35,67 @@ const WRONG_SIDES: [(&str, &str, Said); 11] = [
 ];
 
 #[test]
-fn a_side_is_a_table_with_a_role(rt: HostRuntime) -> Result<(), Fail> {
-    for (without, line, expected) in WRONG_SIDES {
-        let read = read_table(rt.alloc(), without, line)?;
-        assert_eq!(rt; read, expected, "{line}");
-    }
-    Ok(())
+fn a_side_is_a_table_with_a_role(rt: HostRuntime) {
+    let other = first_other(rt.alloc(), &WRONG_SIDES);
+    assert_eq!(rt; other, None);
 }
 
-const WRONG_PARTIES: [(&str, Said); 11] = [
-    ("to = { role = \"s\" }", Said::Missing(0, Key::Party)),
+const WRONG_PARTIES: [Row; 11] = [
+    ("to", "to = { role = \"s\" }", Said::Missing(0, Key::Party)),
     (
+        "to",
         "to = { role = \"s\", party = { id = \"a\" } }",
         Said::Range(0, Key::Party),
     ),
     (
+        "to",
         "to = { role = \"s\", party = [] }",
         Said::Range(0, Key::Party),
     ),
     (
+        "to",
         "to = { role = \"s\", party = [ 1 ] }",
         Said::Range(0, Key::Party),
     ),
     (
+        "to",
         "to = { role = \"s\", party = [ { }, \"a\" ] }",
         Said::Range(0, Key::Party),
     ),
     (
+        "to",
         "to = { role = \"s\", party = [ {}, {}, {}, {}, {}, {}, {}, {}, {}, {}, {}, {}, {}, {}, {}, {}, {} ] }",
         Said::Range(0, Key::Party),
     ),
     (
+        "to",
         "to = { role = \"s\", party = [ { } ] }",
         Said::Missing(0, Key::PartyKey),
     ),
     (
+        "to",
         "to = { role = \"s\", party = [ { id = 1 } ] }",
         Said::Range(0, Key::PartyKey),
     ),
     (
+        "to",
         "to = { role = \"s\", party = [ { id = \"a\" }, { type = \"t\" } ] }",
         Said::Missing(0, Key::PartyKey),
     ),
     (
+        "to",
         "to = { role = \"s\", party = [ { id = \"a\", type = \"\" } ] }",
         Said::Range(0, Key::PartyKey),
     ),
     (
+        "to",
         "to = { role = \"s\", party = [ { id = \"a\", type = true } ] }",
         Said::Range(0, Key::PartyKey),
     ),
 ];
 
 #[test]
-fn a_side_has_parties(rt: HostRuntime) -> Result<(), Fail> {
-    for (line, expected) in WRONG_PARTIES {
-        let read = read_table(rt.alloc(), "to", line)?;
-        assert_eq!(rt; read, expected, "{line}");
-    }
-    Ok(())
+fn a_side_has_parties(rt: HostRuntime) {
+    let other = first_other(rt.alloc(), &WRONG_PARTIES);
+    assert_eq!(rt; other, None);
 }

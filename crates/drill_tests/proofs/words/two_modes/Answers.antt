@@ -6,13 +6,13 @@ use Rattle.drill_texts.specs.Modes.{AreDrillModes, IsSomeDrillMode}
 use Rattle.drill_texts.proofs.ListLemmas.{two_are_modes}
 use Rattle.drill_tests.proofs.words.two_modes.Goals as goal
 
-pub returns : goal.returns
-returns c =
-    let pushed : Mode = c.in_ok-pushed.pushed in
-    let pulled : Mode = c.in_ok-pulled.pulled in
+pub returns-in-Ok-Ok : goal.returns-in-Ok-Ok
+returns-in-Ok-Ok c =
+    let pushed : Mode = c.in-Ok-Ok.pushed in
+    let pulled : Mode = c.in-Ok-Ok.pulled in
     let first : c.push_reserved.new.self.items ≡ pushed ∷ [] = c.push_reserved.ensures.items ∙ ap (λ (l : List Mode). l ++ pushed ∷ []) c.in_ok-list.ensures.items in
-    let whole : c.of.result ≡ pushed ∷ pulled ∷ [] = c.of.ensures ∙ c.push_reserved-2.ensures.items ∙ ap (λ (l : List Mode). l ++ pulled ∷ []) first in
-    let one : IsSomeDrillMode pushed = (codes "m", Push, 3, 5000, c.in_ok-pushed.ensures) in
-    let other : IsSomeDrillMode pulled = (codes "m2", Pull, 3, 5000, c.in_ok-pulled.ensures) in
+    let whole : c.of.result ≡ pushed ∷ pulled ∷ [] = c.of.ensures ∙ c.push_reserved-in-Ok-Ok.ensures.items ∙ ap (λ (l : List Mode). l ++ pulled ∷ []) first in
+    let one : IsSomeDrillMode pushed = (codes "m", Push, 3, 5000, c.in-Ok-Ok.ensures) in
+    let other : IsSomeDrillMode pulled = (codes "m2", Pull, 3, 5000, c.in-Ok-Ok.ensures') in
     let differ : pushed.name ≢ pulled.name = λ same. (let clash : codes "m" ≡ codes "m2" = sym one.4.named ∙ same ∙ other.4.named in absurd (omega (arith, ap (λ (l : List ℕ). length l) clash))) in
     subst AreDrillModes (sym whole) (two_are_modes pushed pulled one other differ)

@@ -1,4 +1,4 @@
-use Rattle.drill.proofs.StageLemmas.{mode_line, mode_turns}
+use Rattle.drill.proofs.StageLemmas.{mode_line, mode_played}
 use Rattle.drill.proofs.stage.Stage.play.Goals as goal
 
 pub name_mode-requires-clause-named : goal.name_mode-requires-clause-named
@@ -19,12 +19,12 @@ name_mode-requires-clause-period c =
 
 pub returns-in-Mode-clause-right : goal.returns-in-Mode-clause-right
 returns-in-Mode-clause-right c =
-    (mode_turns c.args.line.now c.in-Mode.name c.in-Mode.way c.in-Mode.retries c.in-Mode.period c.args.self.now c.name_mode.new.self c.name_mode.result
+    (mode_played c.args.line.now c.in-Mode.name c.in-Mode.way c.in-Mode.retries c.in-Mode.period c.args.self.now c.name_mode.new.self c.name_mode.result
     c.in-Mode.is c.requires.spelled c.requires.short
     c.name_mode.ensures.placed c.name_mode.ensures.adds c.name_mode.ensures.wrong c.name_mode.ensures.few).right
 
 pub returns-in-Mode-clause-plays : goal.returns-in-Mode-clause-plays
 returns-in-Mode-clause-plays c =
-    (mode_turns c.args.line.now c.in-Mode.name c.in-Mode.way c.in-Mode.retries c.in-Mode.period c.args.self.now c.name_mode.new.self c.name_mode.result
+    (mode_played c.args.line.now c.in-Mode.name c.in-Mode.way c.in-Mode.retries c.in-Mode.period c.args.self.now c.name_mode.new.self c.name_mode.result
     c.in-Mode.is c.requires.spelled c.requires.short
     c.name_mode.ensures.placed c.name_mode.ensures.adds c.name_mode.ensures.wrong c.name_mode.ensures.few).plays

@@ -1,0 +1,121 @@
+//! Runs of the program, and how each ends.
+
+use as4_flow::{MemorySink, MemorySource};
+use as4_tool::run;
+use as4_values::{Octets, Seq};
+use std::alloc::{AllocError, Global};
+
+/// A run that has ended.
+#[derive(Drop)]
+struct End {
+    status: u8,
+    written: Vec<u8>,
+    told: Vec<u8>,
+}
+
+/// The numbers of the calls that fail, the first call being 1, and 0 for none.
+#[derive(Clone, Copy)]
+pub(crate) struct Failing {
+    read: u64,
+    write: u64,
+    tell: u64,
+}
+
+pub(crate) const NOTHING_FAILS: Failing = Failing {
+    read: 0,
+    write: 0,
+    tell: 0,
+};
+
+/// The first read fails.
+pub(crate) const READ_FAILS: Failing = Failing {
+    read: 1,
+    write: 0,
+    tell: 0,
+};
+
+/// The first write of the output fails.
+pub(crate) const WRITE_FAILS: Failing = Failing {
+    read: 0,
+    write: 1,
+    tell: 0,
+};
+
+/// The first write of the errors fails.
+pub(crate) const TELL_FAILS: Failing = Failing {
+    read: 0,
+    write: 0,
+    tell: 1,
+};
+
+/// The bytes that a sink takes without asking for more memory: the longest text that a test writes but one has fewer.
+const ROOM: usize = 8_192;
+
+/// A sink that has room for all that a test writes.
+pub(crate) fn sink(alloc: Global, failing: u64) -> Result<MemorySink, AllocError> {
+    let mut sink = MemorySink::of(alloc, Vec::new(alloc), vec![in alloc; failing]?);
+    sink.reserve(ROOM)?;
+    Ok(sink)
+}
+
+/// The words that stand between single spaces.
+pub(crate) fn words_of(alloc: Global, line: &str) -> Result<Seq<Octets>, AllocError> {
+    let mut words = Vec::new(alloc);
+    for word in line.split(' ') {
+        words.push(Octets::of(Vec::from_slice(alloc, word.as_bytes())?))?;
+    }
+    Ok(Seq::of(words))
+}
+
+/// Runs the words.
+fn end_of(
+    alloc: Global,
+    words: &Seq<Octets>,
+    file: &[u8],
+    failing: Failing,
+) -> Result<End, AllocError> {
+    let mut output = sink(alloc, failing.write)?;
+    let mut errors = sink(alloc, failing.tell)?;
+    let fails = vec![in alloc; failing.read]?;
+    let mut input = MemorySource::of(file.to_vec(alloc)?, Vec::new(alloc), fails);
+    let status = run(alloc, words, &mut input, &mut output, &mut errors);
+    Ok(End {
+        status,
+        written: output.into_bytes(),
+        told: errors.into_bytes(),
+    })
+}
+
+/// A status, and what is written and told with it.
+pub(crate) type Wanted<'a> = (u8, &'a [u8], &'a [u8]);
+
+/// Whether the words, with this input, end so.
+pub(crate) fn end_so(
+    alloc: Global,
+    words: &Seq<Octets>,
+    file: &[u8],
+    failing: Failing,
+    wanted: Wanted,
+) -> bool {
+    let (status, written, told) = wanted;
+    match end_of(alloc, words, file, failing) {
+        Ok(end) => {
+            end.status == status && end.written.as_slice() == written && end.told.as_slice() == told
+        }
+        Err(_) => false,
+    }
+}
+
+/// Whether the words of this line, with this input, end so.
+pub(crate) fn ends(
+    alloc: Global,
+    line: &str,
+    file: &[u8],
+    failing: Failing,
+    wanted: Wanted,
+) -> bool {
+    match words_of(alloc, line) {
+        Ok(words) => end_so(alloc, &words, file, failing, wanted),
+        Err(_) => false,
+    }
+}

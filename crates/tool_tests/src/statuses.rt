@@ -1,0 +1,111 @@
+//! The number of each status, and what it tells.
+
+use crate::ended::{Failing, READ_FAILS, TELL_FAILS, WRITE_FAILS, ends, sink};
+use as4_tool::Status;
+use std::alloc::Global;
+
+/// Words, what fails, and the status and the line with which they end.
+const FAULTS: [(&str, Failing, u8, &str); 5] = [
+    ("answer 0 1", READ_FAILS, 3, "read fault\n"),
+    ("drill", READ_FAILS, 3, "read fault\n"),
+    ("--help", WRITE_FAILS, 4, "write fault\n"),
+    ("answer 0 1", TELL_FAILS, 13, ""),
+    ("answer 0", TELL_FAILS, 64, ""),
+];
+
+/// The first row that ends otherwise, or has something written.
+fn first_other_fault(alloc: Global, rows: &[(&str, Failing, u8, &str)]) -> Option<usize> {
+    for (at, (line, failing, status, told)) in rows.iter().enumerate() {
+        let wanted = (*status, b"".as_slice(), told.as_bytes());
+        if !ends(
+            alloc,
+            line,
+            b"Content-Type: text/xml\r\n\r\n<order/>",
+            *failing,
+            wanted,
+        ) {
+            return Some(at);
+        }
+    }
+    None
+}
+
+#[test]
+fn each_fault_has_its_status(rt: HostRuntime) {
+    assert_eq!(rt; first_other_fault(rt.alloc(), &FAULTS), None);
+}
+
+/// Whether the status has this number, and tells just this to a sink of which this write fails.
+fn is_told(alloc: Global, status: Status, failing: u64, code: u8, told: &str) -> bool {
+    let Ok(mut errors) = sink(alloc, failing) else {
+        return false;
+    };
+    status.tell(&mut errors);
+    status.code() == code && errors.bytes() == told.as_bytes()
+}
+
+const STATUSES: [(Status, u8, &str); 10] = [
+    (Status::Done, 0, ""),
+    (
+        Status::WrongLine {
+            number: 18_446_744_073_709_551_615,
+        },
+        2,
+        "line 18446744073709551615\nas4 --help shows the lines of a script\n",
+    ),
+    (
+        Status::WrongLine { number: 1 },
+        2,
+        "line 1\nas4 --help shows the lines of a script\n",
+    ),
+    (Status::ReadFault, 3, "read fault\n"),
+    (Status::WriteFault, 4, "write fault\n"),
+    (Status::NoMemory, 5, "no memory\n"),
+    (Status::TooManyEvents, 6, "more than 100000 events\n"),
+    (Status::TooLong, 11, "input too long\n"),
+    (Status::Unbuilt, 13, "not built yet\n"),
+    (
+        Status::BadWords,
+        64,
+        "bad words\nas4 --help shows the words\n",
+    ),
+];
+
+/// The first of these statuses that has another number or tells something else.
+fn first_other_status(alloc: Global, rows: &[(Status, u8, &str)]) -> Option<usize> {
+    for (at, (status, code, told)) in rows.iter().enumerate() {
+        if !is_told(alloc, *status, 0, *code, told) {
+            return Some(at);
+        }
+    }
+    None
+}
+
+#[test]
+fn each_status_has_its_number_and_line(rt: HostRuntime) {
+    assert_eq!(rt; first_other_status(rt.alloc(), &STATUSES), None);
+}
+
+/// What is told of a wrong line, by the write that fails.
+const FRONTS: [(u64, &str); 4] = [
+    (1, ""),
+    (2, "line "),
+    (3, "line 12"),
+    (4, "line 12\nas4 --help shows the lines of a script\n"),
+];
+
+/// The first row of which something else is told.
+fn first_other_front(alloc: Global, rows: &[(u64, &str)]) -> Option<usize> {
+    let status = Status::WrongLine { number: 12 };
+    for (at, (failing, told)) in rows.iter().enumerate() {
+        if !is_told(alloc, status, *failing, 2, told) {
+            return Some(at);
+        }
+    }
+    None
+}
+
+#[test]
+fn a_line_is_told_up_to_a_fault(rt: HostRuntime) {
+    assert_eq!(rt; first_other_front(rt.alloc(), &FRONTS), None);
+}
