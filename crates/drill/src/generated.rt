@@ -320,12 +320,39 @@ pub fn generate<K: Sink>(alloc: Global, seed: u64, count: u64, sink: &mut K) -> 
     }) }
     ensures counted { K.faults sink.old ≤ K.faults sink.new }
 {
-    let mut stage = match Stage::new(alloc) {
-        Ok(stage) => stage,
-        Err(_) => return DrillEnd::NoMemory,
-    };
-    match run(alloc, &mut stage, seed, count) {
-        Ok(()) => write_ends(&stage, sink),
+    match Stage::new(alloc) {
+        Ok(mut stage) => {
+            let end = generate_on(alloc, &mut stage, seed, count, sink);
+            drop(stage);
+            end
+        }
+        Err(_) => DrillEnd::NoMemory,
+    }
+}
+
+// The same, on a new stage.
+fn generate_on<K: Sink>(
+    alloc: Global,
+    stage: &mut Stage,
+    seed: u64,
+    count: u64,
+    sink: &mut K,
+) -> DrillEnd
+    requires few { count ≤ 1000 }
+    requires new { stage.old ≡ new_stage }
+    ensures ends { GeneratedEnds seed count result (record {
+      left = None;
+      taken = K.taken sink.old;
+      later = K.taken sink.new;
+      read_faults = 0;
+      later_read_faults = 0;
+      write_faults = K.faults sink.old;
+      later_write_faults = K.faults sink.new;
+    }) }
+    ensures counted { K.faults sink.old ≤ K.faults sink.new }
+{
+    match run(alloc, stage, seed, count) {
+        Ok(()) => write_ends(stage, sink),
         Err(Refused::Wrong) => unreachable!(),
         Err(Refused::TooMany) => DrillEnd::TooMany,
         Err(Refused::NoMemory) => DrillEnd::NoMemory,

@@ -6,7 +6,7 @@ ghost use Rattle.drill.specs.Events.{id_at, package_for, side_of};
 ghost use Rattle.drill.specs.Transcript.{Makes, end_lines, events_limit, new_stage};
 ghost use Rattle.exchange_model.specs.Coming.{may_come};
 ghost use Rattle.exchange_model.specs.LosslessRound.{across, party_at};
-ghost use Rattle.exchange_model.specs.World.{IsHeard};
+ghost use Rattle.exchange_model.specs.World.{IsHeard, new_party};
 ghost use Rattle.exchange_model.specs.declared.what.What.TheVariants.{Came};
 
 use crate::naming::copies_of;
@@ -70,12 +70,27 @@ impl Stage {
         if self.begun {
             return Ok(());
         }
-        let left = modes_of(self.alloc, copies_of(self.alloc, self.modes.as_slice())?)?;
-        let right = modes_of(self.alloc, copies_of(self.alloc, self.modes.as_slice())?)?;
-        self.left = Player::new(self.alloc, left);
-        self.right = Player::new(self.alloc, right);
-        self.begun = true;
-        Ok(())
+        match (self.new_player(), self.new_player()) {
+            (Ok(left), Ok(right)) => {
+                self.left = left;
+                self.right = right;
+                self.begun = true;
+                Ok(())
+            }
+            (left, right) => {
+                drop(left);
+                drop(right);
+                Err(NoMemory)
+            }
+        }
+    }
+
+    /// An end to which nothing happened yet, with the modes.
+    fn new_player(&self) -> Result<Player, NoMemory>
+        ensures { IfOk result (λ player. (player.party ≡ new_party) × (player.modes ≡ self.now.modes)) }
+    {
+        let modes = modes_of(self.alloc, copies_of(self.alloc, self.modes.as_slice())?)?;
+        Ok(Player::new(self.alloc, modes))
     }
 
     /// The event, whose nonce is its number among all, happens at the end. It gives what is written at a line that names

@@ -3,7 +3,7 @@ use Rattle.std.specs.Prelude.{Err}
 use Rattle.drill.specs.Generating.{Goes}
 use Rattle.drill.specs.declared.refused.Refused.{Refused}
 use Rattle.drill.specs.declared.refused.Refused.TheVariants as refused
-use Rattle.drill.proofs.generated.generate.Goals as goal
+use Rattle.drill.proofs.generated.generate_on.Goals as goal
 
 too_many : {X : Type 0} (e : Refused) (P : X → Type 0) (S : Type 0) → e ≡ refused.TooMany → Goes {X = X} (Err e) P S → S
 too_many refused.TooMany P S is goes = goes
