@@ -13,6 +13,8 @@ use as4_values::{Octets, first_not_xml};
 /// How deep a tree may be; its outermost element has depth 1.
 pub const MAX_DEPTH: usize = 32;
 
+const _: () = prove!(MAX_DEPTH == 32);
+
 /// Whether a tree can be written: its names are in the namespaces of SOAP and ebMS (those of attributes also in
 /// none), no two attributes of an element have one name, texts and values hold characters of XML, and it is at
 /// most 32 levels deep.

@@ -11,6 +11,8 @@ use crate::text::Text;
 /// How many bytes an address has at most.
 pub const MAX_ADDRESS: usize = 255;
 
+const _: () = prove!(MAX_ADDRESS == 255);
+
 const LAST_PORT: u32 = 65_535;
 
 /// Whether the text is an address of at most 255 bytes.

@@ -17,6 +17,8 @@ use std::alloc::Global;
 /// The last moment that has a stamp, 9999-12-31T23:59:59.999Z, in milliseconds since 1970-01-01T00:00:00Z.
 pub const MAX_MOMENT: u64 = 253_402_300_799_999;
 
+const _: () = prove!(MAX_MOMENT == 253402300799999);
+
 /// The form of a moment's stamp, where `0` stands for any digit.
 const FORM: &[u8; 24] = b"0000-00-00T00:00:00.000Z";
 

@@ -13,6 +13,8 @@ use std::marker::Model;
 /// How many bytes a text has at most.
 pub const MAX_TEXT: usize = 65_536;
 
+const _: () = prove!(MAX_TEXT == 65536);
+
 /// A text of a header: 1 to 65,536 bytes of UTF-8, characters that XML allows (XML 1.0, section 2.2),
 /// without a blank at either end.
 #[derive(Drop)]

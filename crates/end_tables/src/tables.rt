@@ -18,6 +18,8 @@ use std::marker::Model;
 /// The most bytes that a journal has.
 pub const MAX_SIZE: u64 = 1 << 30;
 
+const _: () = prove!(MAX_SIZE == 1073741824);
+
 /// The tables of one end. Contracts see a `Kept`: the end, and what the tables have room for.
 #[derive(Drop)]
 pub struct EndTables {

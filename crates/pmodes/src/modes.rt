@@ -18,6 +18,8 @@ use toml::Table;
 /// How many modes a file has at most.
 pub const MAX_MODES: usize = 1024;
 
+const _: () = prove!(MAX_MODES == 1024);
+
 /// The processing modes of one end, in order: at most 1,024, with different names, and no message belongs to
 /// two of them. Contracts see the list.
 #[derive(Drop)]
