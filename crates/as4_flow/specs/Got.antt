@@ -15,6 +15,12 @@ OnNothing (Gave n) P = Unit {0}
 OnNothing End P = P
 OnNothing Failed P = P
 
+-- P holds unless the read failed
+abbrev pub UnlessFailed : Got → Type 0 → Type 0
+UnlessFailed (Gave n) P = P
+UnlessFailed End P = P
+UnlessFailed Failed P = Unit {0}
+
 -- the read failed
 abbrev pub is_failed : Got → Bool
 is_failed (Gave n) = false

@@ -100,6 +100,7 @@ impl Sink for MemorySink {
 
         ensures stays { result ≡ Put.Failed → Some self.new.bytes ≡ Some self.old.bytes }
         ensures failed { result ≡ Put.Failed → Rose self.old.faults self.new.faults }
+        ensures quiet { IfTook result (λ _. self.new.faults ≡ self.old.faults) }
         ensures counted { self.old.faults ≤ self.new.faults }
 
         // Which calls fail, how much the others take, and what each leaves.

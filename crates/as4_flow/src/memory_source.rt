@@ -65,7 +65,7 @@ impl MemorySource {
 }
 
 impl Source for MemorySource {
-    ghost use Rattle.as4_flow.specs.Got.{IfGave, OnNothing};
+    ghost use Rattle.as4_flow.specs.Got.{IfGave, OnNothing, UnlessFailed};
 
     ghost left = { λ s. Some s.bytes };
 
@@ -82,6 +82,7 @@ impl Source for MemorySource {
         ensures end { result ≡ Got.End → Told (Some self.old.bytes) (λ bytes. bytes ≡ []) }
 
         ensures failed { result ≡ Got.Failed → Rose self.old.faults self.new.faults }
+        ensures quiet { UnlessFailed result (self.new.faults ≡ self.old.faults) }
         ensures counted { self.old.faults ≤ self.new.faults }
 
         // Which calls fail, how much the others give, and what each leaves.

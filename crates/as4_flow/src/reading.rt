@@ -9,8 +9,12 @@ use std::alloc::{AllocError, Global};
 /// The most bytes that one read asks for.
 const PIECE: usize = 1 << 16;
 
+const _: () = prove!(PIECE == 65536);
+
 /// The least that the buffer grows by, in bytes.
 const LEAST_STEP: usize = 1 << 20;
+
+const _: () = prove!(LEAST_STEP == 1048576);
 
 /// Why a source was not read to its end.
 #[derive(Clone, Copy, Debug, PartialEq, Eq)]
@@ -50,6 +54,9 @@ pub fn read_all<S: Source>(
     // Whatever the answer, the source has lost a front, of one byte above the limit at most.
     ensures front { LosesFront (limit + 1) (S.left source.old) (S.left source.new) }
     ensures counted { S.faults source.old ≤ S.faults source.new }
+
+    // No fault is read over.
+    ensures quiet { ¬ IsErrOf result ReadRefusal.Failed → S.faults source.new ≡ S.faults source.old }
 {
     let mut room = vec![in alloc; 0; PIECE.min(limit.saturating_add(1))]?;
     let mut bytes = Vec::new(alloc);

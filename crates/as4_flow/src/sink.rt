@@ -1,7 +1,7 @@
 //! What takes bytes, a piece at a time, until it fails.
 //!
 //!     Took(n)  the first n bytes of the piece were taken
-//!     Failed   a fault: nothing was taken, and the count of faults rose
+//!     Failed   a fault: nothing was taken, and the count of faults rose; no other answer raises it
 ghost use Rattle.std.specs.Prelude.{◌≡◌, ℕ, Option, List, [], ◌<◌, ◌≤◌, length, take, OnOk, OnErr, IsOk};
 ghost use Rattle.as4_flow.specs.Told.{behind, TakesFront};
 ghost use Rattle.as4_flow.specs.Faults.{Rose};
@@ -32,6 +32,7 @@ pub trait Sink {
 
         ensures stays { result ≡ Put.Failed → taken self.new ≡ taken self.old }
         ensures failed { result ≡ Put.Failed → Rose (faults self.old) (faults self.new) }
+        ensures quiet { IfTook result (λ _. faults self.new ≡ faults self.old) }
         ensures counted { faults self.old ≤ faults self.new };
 }
 
@@ -43,6 +44,7 @@ pub struct SendFailed;
 #[tactic(auto, using(crate::proofs::ToldLemmas::behind_more))]
 pub fn send_all<K: Sink>(sink: &mut K, bytes: &[u8]) -> Result<(), SendFailed>
     ensures ok { OnOk result (K.taken sink.new ≡ behind (K.taken sink.old) bytes.now) }
+    ensures quiet { OnOk result (K.faults sink.new ≡ K.faults sink.old) }
     ensures err { OnErr result (Rose (K.faults sink.old) (K.faults sink.new)) }
 
     // Whatever the answer, what came is a front of the bytes.

@@ -2,7 +2,7 @@
 //!
 //!     Gave(n)  the first n bytes of the room are the next n bytes
 //!     End      no bytes are left
-//!     Failed   a fault: nothing was given, and the count of faults rose
+//!     Failed   a fault: nothing was given, and the count of faults rose; no other answer raises it
 ghost use Rattle.std.specs.Prelude.{◌≡◌, ℕ, Option, List, [], ◌<◌, ◌≤◌, length, take, drop};
 ghost use Rattle.as4_flow.specs.Told.{Told, before};
 ghost use Rattle.as4_flow.specs.Faults.{Rose};
@@ -19,7 +19,7 @@ pub enum Got {
 }
 
 pub trait Source {
-    ghost use Rattle.as4_flow.specs.Got.{IfGave, OnNothing};
+    ghost use Rattle.as4_flow.specs.Got.{IfGave, OnNothing, UnlessFailed};
 
     /// The bytes that are left to come, where the source tells them.
     ghost left: { Self → Option (List ℕ) };
@@ -39,5 +39,6 @@ pub trait Source {
         ensures end { result ≡ Got.End → Told (left self.old) (λ bytes. bytes ≡ []) }
 
         ensures failed { result ≡ Got.Failed → Rose (faults self.old) (faults self.new) }
+        ensures quiet { UnlessFailed result (faults self.new ≡ faults self.old) }
         ensures counted { faults self.old ≤ faults self.new };
 }

@@ -12,8 +12,12 @@ use std::io::{ErrorKind, Read, Write};
 /// How often a call that a signal interrupts is made, before it counts as a fault.
 const TRIES: u32 = 1_000;
 
+const _: () = prove!(TRIES == 1000);
+
 /// The most bytes that one read asks for.
 const MOST: usize = 1 << 16;
+
+const _: () = prove!(MOST == 65536);
 
 /// Any reader of std as a source, as standard input or a socket. A read that gives nothing is its end.
 #[derive(Drop)]
@@ -42,7 +46,7 @@ impl<R: Read + Drop> ReaderSource<R> {
 }
 
 impl<R: Read + Drop> Source for ReaderSource<R> {
-    ghost use Rattle.as4_flow.specs.Got.{IfGave, OnNothing, is_failed};
+    ghost use Rattle.as4_flow.specs.Got.{IfGave, OnNothing, UnlessFailed, is_failed};
     ghost use Rattle.as4_flow.specs.Streams.{reader_of, read_faults};
 
     ghost left = { λ _. None };
@@ -57,6 +61,7 @@ impl<R: Read + Drop> Source for ReaderSource<R> {
         ensures nothing { OnNothing result (room.new ≡ room.old) }
 
         ensures failed { result ≡ Got.Failed → Rose (read_faults self.old) (read_faults self.new) }
+        ensures quiet { UnlessFailed result (read_faults self.new ≡ read_faults self.old) }
         ensures counted { read_faults self.old ≤ read_faults self.new }
 
         // Where the reader says what it has left, these bytes are the next of them.
@@ -155,6 +160,7 @@ impl<W: Write + Drop> Sink for WriterSink<W> {
         ensures some { IfTook result (λ n. (1 ≤ n) × (n ≤ length piece.now)) }
 
         ensures failed { result ≡ Put.Failed → Rose (write_faults self.old) (write_faults self.new) }
+        ensures quiet { IfTook result (λ _. write_faults self.new ≡ write_faults self.old) }
         ensures counted { write_faults self.old ≤ write_faults self.new }
 
         // Where the writer says what it holds, it is these bytes that went behind it.

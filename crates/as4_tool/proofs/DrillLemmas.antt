@@ -1,8 +1,8 @@
 -- The status of a drill's end, and what it comes from.
 use Rattle.std.proofs.Common.{◌≡◌, ◌≢◌, ℕ, refl, arith}
 use Rattle.as4_flow.specs.Faults.{Rose}
-use Rattle.drill.specs.Ends.{Streams, Ends}
-use Rattle.drill.specs.Generated.{GeneratedEnds}
+use Rattle.drill.specs.Ends.{CountsAt, Streams}
+use Rattle.drill.specs.Generated.{GeneratedAt}
 use Rattle.drill.specs.declared.script.DrillEnd.{DrillEnd}
 use Rattle.drill.specs.declared.script.DrillEnd.TheVariants as ends
 use Rattle.as4_tool.specs.Status.{code_of, status_of}
@@ -19,53 +19,49 @@ no_other ends.ReadFault = (omega arith, omega arith, omega arith)
 no_other ends.WriteFault = (omega arith, omega arith, omega arith)
 no_other ends.NoMemory = (omega arith, omega arith, omega arith)
 
--- a read fault comes of the source
-pub read_fault : (end : DrillEnd) (streams : Streams) → Ends end streams → code_of (status_of end) ≡ code_of ReadFault
-    → Rose streams.read_faults streams.later_read_faults
-read_fault ends.Read streams drilled is = absurd (omega (arith, is))
-read_fault (ends.Line number) streams drilled is = absurd (omega (arith, is))
-read_fault ends.TooMany streams drilled is = absurd (omega (arith, is))
-read_fault ends.ReadFault streams drilled is = drilled.4.1
-read_fault ends.WriteFault streams drilled is = absurd (omega (arith, is))
-read_fault ends.NoMemory streams drilled is = absurd (omega (arith, is))
+-- a read fault comes of the source, and without one its count is as it was
+pub record Reads (end : DrillEnd) (streams : Streams) : Type 0 where
+  pub fault : code_of (status_of end) ≡ code_of ReadFault → Rose streams.read_faults streams.later_read_faults
+  pub quiet : code_of (status_of end) ≢ code_of ReadFault → streams.later_read_faults ≡ streams.read_faults
 
--- a write fault comes of the sink
-pub write_fault : (end : DrillEnd) (streams : Streams) → Ends end streams → code_of (status_of end) ≡ code_of WriteFault
-    → Rose streams.write_faults streams.later_write_faults
-write_fault ends.Read streams drilled is = absurd (omega (arith, is))
-write_fault (ends.Line number) streams drilled is = absurd (omega (arith, is))
-write_fault ends.TooMany streams drilled is = absurd (omega (arith, is))
-write_fault ends.ReadFault streams drilled is = absurd (omega (arith, is))
-write_fault ends.WriteFault streams drilled is = drilled.4.0
-write_fault ends.NoMemory streams drilled is = absurd (omega (arith, is))
+pub reads : (end : DrillEnd) (streams : Streams) → CountsAt end streams → Reads end streams
+reads ends.Read streams counts = record { fault = λ is. absurd (omega (arith, is)); quiet = λ _. counts.0 }
+reads (ends.Line number) streams counts = record { fault = λ is. absurd (omega (arith, is)); quiet = λ _. counts.0 }
+reads ends.TooMany streams counts = record { fault = λ is. absurd (omega (arith, is)); quiet = λ _. counts.0 }
+reads ends.ReadFault streams counts = record { fault = λ _. counts.0; quiet = λ never. absurd (never refl) }
+reads ends.WriteFault streams counts = record { fault = λ is. absurd (omega (arith, is)); quiet = λ _. counts.0 }
+reads ends.NoMemory streams counts = record { fault = λ is. absurd (omega (arith, is)); quiet = λ _. counts.0 }
+
+-- a write fault comes of the sink, and without one its count is as it was
+pub record Writes (end : DrillEnd) (streams : Streams) : Type 0 where
+  pub fault : code_of (status_of end) ≡ code_of WriteFault → Rose streams.write_faults streams.later_write_faults
+  pub quiet : code_of (status_of end) ≢ code_of WriteFault → streams.later_write_faults ≡ streams.write_faults
+
+pub writes : (end : DrillEnd) (streams : Streams) → CountsAt end streams → Writes end streams
+writes ends.Read streams counts = record { fault = λ is. absurd (omega (arith, is)); quiet = λ _. counts.1 }
+writes (ends.Line number) streams counts = record { fault = λ is. absurd (omega (arith, is)); quiet = λ _. counts.1 }
+writes ends.TooMany streams counts = record { fault = λ is. absurd (omega (arith, is)); quiet = λ _. counts.1 }
+writes ends.ReadFault streams counts = record { fault = λ is. absurd (omega (arith, is)); quiet = λ _. counts.1 }
+writes ends.WriteFault streams counts = record { fault = λ _. counts.1; quiet = λ never. absurd (never refl) }
+writes ends.NoMemory streams counts = record { fault = λ is. absurd (omega (arith, is)); quiet = λ _. counts.1 }
 
 -- a generated script ends with no read fault, and with none of the others
-pub no_fault_of_input : (seed count : ℕ) (end : DrillEnd) (streams : Streams) → GeneratedEnds seed count end streams
+pub no_fault_of_input : (seed count : ℕ) (end : DrillEnd) (streams : Streams) → GeneratedAt seed count end streams
     → (code_of (status_of end) ≢ code_of ReadFault) × (code_of (status_of end) ≢ code_of TooLong)
     × (code_of (status_of end) ≢ code_of Unbuilt) × (code_of (status_of end) ≢ code_of BadWords)
 no_fault_of_input seed count ends.Read streams drilled = (omega arith, omega arith, omega arith, omega arith)
 no_fault_of_input seed count (ends.Line number) streams drilled = absurd drilled
-no_fault_of_input seed count ends.TooMany streams drilled = (omega arith, omega arith, omega arith, omega arith)
+no_fault_of_input seed count ends.TooMany streams drilled = absurd drilled
 no_fault_of_input seed count ends.ReadFault streams drilled = absurd drilled
 no_fault_of_input seed count ends.WriteFault streams drilled = (omega arith, omega arith, omega arith, omega arith)
 no_fault_of_input seed count ends.NoMemory streams drilled = (omega arith, omega arith, omega arith, omega arith)
 
--- a write fault of a generated script comes of the sink
-pub generated_write_fault : (seed count : ℕ) (end : DrillEnd) (streams : Streams) → GeneratedEnds seed count end streams
-    → code_of (status_of end) ≡ code_of WriteFault → Rose streams.write_faults streams.later_write_faults
-generated_write_fault seed count ends.Read streams drilled is = absurd (omega (arith, is))
-generated_write_fault seed count (ends.Line number) streams drilled is = absurd drilled
-generated_write_fault seed count ends.TooMany streams drilled is = absurd (omega (arith, is))
-generated_write_fault seed count ends.ReadFault streams drilled is = absurd drilled
-generated_write_fault seed count ends.WriteFault streams drilled is = drilled.2
-generated_write_fault seed count ends.NoMemory streams drilled is = absurd (omega (arith, is))
-
 -- but where all was done or the sink failed, a generated script writes nothing
-pub generated_silent : (seed count : ℕ) (end : DrillEnd) (streams : Streams) → GeneratedEnds seed count end streams
+pub generated_silent : (seed count : ℕ) (end : DrillEnd) (streams : Streams) → GeneratedAt seed count end streams
     → code_of (status_of end) ≢ code_of Done → code_of (status_of end) ≢ code_of WriteFault → streams.later ≡ streams.taken
 generated_silent seed count ends.Read streams drilled done fault = absurd (done refl)
 generated_silent seed count (ends.Line number) streams drilled done fault = absurd drilled
-generated_silent seed count ends.TooMany streams drilled done fault = drilled.1
+generated_silent seed count ends.TooMany streams drilled done fault = absurd drilled
 generated_silent seed count ends.ReadFault streams drilled done fault = absurd drilled
 generated_silent seed count ends.WriteFault streams drilled done fault = absurd (fault refl)
 generated_silent seed count ends.NoMemory streams drilled done fault = drilled

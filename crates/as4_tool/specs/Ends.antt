@@ -20,22 +20,22 @@ Writes text status taken later =
     ⊎ ((status ≡ WriteFault) × TakesFront text taken later)
 
 -- the input is within the limit and was read to its end, and its answer was written
-abbrev pub Answers : ℕ → ℕ → Status → Streams → Option (List ℕ) → Type 0
-Answers stamp nonce status streams rest =
+abbrev pub Answers : ℕ → ℕ → Status → Streams → Type 0
+Answers stamp nonce status streams =
     (answer : List ℕ) × Told streams.left (λ file. (length file ≤ LIMIT) × IsAnswer stamp nonce file answer)
-    × Told rest (λ rest. rest ≡ []) × Writes answer status streams.taken streams.later
+    × Told streams.rest (λ rest. rest ≡ []) × Writes answer status streams.taken streams.later
 
 -- no input, and the output as it is
 abbrev pub no_input : Streams → Streams
-no_input streams = record streams { left = None; read_faults = 0; later_read_faults = 0 }
+no_input streams = record streams { left = None; rest = None; read_faults = 0; later_read_faults = 0 }
 
--- the ends that each command has, by the input and the output before and after, and what is left of the input
-abbrev pub Ends : Command → Status → Streams → Option (List ℕ) → Type 0
-Ends Help status streams rest = Writes HELP.now status streams.taken streams.later
-Ends Version status streams rest = Writes VERSION.now status streams.taken streams.later
-Ends (Answer stamp nonce) status streams rest =
-    Answers stamp nonce status streams rest
+-- the ends that each command has, by the input and the output before and after
+abbrev pub Ends : Command → Status → Streams → Type 0
+Ends Help status streams = Writes HELP.now status streams.taken streams.later
+Ends Version status streams = Writes VERSION.now status streams.taken streams.later
+Ends (Answer stamp nonce) status streams =
+    Answers stamp nonce status streams
     ⊎ IsOneOf (ReadFault ∷ NoMemory ∷ TooLong ∷ Unbuilt ∷ []) status
-Ends Drill status streams rest = (end : DrillEnd) × (status ≡ status_of end) × DrillEnds end streams
-Ends (Generate seed count) status streams rest =
+Ends Drill status streams = (end : DrillEnd) × (status ≡ status_of end) × DrillEnds end streams
+Ends (Generate seed count) status streams =
     (end : DrillEnd) × (status ≡ status_of end) × GeneratedEnds seed count end (no_input streams)

@@ -1,9 +1,8 @@
--- The exit statuses of the program, and the lines that tell them: its own choice.
+-- The exit statuses of the program, and the line that tells each: its own choice.
 use Rattle.std.specs.Prelude.{◌≡◌, ℕ, ◌⊎◌, List, [], ◌∷◌, ◌++◌, codes}
 use Rattle.std.specs.Fmt.{decimal}
 use Rattle.drill.specs.declared.script.DrillEnd.{DrillEnd}
 use Rattle.drill.specs.declared.script.DrillEnd.TheVariants as ends
-use Rattle.as4_tool.specs.Telling.{wrong_line}
 use Rattle.as4_tool.specs.declared.status.Status.{Status}
 use Rattle.as4_tool.specs.declared.status.Status.TheVariants.{Done, WrongLine, ReadFault, WriteFault, NoMemory, TooManyEvents, TooLong, Unbuilt, BadWords}
 
@@ -24,17 +23,17 @@ abbrev pub IsOneOf : List Status → Status → Type 0
 IsOneOf [] status = ⊥
 IsOneOf (one ∷ others) status = (status ≡ one) ⊎ IsOneOf others status
 
--- what is told of it on the errors, as lines
-abbrev pub lines_of : Status → List ℕ
-lines_of Done = []
-lines_of (WrongLine number) = codes "line " ++ decimal number ++ wrong_line
-lines_of ReadFault = codes "read fault\n"
-lines_of WriteFault = codes "write fault\n"
-lines_of NoMemory = codes "no memory\n"
-lines_of TooManyEvents = codes "more than 100000 events\n"
-lines_of TooLong = codes "input too long\n"
-lines_of Unbuilt = codes "not built yet\n"
-lines_of BadWords = codes "bad words\nas4 --help shows the words\n"
+-- what is told of it on the errors: one line, or nothing where all was done
+abbrev pub line_of : Status → List ℕ
+line_of Done = []
+line_of (WrongLine number) = codes "line " ++ decimal number ++ codes "\n"
+line_of ReadFault = codes "read fault\n"
+line_of WriteFault = codes "write fault\n"
+line_of NoMemory = codes "no memory\n"
+line_of TooManyEvents = codes "more than 100000 events\n"
+line_of TooLong = codes "input too long\n"
+line_of Unbuilt = codes "not built yet\n"
+line_of BadWords = codes "bad words\n"
 
 -- the status of a drill's end
 abbrev pub status_of : DrillEnd → Status

@@ -1,5 +1,5 @@
 -- What is told on the errors.
-use Rattle.std.specs.Prelude.{◌≡◌, ℕ, ◌⊎◌, List, Option, codes}
+use Rattle.std.specs.Prelude.{◌≡◌, ℕ, ◌⊎◌, List, Option}
 use Rattle.as4_flow.specs.Faults.{Rose}
 use Rattle.as4_flow.specs.Told.{behind, TakesFront}
 
@@ -7,7 +7,3 @@ use Rattle.as4_flow.specs.Told.{behind, TakesFront}
 abbrev pub Tells : List ℕ → Option (List ℕ) → Option (List ℕ) → ℕ → ℕ → Type 0
 Tells text taken later faults later_faults =
     (later ≡ behind taken text) ⊎ (TakesFront text taken later × Rose faults later_faults)
-
--- what is told behind the number of a line that isn't one of a script, or not in its place
-abbrev pub wrong_line : List ℕ
-wrong_line = codes "\nas4 --help shows the lines of a script\n"

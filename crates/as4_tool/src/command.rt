@@ -12,7 +12,9 @@ use as4_values::{MAX_MOMENT, Octets, Seq};
 use drill_script::decimal_of;
 
 /// The most messages of a generated script.
-const MAX_COUNT: u64 = 1_000;
+pub const MAX_COUNT: u64 = 1_000;
+
+const _: () = prove!(MAX_COUNT == 1000);
 
 /// What the words ask for.
 #[derive(Clone, Copy, Debug, PartialEq, Eq)]

@@ -7,7 +7,7 @@ mod running;
 mod status;
 mod texts;
 
-pub use command::{Command, command_of};
+pub use command::{Command, MAX_COUNT, command_of};
 pub use running::{LIMIT, run};
 pub use status::Status;
 pub use texts::{HELP, VERSION};

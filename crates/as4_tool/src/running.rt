@@ -3,18 +3,15 @@
 //!     --help, --version               a text                                         0, 4
 //!     answer STAMP NONCE              the answer to the input                        0, 3, 4, 5, 11, 13
 //!     drill                           what the lines of the script lead to           0, 2, 3, 4, 5, 6
-//!     drill --generate SEED COUNT     the numbers that a generated script leads to   0, 4, 5, 6
+//!     drill --generate SEED COUNT     the numbers that a generated script leads to   0, 4, 5
 //!     other words                                                                    64
 ghost use Rattle.std.specs.Prelude.{◌≡◌, ◌≢◌, ℕ, [], ◌+◌, ◌<◌, ◌≤◌, ◌↔◌, List, None, length, IfOk, IsErrOf, MatchResult};
 ghost use Rattle.as4_flow.specs.Told.{Told, LosesFront};
 ghost use Rattle.as4_flow.specs.Faults.{Rose};
 ghost use Rattle.drill.specs.Generated.{GeneratedEnds};
-ghost use Rattle.drill.specs.Transcript.{PlaysAll, Stage, new_stage};
 ghost use Rattle.drill.specs.declared.script.DrillEnd.{DrillEnd};
-ghost use Rattle.drill_script.specs.declared.line.Line.{Line};
-ghost use Rattle.exchange_model.specs.DeliveredOnce.{BothDeliverOnce};
 ghost use Rattle.as4_tool.specs.Command.{Spells, IsCommand, AsksAnswer, AsksDrill};
-ghost use Rattle.as4_tool.specs.Status.{code_of, lines_of, status_of};
+ghost use Rattle.as4_tool.specs.Status.{code_of, line_of, status_of};
 ghost use Rattle.as4_tool.specs.Answer.{IsUnbuilt};
 ghost use Rattle.as4_tool.specs.Ends.{Writes, Ends};
 ghost use Rattle.as4_tool.specs.Telling.{Tells};
@@ -25,11 +22,12 @@ use crate::status::Status;
 use crate::texts::{HELP, VERSION};
 use as4_flow::{ReadRefusal, SendFailed, Sink, Source, read_all, send_all};
 use as4_values::{MAX_MOMENT, Octets, Seq};
-use drill::a_drill_delivers_once;
 use std::alloc::Global;
 
 /// The longest input, in bytes.
 pub const LIMIT: usize = 16_842_752;
+
+const _: () = prove!(LIMIT == 16842752);
 
 /// Does all that the program does, and answers its exit status. The words are those behind the program's name.
 pub fn run<I: Source, O: Sink, E: Sink>(
@@ -43,18 +41,19 @@ pub fn run<I: Source, O: Sink, E: Sink>(
     ensures bad_words { (result ≡ code_of Status.BadWords) ↔ ¬ IsCommand words.now }
     ensures command { result ≢ code_of Status.BadWords → IsCommand words.now }
 
-    // The exit status is that of an end, its lines are told on the errors, and each command ends so.
+    // The exit status is that of an end, its line is told on the errors, and each command ends so.
     ensures ends { (status : Status) × (result ≡ code_of status)
-        × Tells (lines_of status) (E.taken errors.old) (E.taken errors.new) (E.faults errors.old) (E.faults errors.new)
+        × Tells (line_of status) (E.taken errors.old) (E.taken errors.new) (E.faults errors.old) (E.faults errors.new)
         × ((command : Command) → Spells words.now command → Ends command status (record {
           left = I.left input.old;
+          rest = I.left input.new;
           taken = O.taken output.old;
           later = O.taken output.new;
           read_faults = I.faults input.old;
           later_read_faults = I.faults input.new;
           write_faults = O.faults output.old;
           later_write_faults = O.faults output.new;
-        }) (I.left input.new)) }
+        })) }
 
     // What each other status comes from.
     ensures read_fault { result ≡ code_of Status.ReadFault → Rose (I.faults input.old) (I.faults input.new) }
@@ -62,6 +61,10 @@ pub fn run<I: Source, O: Sink, E: Sink>(
     ensures too_long { result ≡ code_of Status.TooLong → Told (I.left input.old) (λ file. LIMIT < length file) }
     ensures unbuilt { result ≡ code_of Status.Unbuilt →
         Told (I.left input.old) (λ file. (length file ≤ LIMIT) × IsUnbuilt file) × Told (I.left input.new) (λ rest. rest ≡ []) }
+
+    // No fault is read over or written over.
+    ensures read_quiet { result ≢ code_of Status.ReadFault → I.faults input.new ≡ I.faults input.old }
+    ensures write_quiet { result ≢ code_of Status.WriteFault → O.faults output.new ≡ O.faults output.old }
 
     // Of the input of an answer a front is read, of one byte above the limit at most.
     ensures reads { AsksAnswer words.now → LosesFront (LIMIT + 1) (I.left input.old) (I.left input.new) }
@@ -72,12 +75,7 @@ pub fn run<I: Source, O: Sink, E: Sink>(
     ensures untouched { ¬ AsksAnswer words.now → ¬ AsksDrill words.now → input.new ≡ input.old }
     ensures counted { (I.faults input.old ≤ I.faults input.new) × (O.faults output.old ≤ O.faults output.new) ×
         (E.faults errors.old ≤ E.faults errors.new) }
-
-    // Whatever the script of a drill, its messages are delivered once.
-    ensures once { (lines : List Line) (text : List ℕ) (stage : Stage)
-        → PlaysAll lines new_stage text stage → BothDeliverOnce stage.world }
 {
-    a_drill_delivers_once();
     let status = obey(alloc, words, input, output);
     status.tell(errors);
     status.code()
@@ -94,13 +92,14 @@ fn obey<I: Source, O: Sink>(
     ensures command { code_of result ≢ code_of Status.BadWords → IsCommand words.now }
     ensures ends { (command : Command) → Spells words.now command → Ends command result (record {
       left = I.left input.old;
+      rest = I.left input.new;
       taken = O.taken output.old;
       later = O.taken output.new;
       read_faults = I.faults input.old;
       later_read_faults = I.faults input.new;
       write_faults = O.faults output.old;
       later_write_faults = O.faults output.new;
-    }) (I.left input.new) }
+    }) }
 
     ensures read_fault { code_of result ≡ code_of Status.ReadFault → Rose (I.faults input.old) (I.faults input.new) }
     ensures write_fault { code_of result ≡ code_of Status.WriteFault → Rose (O.faults output.old) (O.faults output.new) }
@@ -108,6 +107,8 @@ fn obey<I: Source, O: Sink>(
     ensures unbuilt { code_of result ≡ code_of Status.Unbuilt →
         Told (I.left input.old) (λ file. (length file ≤ LIMIT) × IsUnbuilt file) × Told (I.left input.new) (λ rest. rest ≡ []) }
 
+    ensures read_quiet { code_of result ≢ code_of Status.ReadFault → I.faults input.new ≡ I.faults input.old }
+    ensures write_quiet { code_of result ≢ code_of Status.WriteFault → O.faults output.new ≡ O.faults output.old }
     ensures reads { AsksAnswer words.now → LosesFront (LIMIT + 1) (I.left input.old) (I.left input.new) }
     ensures silent { ¬ AsksDrill words.now → code_of result ≢ code_of Status.Done →
         code_of result ≢ code_of Status.WriteFault → O.taken output.new ≡ O.taken output.old }
@@ -128,6 +129,7 @@ fn obey<I: Source, O: Sink>(
 fn write<O: Sink>(output: &mut O, bytes: &[u8]) -> Status
     ensures writes { Writes bytes.now result (O.taken output.old) (O.taken output.new) }
     ensures fault { code_of result ≡ code_of Status.WriteFault → Rose (O.faults output.old) (O.faults output.new) }
+    ensures quiet { code_of result ≢ code_of Status.WriteFault → O.faults output.new ≡ O.faults output.old }
     ensures counted { O.faults output.old ≤ O.faults output.new }
 {
     match send_all(output, bytes) {
@@ -147,13 +149,14 @@ fn answer<I: Source, O: Sink>(
     requires { stamp ≤ MAX_MOMENT }
     ensures ends { Ends (Command.Answer stamp nonce) result (record {
       left = I.left input.old;
+      rest = I.left input.new;
       taken = O.taken output.old;
       later = O.taken output.new;
       read_faults = I.faults input.old;
       later_read_faults = I.faults input.new;
       write_faults = O.faults output.old;
       later_write_faults = O.faults output.new;
-    }) (I.left input.new) }
+    }) }
 
     ensures read_fault { code_of result ≡ code_of Status.ReadFault → Rose (I.faults input.old) (I.faults input.new) }
     ensures write_fault { code_of result ≡ code_of Status.WriteFault → Rose (O.faults output.old) (O.faults output.new) }
@@ -161,6 +164,8 @@ fn answer<I: Source, O: Sink>(
     ensures unbuilt { code_of result ≡ code_of Status.Unbuilt →
         Told (I.left input.old) (λ file. (length file ≤ LIMIT) × IsUnbuilt file) × Told (I.left input.new) (λ rest. rest ≡ []) }
 
+    ensures read_quiet { code_of result ≢ code_of Status.ReadFault → I.faults input.new ≡ I.faults input.old }
+    ensures write_quiet { code_of result ≢ code_of Status.WriteFault → O.faults output.new ≡ O.faults output.old }
     ensures reads { LosesFront (LIMIT + 1) (I.left input.old) (I.left input.new) }
     ensures silent { code_of result ≢ code_of Status.Done → code_of result ≢ code_of Status.WriteFault →
         O.taken output.new ≡ O.taken output.old }
@@ -183,16 +188,19 @@ fn answer<I: Source, O: Sink>(
 fn play<I: Source, O: Sink>(alloc: Global, input: &mut I, output: &mut O) -> Status
     ensures ends { Ends Command.Drill result (record {
       left = I.left input.old;
+      rest = I.left input.new;
       taken = O.taken output.old;
       later = O.taken output.new;
       read_faults = I.faults input.old;
       later_read_faults = I.faults input.new;
       write_faults = O.faults output.old;
       later_write_faults = O.faults output.new;
-    }) (I.left input.new) }
+    }) }
 
     ensures read_fault { code_of result ≡ code_of Status.ReadFault → Rose (I.faults input.old) (I.faults input.new) }
     ensures write_fault { code_of result ≡ code_of Status.WriteFault → Rose (O.faults output.old) (O.faults output.new) }
+    ensures read_quiet { code_of result ≢ code_of Status.ReadFault → I.faults input.new ≡ I.faults input.old }
+    ensures write_quiet { code_of result ≢ code_of Status.WriteFault → O.faults output.new ≡ O.faults output.old }
     ensures others { (code_of result ≢ code_of Status.TooLong) × (code_of result ≢ code_of Status.Unbuilt) ×
         (code_of result ≢ code_of Status.BadWords) }
     ensures counted { (I.faults input.old ≤ I.faults input.new) × (O.faults output.old ≤ O.faults output.new) }
@@ -205,6 +213,7 @@ fn generate<O: Sink>(alloc: Global, seed: u64, count: u64, output: &mut O) -> St
     requires { count ≤ 1000 }
     ensures ends { (end : DrillEnd) × (result ≡ status_of end) × GeneratedEnds seed count end (record {
       left = None;
+      rest = None;
       taken = O.taken output.old;
       later = O.taken output.new;
       read_faults = 0;
@@ -214,6 +223,7 @@ fn generate<O: Sink>(alloc: Global, seed: u64, count: u64, output: &mut O) -> St
     }) }
 
     ensures write_fault { code_of result ≡ code_of Status.WriteFault → Rose (O.faults output.old) (O.faults output.new) }
+    ensures write_quiet { code_of result ≢ code_of Status.WriteFault → O.faults output.new ≡ O.faults output.old }
     ensures others { (code_of result ≢ code_of Status.ReadFault) × (code_of result ≢ code_of Status.TooLong) ×
         (code_of result ≢ code_of Status.Unbuilt) × (code_of result ≢ code_of Status.BadWords) }
     ensures silent { code_of result ≢ code_of Status.Done → code_of result ≢ code_of Status.WriteFault →

@@ -7,7 +7,7 @@
 //!      5  no memory         64  bad words
 ghost use Rattle.std.specs.Prelude.{◌≡◌, ◌≤◌, ◌++◌, codes};
 ghost use Rattle.std.specs.Fmt.{decimal};
-ghost use Rattle.as4_tool.specs.Telling.{Tells, wrong_line};
+ghost use Rattle.as4_tool.specs.Telling.{Tells};
 
 use as4_flow::{SendFailed, Sink, send_all};
 use drill::DrillEnd;
@@ -37,7 +37,7 @@ pub enum Status {
 }
 
 impl Status {
-    ghost use Rattle.as4_tool.specs.Status.{code_of, lines_of, status_of};
+    ghost use Rattle.as4_tool.specs.Status.{code_of, line_of, status_of};
 
     /// The status of a drill's end.
     pub fn of_drill(end: DrillEnd) -> Status
@@ -70,9 +70,9 @@ impl Status {
         }
     }
 
-    /// Tells it on the errors, as lines. There is nothing to tell where all was done. It takes no memory.
+    /// Tells it on the errors, as one line. There is nothing to tell where all was done. It takes no memory.
     pub fn tell<E: Sink>(self, errors: &mut E)
-        ensures told { Tells (lines_of self) (E.taken errors.old) (E.taken errors.new) (E.faults errors.old) (E.faults errors.new) }
+        ensures told { Tells (line_of self) (E.taken errors.old) (E.taken errors.new) (E.faults errors.old) (E.faults errors.new) }
         ensures counted { E.faults errors.old ≤ E.faults errors.new }
     {
         match self {
@@ -84,14 +84,14 @@ impl Status {
             Status::TooManyEvents => tell_text(errors, b"more than 100000 events\n"),
             Status::TooLong => tell_text(errors, b"input too long\n"),
             Status::Unbuilt => tell_text(errors, b"not built yet\n"),
-            Status::BadWords => tell_text(errors, b"bad words\nas4 --help shows the words\n"),
+            Status::BadWords => tell_text(errors, b"bad words\n"),
         }
     }
 }
 
 // Tells the number of a line. Where the errors fail, nothing is left to tell it to.
 fn tell_line<E: Sink>(errors: &mut E, number: u64)
-    ensures told { Tells (codes "line " ++ decimal number ++ wrong_line) (E.taken errors.old) (E.taken errors.new)
+    ensures told { Tells (codes "line " ++ decimal number ++ codes "\n") (E.taken errors.old) (E.taken errors.new)
         (E.faults errors.old) (E.faults errors.new) }
     ensures counted { E.faults errors.old ≤ E.faults errors.new }
 {
@@ -100,14 +100,14 @@ fn tell_line<E: Sink>(errors: &mut E, number: u64)
 
 // Sends its parts, one after another.
 fn send_line<E: Sink>(errors: &mut E, number: u64) -> Result<(), SendFailed>
-    ensures told { Tells (codes "line " ++ decimal number ++ wrong_line) (E.taken errors.old) (E.taken errors.new)
+    ensures told { Tells (codes "line " ++ decimal number ++ codes "\n") (E.taken errors.old) (E.taken errors.new)
         (E.faults errors.old) (E.faults errors.new) }
     ensures counted { E.faults errors.old ≤ E.faults errors.new }
 {
     let mut buffer = Buffer::new();
     send_all(errors, b"line ")?;
     send_all(errors, buffer.format(number).as_bytes())?;
-    send_all(errors, b"\nas4 --help shows the lines of a script\n")
+    send_all(errors, b"\n")
 }
 
 // Tells this text. Where the errors fail, nothing is left to tell it to.

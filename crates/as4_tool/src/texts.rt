@@ -7,7 +7,7 @@ usage:
   as4 answer STAMP NONCE             reads a message file from the input, writes the answer to the output
   as4 drill                          runs the script in the input, writes to the output what its lines lead to
   as4 drill --generate SEED COUNT    runs a generated script, writes the numbers of both ends to the output
-  as4 --help                         writes this text
+  as4 --help                         writes this text: the words, the lines of a script and the exit statuses
   as4 --version                      writes the version
 
 STAMP  the moment of the answer: milliseconds since 1970-01-01T00:00:00Z, 0 to 253402300799999
@@ -32,15 +32,17 @@ z and 0 to 9; PACKAGE and NUMBER count from 0:
   read END NUMBER                 shows a message of the inbox
   confirm END NUMBER              takes over the messages of the inbox up to this one
   status END NUMBER               shows how it stands with a message that was submitted
+A script has at most 1000000 lines of at most 1048576 bytes each, names at most 1024 modes and makes at most 100000
+events: each line but mode makes one, where the package or the submission that it names is there.
 
-exit statuses, each but 0 with a line on the errors:
+exit statuses, each but 0 with one line on the errors, as it stands here up to the colon:
    0  done
-   2  line N, the first being 1, isn't one of a script, or not in its place
+   2  line N: this line of the script, the first being 1, isn't one of a script, or not in its place
    3  read fault: the input can't be read to its end
    4  write fault: the output has only a front of what was to be written
-   5  no memory
+   5  no memory: what was to be done next needs more
    6  more than 100000 events: the next line of the script would make one too many
-  11  input too long
+  11  input too long: it has more bytes than an answer reads
   13  not built yet: the input has a media text and is no plain message, the only kind that can be answered so far
   64  bad words: none of the usages above, or a number out of range
 On all but 0 and 4 nothing is written to the output, except by a drill of a script: it writes what the lines before

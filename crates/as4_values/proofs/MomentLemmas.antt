@@ -72,7 +72,7 @@ same_time : (h m s u k n t v : ℕ) → m < 60 → s < 60 → u < 1000 → n < 6
 same_time h m s u k n t v m_in s_in u_in n_in t_in v_in e = (omega arith, omega arith, omega arith, omega arith)
 
 -- a date of the calendar as jiff_core has it
-date_from : (y : ℤ) (m d : ℕ) → IsCivilDate y m d → Date
+unfoldable pub date_from : (y : ℤ) (m d : ℕ) → IsCivilDate y m d → Date
 date_from y m d is = record { year = y; month = m; day = d; year_in = is.0; month_in = is.1; day_in = is.2 }
 
 -- a day number is that of one date

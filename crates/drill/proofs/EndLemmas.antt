@@ -4,25 +4,35 @@ use Rattle.std.proofs.lemmas.Bool.{and_parts, leb-true}
 use Rattle.std.proofs.lemmas.List.{append-nil}
 use Rattle.std.proofs.lemmas.List.Concat.{flat_map-append}
 use Rattle.as4_flow.specs.Faults.{Rose}
-use Rattle.as4_flow.specs.Told.{Told, before, behind, TakesFront}
-use Rattle.as4_flow.proofs.FaultsLemmas.{Rose_from}
+use Rattle.as4_flow.specs.Told.{Told, before, behind, LosesFront, TakesFront}
 use Rattle.as4_flow.proofs.ToldLemmas.{before_nil, before_append, behind_nil, behind_append, takes_more}
-use Rattle.drill.specs.Ends.{Ends, IsOutside, Played}
+use Rattle.drill.specs.Ends.{Ends, IsOutside, IsTooMuch, Played}
 use Rattle.drill.specs.Next.{HoldsNoLine}
 use Rattle.drill.specs.Running.{Flow, SoFar, between, flow}
 use Rattle.drill.specs.Transcript.{Stage, Plays, PlaysAll, doing_of, new_stage, script_text, end_lines, is_right, is_too_many, is_placed, lines_limit}
 use Rattle.drill.specs.declared.script.DrillEnd.TheVariants as ends
 use Rattle.drill_script.specs.Lacking.{parted}
 use Rattle.drill_script.specs.LineText.{line_text, is_line, line_limit}
+use Rattle.drill_script.specs.Lines.{ahead_limit}
 use Rattle.drill_script.specs.declared.line.Line.{Line}
 use Rattle.drill_script.proofs.LackingLemmas.{one_cut}
 use Rattle.drill_script.proofs.OneLineLemmas.{one_line}
 use Rattle.drill.proofs.UnbrokenLemmas.{line_unbroken}
+use Rattle.exchange_model.specs.DeliveredOnce.{HasDeliveredOnce}
+
+-- the law of delivery
+abbrev pub Delivers : Type 0
+Delivers = (lines : List Line) (text : List ℕ) (stage : Stage) → PlaysAll lines new_stage text stage → HasDeliveredOnce stage.world
 
 -- what can't be true is false
 not_true : (b : Bool) → (b ≡ true → ⊥) → b ≡ false
 not_true true never = absurd (never refl)
 not_true false never = refl
+
+-- what is nothing else is `None`
+pub is_none : {X : Type 0} (o : Option X) → ((x : X) → o ≡ Some x → ⊥) → o ≡ None
+is_none None never = refl
+is_none (Some x) never = absurd (never x refl)
 
 -- a line that is played
 pub record Turn (l : Line) (words : List ℕ) (old new : Stage) : Type 0 where
@@ -80,46 +90,60 @@ so_far_none stage held start new none = record {
   counted = refl;
   few = omega arith;
   came = sym (before_nil (before held start.left) ∙ ap (λ (l : List ℕ). before l start.left) none ∙ before_nil start.left);
+  ahead = omega (arith, ap length none);
   wrote = sym (behind_nil start.taken);
-  read = omega arith;
-  written = omega arith;
+  read = refl;
+  written = refl;
 }
 
 -- the source gave some of what is left
 pub so_far_read : (stage : Stage) (held next : List ℕ) (count : ℕ) (start now : Flow) (left : Option (List ℕ)) (reads : ℕ)
-    → before held now.left ≡ before next left → now.reads ≤ reads → SoFar stage held count start now
+    → before held now.left ≡ before next left → length next ≤ ahead_limit → reads ≡ now.reads → SoFar stage held count start now
     → SoFar stage next count start (flow left now.taken reads now.writes)
-so_far_read stage held next count start now left reads same rose s = record {
+so_far_read stage held next count start now left reads same within quiet s = record {
   lines = s.lines;
   text = s.text;
   plays = s.plays;
   counted = s.counted;
   few = s.few;
   came = s.came ∙ ap (before (script_text s.lines)) same;
+  ahead = within;
   wrote = s.wrote;
-  read = omega (arith, s.read, rose);
+  read = quiet ∙ s.read;
   written = s.written;
 }
+
+-- what stands behind a line is no more than both
+held_less : (front held : List ℕ) → length (parted 10 front held) ≤ ahead_limit → length held ≤ ahead_limit
+held_less front held within = omega (arith, within, length-append front (10 ∷ held))
 
 -- a line was played and its text written
 pub so_far_played : (l : Line) (words : List ℕ) (stage new : Stage) (held : List ℕ) (count : ℕ) (start now : Flow) (taken : Option (List ℕ)) (writes : ℕ)
     → SoFar stage (parted 10 (line_text l) held) count start now → Turn l words stage new → count < lines_limit
-    → taken ≡ behind now.taken words → now.writes ≤ writes
+    → taken ≡ behind now.taken words → writes ≡ now.writes
     → SoFar new held (count + 1) start (flow now.left taken now.reads writes)
-so_far_played l words stage new held count start now taken writes s turn few wrote rose = record {
+so_far_played l words stage new held count start now taken writes s turn few wrote quiet = record {
   lines = s.lines ++ l ∷ [];
   text = s.text ++ words;
   plays = plays_more s.lines l s.text words new_stage stage new s.plays turn;
   counted = count_more s.lines l count s.counted;
   few = omega (arith, few);
   came = came_more s.lines l held start.left now.left s.came;
+  ahead = held_less (line_text l) held s.ahead;
   wrote = wrote ∙ ap (λ (told : Option (List ℕ)). behind told words) s.wrote ∙ behind_append start.taken s.text words;
   read = s.read;
-  written = omega (arith, s.written, rose);
+  written = quiet ∙ s.written;
 }
 
-played_so_far : (stage : Stage) (held : List ℕ) (count : ℕ) (start now : Flow) (s : SoFar stage held count start now) → Played s.lines s.text stage
-played_so_far stage held count start now s = record { plays = s.plays; few = omega (arith, s.counted, s.few) }
+played_so_far : (law : Delivers) (stage : Stage) (held : List ℕ) (count : ℕ) (start now : Flow) (s : SoFar stage held count start now) → Played s.lines s.text stage
+played_so_far law stage held count start now s =
+    record { plays = s.plays; few = omega (arith, s.counted, s.few); once = law s.lines s.text stage s.plays }
+
+-- what the source has lost
+pub lost_so_far : (stage : Stage) (held : List ℕ) (count : ℕ) (start now : Flow) (s : SoFar stage held count start now)
+    → LosesFront (length (script_text s.lines) + ahead_limit) start.left now.left
+lost_so_far stage held count start now s =
+    (script_text s.lines ++ held, omega (arith, s.ahead, length-append (script_text s.lines) held), s.came ∙ before_append (script_text s.lines) held now.left)
 
 -- what is told behind a front
 rest_told : (front : List ℕ) (start rest : Option (List ℕ)) (P : List ℕ → Type 0) → start ≡ before front rest → Told rest P
@@ -180,75 +204,179 @@ line_told l held (Some left) P each rest is =
     each (held ++ left) rest (whole ∙ append_assoc (line_text l) (10 ∷ held) left)
 
 -- no line of the grammar stands next
-pub ends_outside : (stage : Stage) (held : List ℕ) (count : ℕ) (start now : Flow) → SoFar stage held count start now
+pub ends_outside : Delivers → (stage : Stage) (held : List ℕ) (count : ℕ) (start now : Flow) → SoFar stage held count start now
     → Told (before held now.left) HoldsNoLine → Ends (ends.Line (count + 1)) (between start now)
-ends_outside stage held count start now s none = (
+ends_outside law stage held count start now s none = (
   s.lines,
   s.text,
   stage,
-  played_so_far stage held count start now s,
+  played_so_far law stage held count start now s,
   (
     omega (arith, s.counted),
     s.wrote,
     rest_told (script_text s.lines) start.left (before held now.left) (IsOutside s.lines stage) s.came
         (λ rest is. no_line_outside s.lines stage rest (none rest is)),
   ),
+  (s.read, s.written),
+  lost_so_far stage held count start now s,
 )
 
 -- a line that isn't in its place stands next
-pub ends_wrong : (l : Line) (stage : Stage) (held : List ℕ) (count : ℕ) (start now : Flow)
+pub ends_wrong : Delivers → (l : Line) (stage : Stage) (held : List ℕ) (count : ℕ) (start now : Flow)
     → SoFar stage (parted 10 (line_text l) held) count start now → IsTrue (is_line l) → is_right l stage ≡ false
     → Ends (ends.Line (count + 1)) (between start now)
-ends_wrong l stage held count start now s said wrong = (
+ends_wrong law l stage held count start now s said wrong = (
   s.lines,
   s.text,
   stage,
-  played_so_far stage (parted 10 (line_text l) held) count start now s,
+  played_so_far law stage (parted 10 (line_text l) held) count start now s,
   (
     omega (arith, s.counted),
     s.wrote,
     rest_told (script_text s.lines) start.left (before (parted 10 (line_text l) held) now.left) (IsOutside s.lines stage) s.came
         (line_told l held now.left (IsOutside s.lines stage) (λ more rest is. wrong_outside s.lines stage l more rest is said wrong)),
   ),
+  (s.read, s.written),
+  lost_so_far stage (parted 10 (line_text l) held) count start now s,
 )
 
--- the sink failed within the numbers of the ends
-pub ends_unfinished : (stage : Stage) (held : List ℕ) (count : ℕ) (start now : Flow) (taken : Option (List ℕ)) (writes : ℕ)
-    → SoFar stage held count start now → Told (before held now.left) (λ bytes. bytes ≡ [])
-    → TakesFront (end_lines stage.world) now.taken taken → Rose now.writes writes
-    → Ends ends.WriteFault (between start (flow now.left taken now.reads writes))
-ends_unfinished stage held count start now taken writes s none front rose = (
+-- a count that rose from where it stood
+rose_since : (start now later : ℕ) → now ≡ start → Rose now later → Rose start later
+rose_since start now later same rose = subst (λ (n : ℕ). Rose n later) same rose
+
+-- nothing is held where nothing is held and left
+nothing_left : (held : List ℕ) (left : Option (List ℕ)) → Told (before held left) (λ bytes. bytes ≡ []) → Told left (λ bytes. bytes ≡ [])
+nothing_left [] None none bytes is = absurd cc
+nothing_left (h ∷ held) None none bytes is = absurd cc
+nothing_left [] (Some rest) none bytes is = let same : bytes ≡ rest = cc in same ∙ none rest refl
+nothing_left (h ∷ held) (Some rest) none bytes is = let never : h ∷ (held ++ rest) ≡ [] = none (h ∷ (held ++ rest)) refl in absurd (cc never)
+
+-- a line stands next that would make one event too many
+pub ends_too_many : Delivers → (l : Line) (stage : Stage) (held : List ℕ) (count : ℕ) (start now : Flow)
+    → SoFar stage (parted 10 (line_text l) held) count start now → is_right l stage ≡ true → is_too_many l stage ≡ true → count < lines_limit
+    → Ends ends.TooMany (between start now)
+ends_too_many law l stage held count start now s right many few = (
   s.lines,
   s.text,
   stage,
-  played_so_far stage held count start now s,
+  played_so_far law stage (parted 10 (line_text l) held) count start now s,
   (
-    Rose_from start.writes now.writes writes s.written rose,
-    inr (
-      takes_more s.text (end_lines stage.world) start.taken now.taken taken s.wrote front,
-      nothing_told (script_text s.lines) start.left (before held now.left) s.came none,
-    ),
+    s.wrote,
+    rest_told (script_text s.lines) start.left (before (parted 10 (line_text l) held) now.left) (IsTooMuch s.lines stage) s.came
+        (line_told l held now.left (IsTooMuch s.lines stage) (λ more rest is. (l, more, is, right, many, omega (arith, s.counted, few)))),
   ),
+  (s.read, s.written),
+  lost_so_far stage (parted 10 (line_text l) held) count start now s,
+)
+
+-- so many lines were played as a script may have, and one stands next
+pub ends_full : Delivers → (l : Line) (stage : Stage) (held : List ℕ) (count : ℕ) (start now : Flow)
+    → SoFar stage (parted 10 (line_text l) held) count start now → count ≡ lines_limit → Ends (ends.Line (count + 1)) (between start now)
+ends_full law l stage held count start now s full = (
+  s.lines,
+  s.text,
+  stage,
+  played_so_far law stage (parted 10 (line_text l) held) count start now s,
+  (
+    omega (arith, s.counted),
+    s.wrote,
+    rest_told (script_text s.lines) start.left (before (parted 10 (line_text l) held) now.left) (IsOutside s.lines stage) s.came
+        (line_told l held now.left (IsOutside s.lines stage) (λ more rest is. (some_left more rest is, inl (s.counted ∙ full)))),
+  ),
+  (s.read, s.written),
+  lost_so_far stage (parted 10 (line_text l) held) count start now s,
+)
+  where
+    some_left : (more rest : List ℕ) → rest ≡ line_text l ++ 10 ∷ more → 0 < length rest
+    some_left more rest is = omega (arith, ap length is, length-append (line_text l) (10 ∷ more))
+
+-- memory ran out
+pub ends_without_memory : Delivers → (stage : Stage) (held : List ℕ) (count : ℕ) (start now : Flow) → SoFar stage held count start now
+    → Ends ends.NoMemory (between start now)
+ends_without_memory law stage held count start now s = (
+  s.lines,
+  s.text,
+  stage,
+  played_so_far law stage held count start now s,
+  (s.wrote, rest_is (script_text s.lines) start.left (before held now.left) s.came),
+  (s.read, s.written),
+  lost_so_far stage held count start now s,
+)
+
+-- the source failed
+pub ends_unread : Delivers → (stage : Stage) (held : List ℕ) (count : ℕ) (start now : Flow) (reads : ℕ) → SoFar stage held count start now
+    → Rose now.reads reads → Ends ends.ReadFault (between start (flow now.left now.taken reads now.writes))
+ends_unread law stage held count start now reads s rose = (
+  s.lines,
+  s.text,
+  stage,
+  played_so_far law stage held count start now s,
+  (s.wrote, rest_is (script_text s.lines) start.left (before held now.left) s.came),
+  (rose_since start.reads now.reads reads s.read rose, s.written),
+  lost_so_far stage held count start now s,
+)
+
+-- all was read and written
+pub ends_read : Delivers → (stage : Stage) (held : List ℕ) (count : ℕ) (start now : Flow) (taken : Option (List ℕ)) (writes : ℕ)
+    → SoFar stage held count start now → Told (before held now.left) (λ bytes. bytes ≡ [])
+    → taken ≡ behind now.taken (end_lines stage.world) → writes ≡ now.writes
+    → Ends ends.Read (between start (flow now.left taken now.reads writes))
+ends_read law stage held count start now taken writes s none wrote quiet = (
+  s.lines,
+  s.text,
+  stage,
+  played_so_far law stage held count start now s,
+  (
+    nothing_told (script_text s.lines) start.left (before held now.left) s.came none,
+    wrote ∙ ap (λ (told : Option (List ℕ)). behind told (end_lines stage.world)) s.wrote ∙ behind_append start.taken s.text (end_lines stage.world),
+  ),
+  (s.read, quiet ∙ s.written),
+  nothing_left held now.left none,
+)
+
+-- the sink failed within the numbers of the ends
+pub ends_unfinished : Delivers → (stage : Stage) (held : List ℕ) (count : ℕ) (start now : Flow) (taken : Option (List ℕ)) (writes : ℕ)
+    → SoFar stage held count start now → Told (before held now.left) (λ bytes. bytes ≡ [])
+    → TakesFront (end_lines stage.world) now.taken taken → Rose now.writes writes
+    → Ends ends.WriteFault (between start (flow now.left taken now.reads writes))
+ends_unfinished law stage held count start now taken writes s none front rose = (
+  s.lines,
+  s.text,
+  stage,
+  played_so_far law stage held count start now s,
+  inr (
+    takes_more s.text (end_lines stage.world) start.taken now.taken taken s.wrote front,
+    nothing_told (script_text s.lines) start.left (before held now.left) s.came none,
+  ),
+  (s.read, rose_since start.writes now.writes writes s.written rose),
+  lost_so_far stage held count start now s,
 )
 
 -- the sink failed within the text of a line
-pub ends_unwritten : (l : Line) (words : List ℕ) (stage new : Stage) (held : List ℕ) (count : ℕ) (start now : Flow) (taken : Option (List ℕ)) (writes : ℕ)
+pub ends_unwritten : Delivers → (l : Line) (words : List ℕ) (stage new : Stage) (held : List ℕ) (count : ℕ) (start now : Flow) (taken : Option (List ℕ)) (writes : ℕ)
     → SoFar stage (parted 10 (line_text l) held) count start now → Turn l words stage new → count < lines_limit
     → TakesFront words now.taken taken → Rose now.writes writes
     → Ends ends.WriteFault (between start (flow now.left taken now.reads writes))
-ends_unwritten l words stage new held count start now taken writes s turn few front rose = (
+ends_unwritten law l words stage new held count start now taken writes s turn few front rose = (
   s.lines ++ l ∷ [],
   s.text ++ words,
   new,
-  record {
-    plays = plays_more s.lines l s.text words new_stage stage new s.plays turn;
-    few = omega (arith, count_more s.lines l count s.counted, few);
-  },
   (
-    Rose_from start.writes now.writes writes s.written rose,
-    inl (
-      takes_more s.text words start.taken now.taken taken s.wrote front,
-      rest_is (script_text (s.lines ++ l ∷ [])) start.left (before held now.left) (came_more s.lines l held start.left now.left s.came),
-    ),
+      let plays = plays_more s.lines l s.text words new_stage stage new s.plays turn in
+      record {
+        plays = plays;
+        few = omega (arith, count_more s.lines l count s.counted, few);
+        once = law (s.lines ++ l ∷ []) (s.text ++ words) new plays;
+      }
+      ),
+  inl (
+    takes_more s.text words start.taken now.taken taken s.wrote front,
+    rest_is (script_text (s.lines ++ l ∷ [])) start.left (before held now.left) (came_more s.lines l held start.left now.left s.came),
+  ),
+  (s.read, rose_since start.writes now.writes writes s.written rose),
+  (
+    script_text (s.lines ++ l ∷ []) ++ held,
+    omega (arith, held_less (line_text l) held s.ahead, length-append (script_text (s.lines ++ l ∷ [])) held),
+    came_more s.lines l held start.left now.left s.came ∙ before_append (script_text (s.lines ++ l ∷ [])) held now.left,
   ),
 )

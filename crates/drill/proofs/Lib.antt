@@ -2,7 +2,10 @@ pub mod EndLemmas
 pub mod GeneratedLemmas
 pub mod NameLemmas
 pub mod NextLemmas
+pub mod OneTranscript
 pub mod PlayerLemmas
+pub mod PushLemmas
+pub mod SpendLemmas
 pub mod StageLemmas
 pub mod UnbrokenLemmas
 pub mod WorldLemmas

@@ -1,12 +1,13 @@
 -- What stands next in a script.
-use Rattle.std.proofs.Common.{◌≡◌, ◌≢◌, ℕ, zero, suc, ◌+◌, ◌<◌, ◌≤◌, List, [], ◌∷◌, ◌++◌, length, take, Option, None, Some, IsTrue, refl, sym, ◌∙◌, ap, subst, arith, append_assoc, length-append}
+use Rattle.std.proofs.Common.{◌≡◌, ◌≢◌, ℕ, ◌+◌, ◌<◌, ◌≤◌, List, ◌∷◌, ◌++◌, length, take, Option, None, Some, IsTrue, sym, ◌∙◌, ap, subst, arith, append_assoc, length-append}
 use Rattle.as4_flow.specs.Told.{Told, before}
 use Rattle.drill.specs.Next.{HoldsNoLine}
 use Rattle.drill_script.specs.Lacking.{Lacks, parted}
 use Rattle.drill_script.specs.Lines.{BeginsLong}
 use Rattle.drill_script.specs.LineText.{line_text, is_line, line_limit}
 use Rattle.drill_script.specs.declared.line.Line.{Line}
-use Rattle.drill_script.proofs.LackingLemmas.{Lacks_head, Lacks_tail, Lacks_unparted, one_cut}
+use Rattle.drill_script.proofs.FrontLemmas.{lacking_front}
+use Rattle.drill_script.proofs.LackingLemmas.{Lacks_unparted, one_cut}
 use Rattle.drill.proofs.UnbrokenLemmas.{line_unbroken}
 
 -- bytes without an LF hold no line
@@ -14,14 +15,6 @@ pub unended_holds : (whole : Option (List ℕ)) → Told whole (λ bytes. (0 < l
 unended_holds whole unended bytes is =
     let u = unended bytes is in
     (u.0, λ line more parts small. absurd (Lacks_unparted 10 bytes (line_text line) more u.1 parts))
-
--- what has no LF in its front stands before the first one
-lacking_front : (n : ℕ) (text more : List ℕ) → Lacks 10 (take n (text ++ 10 ∷ more)) → n ≤ length text
-lacking_front zero text more lacks = omega arith
-lacking_front (suc n) [] more lacks = absurd (Lacks_head 10 10 (take n more) lacks refl)
-lacking_front (suc n) (t ∷ text) more lacks =
-    let rest : n ≤ length text = lacking_front n text more (Lacks_tail 10 t (take n (text ++ 10 ∷ more)) lacks) in
-    omega arith
 
 long_line : (bytes text more : List ℕ) → bytes ≡ text ++ 10 ∷ more → Lacks 10 (take (line_limit + 1) bytes) → line_limit < length text
 long_line bytes text more parts lacks =

@@ -1,13 +1,15 @@
 -- What happens at one end of a stage is what its line asks for.
 use Rattle.std.proofs.Common.{◌≡◌, ◌≢◌, ℕ, ◌+◌, List, [], ◌∷◌, ◌++◌, Bool, true, false, ◌&&◌, nat_le, refl, sym, ◌∙◌, ap, subst}
-use Rattle.std.specs.Prelude.{◌≤◌, Option, Ok, Err, IfOk, IsTrue, Result, length}
+use Rattle.std.specs.Prelude.{◌<◌, ◌≤◌, nat_lt, Option, Ok, Err, IfOk, IsErrAnd, IsTrue, Result, length}
+use Rattle.std.specs.List.{list_any}
+use Rattle.std.specs.Str.{bytes_eq}
 use Rattle.std.specs.Option.{unwrap_or}
-use Rattle.std.proofs.lemmas.Bool.{and_from, and_parts, le-leb, leb-true}
+use Rattle.std.proofs.lemmas.Bool.{and_from, and_parts, le-leb, leb-true, lt-ltb}
 use Rattle.as4_values.specs.declared.mode.Mode.{Mode}
 use Rattle.drill.specs.Events.{Asked, Doing, Sets, Does, Says, side_of}
 use Rattle.drill.specs.Players.{Meets, Seat}
 use Rattle.drill.specs.Stages.{IsAtEnd, Performs}
-use Rattle.drill.specs.Transcript.{Makes, Plays, Stage, doing_of, is_placed, is_right, is_too_many}
+use Rattle.drill.specs.Transcript.{Makes, Plays, Stage, doing_of, is_full_for, is_placed, is_right, is_too_many}
 use Rattle.drill.specs.declared.refused.Refused.{Refused}
 use Rattle.drill.specs.declared.refused.Refused.TheVariants as refused
 use Rattle.drill_script.specs.LineText.{is_line, is_name, line_limit, line_text}
@@ -17,9 +19,8 @@ use Rattle.drill_script.specs.declared.line.Line.{Line}
 use Rattle.drill_script.specs.declared.line.Line.TheVariants as line
 use Rattle.drill_script.specs.declared.line.Way.{Way}
 use Rattle.drill_texts.specs.Modes.{IsDrillMode}
-use Rattle.exchange_model.specs.LosslessRound.{across, party_at}
 use Rattle.exchange_model.specs.Table.{Step}
-use Rattle.exchange_model.specs.World.{IsHeard, Left, Right}
+use Rattle.exchange_model.specs.World.{IsHeard, Left, Right, across, party_at}
 use Rattle.exchange_model.specs.declared.event.Event.{Event}
 
 -- a stage by its parts
@@ -139,12 +140,35 @@ right_at_end l stage at said short =
     placed (line.Mode name way retries period) never = absurd never
     placed k is = refl
 
+-- before the first event none is one too many
+not_full : (doing : Doing) (events : ℕ) → events ≡ 0 → is_full_for doing events ≡ false
+not_full (Does ask) events none = rw none refl
+not_full Sets events none = refl
+not_full (Says end words) events none = refl
+
+-- memory ran out before the first event
+pub performs_none : (doing : Doing) (old new : Stage) (result : Result (List ℕ) Refused) → IsErrAnd result (λ e. e ≡ refused.NoMemory)
+    → old.events ≡ 0 → Performs doing old result new
+performs_none doing old new (Ok text) is none = absurd is
+performs_none doing old new (Err e) is none =
+    subst (λ (r : Refused). Performs doing old (Err r) new) (sym is) (not_full doing old.events none)
+
+-- what would make one event too many is told so
+pub performs_full : (doing : Doing) (old new : Stage) (result : Result (List ℕ) Refused) → Performs doing old result new
+    → is_full_for doing old.events ≡ true → result ≡ Err refused.TooMany
+performs_full doing old new (Ok text) performs full = let never = performs.1 in absurd (cc (never, full))
+performs_full doing old new (Err refused.TooMany) performs full = refl
+performs_full doing old new (Err refused.Wrong) performs full = absurd performs
+performs_full doing old new (Err refused.NoMemory) performs full = absurd (cc (performs, full))
+
 -- what is said of a line that is played, or isn't
 pub record IsPlayed (l : Line) (old new : Stage) (result : Result (List ℕ) Refused) : Type 0 where
   pub right : IfOk result (λ _. (is_right l old ≡ true) × (is_too_many l old ≡ false))
   pub plays : IfOk result (λ text. Plays l (doing_of old.world l) old text new)
   pub wrong : result ≡ Err refused.Wrong → is_right l old ≡ false
   pub too_many : result ≡ Err refused.TooMany → (is_right l old ≡ true) × (is_too_many l old ≡ true)
+  pub told : is_right l old ≡ false → result ≡ Err refused.Wrong
+  pub full : is_right l old ≡ true → is_too_many l old ≡ true → result ≡ Err refused.TooMany
 
 -- a line that names a mode
 
@@ -184,33 +208,54 @@ right_mode l stage placed said short is =
     let long : nat_le (length (line_text l)) line_limit ≡ true = le-leb (length (line_text l)) line_limit short in
     rw (said, long, is) refl
 
+-- a line of the grammar that isn't right isn't in its place
+misplaced : (l : Line) (stage : Stage) → IsTrue (is_line l) → length (line_text l) ≤ line_limit → is_right l stage ≡ false → is_placed l stage ≡ false
+misplaced l stage said short wrong = by_test (is_placed l stage) refl
+  where
+    by_test : (b : Bool) → is_placed l stage ≡ b → is_placed l stage ≡ false
+    by_test true is = let right = right_mode l stage true said short is in absurd (cc (right, wrong))
+    by_test false is = is
+
 added_played : (name : List ℕ) (way : Way) (retries period : ℕ) (old new : Stage) (result : Result (List ℕ) Refused)
     → IsTrue (is_line (line.Mode name way retries period)) → length (line_text (line.Mode name way retries period)) ≤ line_limit
     → IfOk result (λ _. is_placed (line.Mode name way retries period) old ≡ true)
     → IfOk result (λ text. Adds name way retries period old text new)
     → (result ≡ Err refused.Wrong → is_placed (line.Mode name way retries period) old ≡ false)
+    → (is_placed (line.Mode name way retries period) old ≡ false → result ≡ Err refused.Wrong)
     → result ≢ Err refused.TooMany → IsPlayed (line.Mode name way retries period) old new result
-added_played name way retries period old new (Ok text) said short placed adds wrong few = record {
+added_played name way retries period old new (Ok text) said short placed adds wrong told few = record {
   right = (right_mode (line.Mode name way retries period) old true said short placed, no_event name way retries period old);
   plays = (adds.1.0, adds.1.1, adds.0, adds.1.2);
   wrong = λ never. absurd cc;
   too_many = λ never. absurd cc;
+  told = λ is. let never = right_mode (line.Mode name way retries period) old true said short placed in absurd (cc (is, never));
+  full = λ _ many. let never = no_event name way retries period old in absurd (cc (many, never));
 }
-added_played name way retries period old new (Err error) said short placed adds wrong few = record {
+added_played name way retries period old new (Err error) said short placed adds wrong told few = record {
   right = tt;
   plays = tt;
   wrong = λ is. right_mode (line.Mode name way retries period) old false said short (wrong is);
   too_many = λ many. absurd (few many);
+  told = λ is. told (misplaced (line.Mode name way retries period) old said short is);
+  full = λ _ many. let never = no_event name way retries period old in absurd (cc (many, never));
 }
+
+-- where a mode is in its place
+pub placed_here : (name : List ℕ) (way : Way) (retries period : ℕ) (stage : Stage) → stage.begun ≡ false → length stage.modes < 1024
+    → list_any (λ (mode : Mode). bytes_eq mode.name name) stage.modes ≡ false → is_placed (line.Mode name way retries period) stage ≡ true
+placed_here name way retries period stage new few other =
+    let some : nat_lt (length stage.modes) 1024 ≡ true = lt-ltb (length stage.modes) 1024 few in
+    rw (new, some, other) refl
 
 pub mode_played : (l : Line) (name : List ℕ) (way : Way) (retries period : ℕ) (old new : Stage) (result : Result (List ℕ) Refused)
     → l ≡ line.Mode name way retries period → IsTrue (is_line l) → length (line_text l) ≤ line_limit
     → IfOk result (λ _. is_placed (line.Mode name way retries period) old ≡ true)
     → IfOk result (λ text. Adds name way retries period old text new)
     → (result ≡ Err refused.Wrong → is_placed (line.Mode name way retries period) old ≡ false)
+    → (is_placed (line.Mode name way retries period) old ≡ false → result ≡ Err refused.Wrong)
     → result ≢ Err refused.TooMany → IsPlayed l old new result
-mode_played l name way retries period old new result is said short placed adds wrong few =
+mode_played l name way retries period old new result is said short placed adds wrong told few =
     subst (λ (k : Line). IsPlayed k old new result) (sym is)
     (added_played name way retries period old new result
     (subst (λ (k : Line). IsTrue (is_line k)) is said) (subst (λ (k : Line). length (line_text k) ≤ line_limit) is short)
-    placed adds wrong few)
+    placed adds wrong told few)

@@ -1,16 +1,20 @@
 -- How a drill ends: what it has read, and what it has written then.
 use Rattle.std.specs.Prelude.{◌≡◌, ℕ, ◌+◌, ◌<◌, ◌≤◌, ◌⊎◌, List, [], ◌∷◌, ◌++◌, true, false, Option, length}
 use Rattle.as4_flow.specs.Faults.{Rose}
-use Rattle.as4_flow.specs.Told.{Told, behind, TakesFront}
+use Rattle.as4_flow.specs.Told.{Told, behind, LosesFront, TakesFront}
 use Rattle.drill.specs.Transcript.{Stage, PlaysAll, new_stage, script_text, end_lines, is_right, is_too_many, lines_limit}
 use Rattle.drill.specs.declared.script.DrillEnd.{DrillEnd}
 use Rattle.drill.specs.declared.script.DrillEnd.TheVariants as ends
 use Rattle.drill_script.specs.LineText.{line_text}
+use Rattle.drill_script.specs.Lines.{ahead_limit}
 use Rattle.drill_script.specs.declared.line.Line.{Line}
+use Rattle.exchange_model.specs.DeliveredOnce.{HasDeliveredOnce}
 
--- a source and a sink before and after: what the source had left, how often each had failed, what the sink had taken
+-- a source and a sink before and after: what the source had left and has left, what the sink had taken and has taken,
+-- and how often each had failed and has
 pub record Streams : Type 0 where
   pub left : Option (List ℕ)
+  pub rest : Option (List ℕ)
   pub taken : Option (List ℕ)
   pub later : Option (List ℕ)
   pub read_faults : ℕ
@@ -22,10 +26,11 @@ pub record Streams : Type 0 where
 abbrev pub Reads : List Line → List ℕ → Streams → Type 0
 Reads lines rest streams = Told streams.left (λ script. script ≡ script_text lines ++ rest)
 
--- these lines were played from the start, and this is what they wrote
+-- these lines were played from the start, this is what they wrote, and each message was delivered once
 pub record Played (lines : List Line) (text : List ℕ) (stage : Stage) : Type 0 where
   pub plays : PlaysAll lines new_stage text stage
   pub few : length lines ≤ lines_limit
+  pub once : HasDeliveredOnce stage.world
 
 -- no line of the grammar stands here in its place
 abbrev pub IsOutside : List Line → Stage → List ℕ → Type 0
@@ -51,18 +56,32 @@ EndsAt ends.TooMany lines text stage streams =
     (streams.later ≡ behind streams.taken text)
     × Told streams.left (λ script. (rest : List ℕ) × (script ≡ script_text lines ++ rest) × IsTooMuch lines stage rest)
 EndsAt ends.ReadFault lines text stage streams =
-    (streams.later ≡ behind streams.taken text) × Rose streams.read_faults streams.later_read_faults
+    (streams.later ≡ behind streams.taken text)
     × Told streams.left (λ script. (rest : List ℕ) × (script ≡ script_text lines ++ rest))
 EndsAt ends.WriteFault lines text stage streams =
-    Rose streams.write_faults streams.later_write_faults
-    × ((TakesFront text streams.taken streams.later
+    (TakesFront text streams.taken streams.later
     × Told streams.left (λ script. (rest : List ℕ) × (script ≡ script_text lines ++ rest)))
-    ⊎ (TakesFront (text ++ end_lines stage.world) streams.taken streams.later × Reads lines [] streams))
+    ⊎ (TakesFront (text ++ end_lines stage.world) streams.taken streams.later × Reads lines [] streams)
 EndsAt ends.NoMemory lines text stage streams =
     (streams.later ≡ behind streams.taken text)
     × Told streams.left (λ script. (rest : List ℕ) × (script ≡ script_text lines ++ rest))
+
+-- a count of faults has risen where the drill ended by it, and the others are as they were
+abbrev pub CountsAt : DrillEnd → Streams → Type 0
+CountsAt ends.ReadFault streams =
+    Rose streams.read_faults streams.later_read_faults × (streams.later_write_faults ≡ streams.write_faults)
+CountsAt ends.WriteFault streams =
+    (streams.later_read_faults ≡ streams.read_faults) × Rose streams.write_faults streams.later_write_faults
+CountsAt other streams =
+    (streams.later_read_faults ≡ streams.read_faults) × (streams.later_write_faults ≡ streams.write_faults)
+
+-- the source was read to its end, or has lost the lines that were played and at most what is read ahead
+abbrev pub LeavesAt : DrillEnd → List Line → Streams → Type 0
+LeavesAt ends.Read lines streams = Told streams.rest (λ rest. rest ≡ [])
+LeavesAt other lines streams = LosesFront (length (script_text lines) + ahead_limit) streams.left streams.rest
 
 -- how a drill ends
 abbrev pub Ends : DrillEnd → Streams → Type 0
 Ends end streams =
     (lines : List Line) × (text : List ℕ) × (stage : Stage) × Played lines text stage × EndsAt end lines text stage streams
+    × CountsAt end streams × LeavesAt end lines streams

@@ -3,9 +3,8 @@ use Rattle.std.specs.Prelude.{ℕ, List, Bool, false, Option, Some, None, option
 use Rattle.as4_values.specs.declared.message.Message.{Message}
 use Rattle.drill_script.specs.declared.line.EndName.{EndName}
 use Rattle.drill_script.specs.declared.line.EndName.TheVariants as name
-use Rattle.exchange_model.specs.LosslessRound.{party_at, across}
 use Rattle.exchange_model.specs.Questions.{sent_at}
-use Rattle.exchange_model.specs.World.{Side, Left, Right, World}
+use Rattle.exchange_model.specs.World.{Left, Right, Side, World, across, party_at}
 use Rattle.exchange_model.specs.declared.what.What.{What}
 use Rattle.exchange_model.specs.declared.what.What.TheVariants as what
 

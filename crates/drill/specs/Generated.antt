@@ -2,16 +2,16 @@
 -- ends have sent so far.
 --
 -- Both ends have the mode `invoice`, which pushes with 10 retries and a period of 3,000 milliseconds. End a submits so
--- many messages. In each of eleven rounds its clock is set to 3,000 times the round, from 0, and it takes until there is
--- nothing to be pushed. A counter begins at 0, and each package that is carried takes its number c and raises it by one:
+-- many messages. In each of eleven rounds its clock is set to 3,000 times the round, from 0, and it takes until nothing
+-- is pushed. A counter begins at 0, and each package that is carried takes its number c and raises it by one:
 -- the package is lost where c mod 3 is 2; else it comes, and where c mod 5 is 4 it comes once more, with the reply lost.
 -- The first answer to a message that came is carried next, by the same rule. Last, a's clock is set to 33,000.
-use Rattle.std.specs.Prelude.{◌≡◌, ℕ, zero, suc, ◌+◌, ◌*◌, ◌/◌, ◌%◌, ◌^◌, ◌==◌, ◌⊎◌, List, [], ◌∷◌, ◌++◌, true, if◌then◌else◌, Option, None, Some, IsSome, length, codes}
+use Rattle.std.specs.Prelude.{◌≡◌, ℕ, zero, suc, ◌+◌, ◌*◌, ◌/◌, ◌%◌, ◌^◌, ◌==◌, ◌⊎◌, List, [], ◌∷◌, ◌++◌, true, false, if◌then◌else◌, None, Some, length, codes}
+use Rattle.as4_effects.specs.declared.effect.Effect.TheVariants as effect
 use Rattle.as4_effects.specs.declared.queue.Queue.TheVariants as queue
-use Rattle.as4_flow.specs.Faults.{Rose}
 use Rattle.as4_flow.specs.Told.{behind, TakesFront}
-use Rattle.drill.specs.Ends.{Streams}
-use Rattle.drill.specs.Transcript.{Stage, PlaysAll, new_stage, end_lines, is_right, is_too_many}
+use Rattle.drill.specs.Ends.{CountsAt, Streams}
+use Rattle.drill.specs.Transcript.{Stage, PlaysAll, new_stage, end_lines}
 use Rattle.drill.specs.declared.script.DrillEnd.{DrillEnd}
 use Rattle.drill.specs.declared.script.DrillEnd.TheVariants as ends
 use Rattle.drill_script.specs.declared.line.EndName.{EndName}
@@ -20,7 +20,10 @@ use Rattle.drill_script.specs.declared.line.Line.{Line}
 use Rattle.drill_script.specs.declared.line.Line.TheVariants as line
 use Rattle.drill_script.specs.declared.line.ScriptLoad.TheVariants.{Size}
 use Rattle.drill_script.specs.declared.line.Way.TheVariants.{Push}
+use Rattle.exchange_model.specs.DeliveredOnce.{HasDeliveredOnce}
+use Rattle.exchange_model.specs.End.{End}
 use Rattle.exchange_model.specs.Questions.{head_of}
+use Rattle.exchange_model.specs.Table.{has_room}
 use Rattle.exchange_model.specs.declared.sent.Sent.{Sent}
 
 abbrev pub invoice : List ℕ
@@ -62,30 +65,29 @@ counted c = if c % 3 == 2 then c + 1 else c + 2
 abbrev pub Leads : List Line → Stage → Stage → Type 0
 Leads lines old new = (text : List ℕ) × PlaysAll lines old text new
 
--- one of the lines is one event too many, once those before it are played
-pub record Stops (lines : List Line) (old : Stage) : Type 0 where
-  pub front : List Line
-  pub next : Line
-  pub more : List Line
-  pub text : List ℕ
-  pub stage : Stage
-  pub cut : lines ≡ front ++ next ∷ more
-  pub plays : PlaysAll front old text stage
-  pub right : is_right next stage ≡ true
-  pub too_many : is_too_many next stage ≡ true
+-- end a pushes a message where it takes: one is to be pushed, and its journal has room for one more try
+abbrev pub Pushes : End → Type 0
+Pushes end =
+    (s : Sent) × (head_of queue.Push end ≡ Some s) × (has_room end (effect.Tried s.submission.number ∷ []) ≡ true)
 
--- end a takes so many packages, and there is one each time
+-- it pushes none: none is to be pushed, or its journal has no room
+abbrev pub PushesNone : End → Type 0
+PushesNone end =
+    (head_of queue.Push end ≡ None)
+    ⊎ ((s : Sent) × (head_of queue.Push end ≡ Some s) × (has_room end (effect.Tried s.submission.number ∷ []) ≡ false))
+
+-- end a takes so many packages
 abbrev pub Taken : ℕ → ℕ → Stage → ℕ → Stage → Type 0
 Taken zero c old later new = (later ≡ c) × (new ≡ old)
 Taken (suc takes) c old later new =
-    (mid : Stage) × IsSome (head_of queue.Push old.world.left.end)
+    (mid : Stage) × Pushes old.world.left.end
     × Leads (leg c (length old.world.left.said) (length old.world.right.said)) old mid
     × Taken takes (counted c) mid later new
 
--- and then there is nothing
+-- and then pushes none
 abbrev pub TakesAll : ℕ → ℕ → Stage → ℕ → Stage → Type 0
 TakesAll takes c old later new =
-    (mid : Stage) × Taken takes c old later mid × (head_of queue.Push mid.world.left.end ≡ None)
+    (mid : Stage) × Taken takes c old later mid × PushesNone mid.world.left.end
     × Leads (line.Take name.A ∷ []) mid new
 
 abbrev pub ticks_a : ℕ → List Line
@@ -103,57 +105,23 @@ Rounds (suc rounds) round c old new =
     (later : ℕ) × (done : Stage) × RoundRuns round c old later done × Rounds rounds (suc round) later done new
 
 -- what the seed and the count lead to
-abbrev pub IsGenerated : ℕ → ℕ → Stage → Type 0
+unfoldable pub IsGenerated : ℕ → ℕ → Stage → Type 0
 IsGenerated seed count stage =
     (begun : Stage) × (done : Stage)
     × Leads (line.Mode invoice Push 10 3000 ∷ submissions seed seed count) new_stage begun
     × Rounds 11 0 0 begun done × Leads (ticks_a 33000) done stage
 
--- where this is the head that end a takes, a line of its leg is one event too many; where there is none, the line that
--- takes
-abbrev pub LegStops : ℕ → Stage → Option Sent → Type 0
-LegStops c stage (Some sent) = Stops (leg c (length stage.world.left.said) (length stage.world.right.said)) stage
-LegStops c stage None = Stops (line.Take name.A ∷ []) stage
-
--- a line is one event too many, once end a has taken some packages
-abbrev pub TakesStop : ℕ → Stage → Type 0
-TakesStop c old =
-    (takes : ℕ) × (later : ℕ) × (mid : Stage) × Taken takes c old later mid
-    × LegStops later mid (head_of queue.Push mid.world.left.end)
-
--- a line of the round is one event too many
-abbrev pub RoundStops : ℕ → ℕ → Stage → Type 0
-RoundStops round c old =
-    Stops (ticks_a (3000 * round)) old
-    ⊎ ((begun : Stage) × Leads (ticks_a (3000 * round)) old begun × TakesStop c begun)
-
--- a line of so many rounds from this one on
-abbrev pub RoundsStop : ℕ → ℕ → ℕ → Stage → Type 0
-RoundsStop zero round c old = ⊥
-RoundsStop (suc rounds) round c old =
-    RoundStops round c old
-    ⊎ ((later : ℕ) × (done : Stage) × RoundRuns round c old later done × RoundsStop rounds (suc round) later done)
-
--- a line behind the submissions
-abbrev pub RestStops : Stage → Type 0
-RestStops begun =
-    RoundsStop 11 0 0 begun ⊎ ((done : Stage) × Rounds 11 0 0 begun done × Stops (ticks_a 33000) done)
-
--- a line of the generated script is one event too many
-unfoldable pub IsTooLong : ℕ → ℕ → Type 0
-IsTooLong seed count =
-    Stops (line.Mode invoice Push 10 3000 ∷ submissions seed seed count) new_stage
-    ⊎ ((begun : Stage) × Leads (line.Mode invoice Push 10 3000 ∷ submissions seed seed count) new_stage begun
-    × RestStops begun)
-
--- how the generated world ends: the numbers of both ends are written
-abbrev pub GeneratedEnds : ℕ → ℕ → DrillEnd → Streams → Type 0
-GeneratedEnds seed count ends.Read streams =
-    (stage : Stage) × IsGenerated seed count stage × (streams.later ≡ behind streams.taken (end_lines stage.world))
-GeneratedEnds seed count ends.WriteFault streams =
-    (stage : Stage) × IsGenerated seed count stage × Rose streams.write_faults streams.later_write_faults
+-- by what the seed and the count lead to: the numbers of both ends are written, and each message was delivered once
+abbrev pub GeneratedAt : ℕ → ℕ → DrillEnd → Streams → Type 0
+GeneratedAt seed count ends.Read streams =
+    (stage : Stage) × IsGenerated seed count stage × HasDeliveredOnce stage.world
+    × (streams.later ≡ behind streams.taken (end_lines stage.world))
+GeneratedAt seed count ends.WriteFault streams =
+    (stage : Stage) × IsGenerated seed count stage × HasDeliveredOnce stage.world
     × TakesFront (end_lines stage.world) streams.taken streams.later
-GeneratedEnds seed count ends.TooMany streams = IsTooLong seed count × (streams.later ≡ streams.taken)
-GeneratedEnds seed count ends.NoMemory streams = streams.later ≡ streams.taken
-GeneratedEnds seed count ends.ReadFault streams = ⊥
-GeneratedEnds seed count (ends.Line number) streams = ⊥
+GeneratedAt seed count ends.NoMemory streams = streams.later ≡ streams.taken
+GeneratedAt seed count other streams = ⊥
+
+-- how the generated world ends
+abbrev pub GeneratedEnds : ℕ → ℕ → DrillEnd → Streams → Type 0
+GeneratedEnds seed count end streams = GeneratedAt seed count end streams × CountsAt end streams

@@ -3,6 +3,7 @@ use Rattle.std.specs.Prelude.{◌≡◌, ℕ, ◌≤◌, List, Option, length}
 use Rattle.as4_flow.specs.Told.{before, behind}
 use Rattle.drill.specs.Ends.{Streams}
 use Rattle.drill.specs.Transcript.{Stage, PlaysAll, new_stage, script_text, lines_limit}
+use Rattle.drill_script.specs.Lines.{ahead_limit}
 use Rattle.drill_script.specs.declared.line.Line.{Line}
 
 -- a source and a sink at one moment: what is left and what was taken, where they tell it, and how often each failed
@@ -19,6 +20,7 @@ flow left taken reads writes = record { left = left; taken = taken; reads = read
 abbrev pub between : Flow → Flow → Streams
 between start now = record {
   left = start.left;
+  rest = now.left;
   taken = start.taken;
   later = now.taken;
   read_faults = start.reads;
@@ -27,7 +29,8 @@ between start now = record {
   later_write_faults = now.writes;
 }
 
--- since the start so many lines were played and their text was written, and what is held stands before what is left
+-- since the start so many lines were played and their text was written, what is held stands before what is left, and
+-- nothing failed
 pub record SoFar (stage : Stage) (held : List ℕ) (count : ℕ) (start now : Flow) : Type 0 where
   pub lines : List Line
   pub text : List ℕ
@@ -35,6 +38,7 @@ pub record SoFar (stage : Stage) (held : List ℕ) (count : ℕ) (start now : Fl
   pub counted : length lines ≡ count
   pub few : count ≤ lines_limit
   pub came : start.left ≡ before (script_text lines) (before held now.left)
+  pub ahead : length held ≤ ahead_limit
   pub wrote : now.taken ≡ behind start.taken text
-  pub read : start.reads ≤ now.reads
-  pub written : start.writes ≤ now.writes
+  pub read : now.reads ≡ start.reads
+  pub written : now.writes ≡ start.writes

@@ -16,16 +16,16 @@ pub record IsSound (modes : List Mode) (left right : Seat) (events : ℕ) (begun
   pub made : AreDrillModes modes
   pub few : events ≤ events_limit
   pub shared : begun ≡ true → (left.modes ≡ modes) × (right.modes ≡ modes)
-  pub new : begun ≡ false → (left.party ≡ new_party) × (right.party ≡ new_party)
+  pub new : begun ≡ false → (left.party ≡ new_party) × (right.party ≡ new_party) × (events ≡ 0)
 
 -- a line that does something at an end
 abbrev pub IsAtEnd : Line → Type 0
 IsAtEnd (line.Mode name way retries period) = ⊥
 IsAtEnd other = Unit {0}
 
--- it is done, or it would make one event too many, or memory ran out
+-- it is done, or it would make one event too many, or memory ran out where it wouldn't
 abbrev pub Performs : Doing → Stage → Result (List ℕ) Refused → Stage → Type 0
 Performs doing old (Ok text) new = Acts doing old text new × (is_full_for doing old.events ≡ false)
 Performs doing old (Err refused.TooMany) new = is_full_for doing old.events ≡ true
 Performs doing old (Err refused.Wrong) new = ⊥
-Performs doing old (Err refused.NoMemory) new = Unit {0}
+Performs doing old (Err refused.NoMemory) new = is_full_for doing old.events ≡ false

@@ -13,8 +13,7 @@ use Rattle.drill_script.specs.declared.line.Line.TheVariants as line
 use Rattle.drill_texts.specs.Loads.{loads_of}
 use Rattle.drill_texts.specs.Modes.{IsDrillMode}
 use Rattle.drill_texts.specs.Texts.{said_line, reply_text, status_text, end_line}
-use Rattle.exchange_model.specs.LosslessRound.{party_at}
-use Rattle.exchange_model.specs.World.{Act, World, MayHappenAt, new_world, world_at}
+use Rattle.exchange_model.specs.World.{Act, MayHappenAt, World, new_world, party_at, world_at}
 use Rattle.exchange_model.specs.declared.what.What.TheVariants as what
 
 -- what a script has led to: two ends with their modes, how many events were made, and whether a line was more than a

@@ -1,16 +1,16 @@
 //! A world that a seed and a count generate, run.
-ghost use Rattle.std.specs.Prelude.{◌≡◌, ◌≢◌, ℕ, ◌+◌, ◌*◌, ◌%◌, ◌≤◌, ◌<◌, ◌∷◌, [], IfOk, IsTrue, None, Some, length, true, false};
-ghost use Rattle.as4_effects.specs.declared.queue.Queue.TheVariants as queue;
-ghost use Rattle.drill.specs.Generated.{GeneratedEnds, IsGenerated, IsTooLong, Leads, LegStops, RestStops, RoundRuns, RoundStops, Rounds, RoundsStop, Stops, TakesAll, TakesStop, carried, carried_both, counted, invoice, next_number, size_by, submissions, ticks_a};
-ghost use Rattle.drill.specs.Generating.{Goes, IsHead, Legs, Runs, Turns, nothing_line};
-ghost use Rattle.drill.specs.Transcript.{Stage as StageValue, is_right, new_stage};
+ghost use Rattle.std.specs.Prelude.{◌≡◌, ℕ, ◌+◌, ◌*◌, ◌%◌, ◌≤◌, ◌<◌, ◌∷◌, [], IfOk, IsTrue, None, OnOk, Some, length, true};
+ghost use Rattle.drill.specs.Ends.{CountsAt};
+ghost use Rattle.drill.specs.Generated.{GeneratedEnds, IsGenerated, Leads, RoundRuns, Rounds, TakesAll, carried, carried_both, counted, invoice, next_number, size_by, submissions, ticks_a};
+ghost use Rattle.drill.specs.Generating.{Grows, IsPushed, Legs, handed, to_push};
+ghost use Rattle.drill.specs.Transcript.{Stage as StageValue, events_limit, is_right, new_stage};
 ghost use Rattle.drill_script.specs.LineText.{is_line, line_limit, line_text};
 ghost use Rattle.drill_script.specs.declared.line.EndName.TheVariants as name;
 ghost use Rattle.drill_script.specs.declared.line.Line.TheVariants as line;
 ghost use Rattle.drill_script.specs.declared.line.ScriptLoad.TheVariants.{Size as Sized};
-ghost use Rattle.drill_script.specs.declared.line.Way.TheVariants.{Push as Pushes};
-ghost use Rattle.exchange_model.specs.Questions.{head_of};
+ghost use Rattle.drill_script.specs.declared.line.Way.TheVariants.{Push as Pushed};
 
+use crate::laws::a_drill_delivers_once;
 use crate::refused::Refused;
 use crate::script::DrillEnd;
 use crate::stage::Stage;
@@ -19,37 +19,31 @@ use as4_values::{NoMemory, Octets};
 use drill_script::{EndName, Line, ScriptLoad, Way};
 use std::alloc::Global;
 
-// The line is played, and its text given.
-fn play_text(stage: &mut Stage, line: &Line) -> Result<Octets, Refused>
-    requires spelled { IsTrue (is_line line.now) }
-    requires short { length (line_text line.now) ≤ line_limit }
-    requires right { is_right line.now stage.old ≡ true }
-    ensures { Goes result (λ text. Turns line.now stage.old text stage.new) (Stops (line.now ∷ []) stage.old) }
-{
-    stage.play(line)
-}
-
-// The line is played.
-fn play_one(stage: &mut Stage, line: Line) -> Result<(), Refused>
+// The line is played, where the script may still make an event.
+fn play_one(stage: &mut Stage, line: Line) -> Result<(), NoMemory>
     requires spelled { IsTrue (is_line line) }
     requires short { length (line_text line) ≤ line_limit }
     requires right { is_right line stage.old ≡ true }
-    ensures { Runs result (line ∷ []) stage.old stage.new }
+    requires few { stage.old.events < events_limit }
+    ensures { OnOk result (Leads (line ∷ []) stage.old stage.new) }
 {
-    let played = play_text(stage, &line);
+    let played = stage.play(&line);
     drop(line);
     match played {
         Ok(text) => {
             drop(text);
             Ok(())
         }
-        Err(error) => Err(error),
+        Err(Refused::NoMemory) => Err(NoMemory),
+        Err(Refused::Wrong) => unreachable!(),
+        Err(Refused::TooMany) => unreachable!(),
     }
 }
 
 // The package of this place is carried to the end, by the rule of the counter.
-fn carry(stage: &mut Stage, counter: u64, end: EndName, place: u64) -> Result<(), Refused>
-    ensures { Runs result (carried counter end place) stage.old stage.new }
+fn carry(stage: &mut Stage, counter: u64, end: EndName, place: u64) -> Result<(), NoMemory>
+    requires { stage.old.events + 2 ≤ events_limit }
+    ensures { OnOk result (Leads (carried counter end place) stage.old stage.new) }
 {
     if counter % 3 == 2 {
         return Ok(());
@@ -75,9 +69,10 @@ fn carry(stage: &mut Stage, counter: u64, end: EndName, place: u64) -> Result<()
 }
 
 // A package is carried, and what is answered to it.
-fn carry_both(stage: &mut Stage, counter: u64, place: u64, answer: u64) -> Result<(), Refused>
-    requires { counter < 1000000 }
-    ensures { Runs result (carried_both counter place answer) stage.old stage.new }
+fn carry_both(stage: &mut Stage, counter: u64, place: u64, answer: u64) -> Result<(), NoMemory>
+    requires counter { counter < 1000000 }
+    requires few { stage.old.events + 4 ≤ events_limit }
+    ensures { OnOk result (Leads (carried_both counter place answer) stage.old stage.new) }
 {
     if counter % 3 == 2 {
         return Ok(());
@@ -98,63 +93,40 @@ fn next_counter(counter: u64) -> u64
     }
 }
 
-// Whether the text is not of an empty queue.
-fn is_of_some(text: &Octets) -> bool
-    ensures some { result ≡ true → text.now ≢ nothing_line }
-    ensures none { result ≡ false → text.now ≡ nothing_line }
+// End a takes what it has to push. It answers whether a message was pushed.
+fn take_one(stage: &mut Stage) -> Result<bool, NoMemory>
+    requires { stage.old.events < events_limit }
+    ensures { IfOk result (λ pushed. Leads (line.Take name.A ∷ []) stage.old stage.new × IsPushed pushed stage.old.world.left.end) }
 {
-    !(text.bytes() == b"a nothing\n".as_slice())
+    let before = stage.said(EndName::A);
+    play_one(stage, Line::Take { end: EndName::A })?;
+    Ok(stage.said(EndName::A) != before)
 }
 
-// End a takes what it has to push. It answers whether there was something.
-fn take_one(stage: &mut Stage) -> Result<bool, Refused>
-    ensures { Goes result (λ some. Leads (line.Take name.A ∷ []) stage.old stage.new
-        × IsHead some (head_of queue.Push stage.old.world.left.end)) (Stops (line.Take name.A ∷ []) stage.old) }
-{
-    let line = Line::Take { end: EndName::A };
-    let played = play_text(stage, &line);
-    drop(line);
-    match played {
-        Ok(text) => Ok(is_of_some(&text)),
-        Err(error) => Err(error),
-    }
-}
-
-// What was taken is carried. It answers the counter behind it.
-fn carry_on(
-    stage: &mut Stage,
-    counter: u64,
-    place: u64,
-    answer: u64,
-) -> Result<Option<u64>, Refused>
-    requires { counter < 1000000 }
-    ensures { Goes result (λ next. (next ≡ Some (counted counter))
-        × Leads (carried_both counter place answer) stage.old stage.new) (Stops (carried_both counter place answer) stage.old) }
-{
-    carry_both(stage, counter, place, answer)?;
-    Ok(Some(next_counter(counter)))
-}
-
-// A leg of the counter is played, if there is something to take. It answers the counter behind it.
-fn play_leg(stage: &mut Stage, counter: u64) -> Result<Option<u64>, Refused>
-    requires { counter ≤ 2 * stage.old.events }
-    ensures { Goes result (Legs counter stage.old stage.new)
-        (LegStops counter stage.old (head_of queue.Push stage.old.world.left.end)) }
+// A leg of the counter is played, if something is pushed. It answers the counter behind it.
+fn play_leg(stage: &mut Stage, counter: u64) -> Result<Option<u64>, NoMemory>
+    requires counter { counter ≤ 2 * stage.old.events }
+    requires few { stage.old.events + 5 * to_push stage.old.world.left.end < events_limit }
+    ensures { IfOk result (Legs counter stage.old stage.new) }
 {
     let place = stage.said(EndName::A);
     let answer = stage.said(EndName::B);
-    if take_one(stage)? {
-        carry_on(stage, counter, place, answer)
+    let pushed = take_one(stage)?;
+    if pushed {
+        carry_both(stage, counter, place, answer)?;
+        Ok(Some(next_counter(counter)))
     } else {
         Ok(None)
     }
 }
 
-// End a takes until there is nothing. It answers the counter behind the last.
-fn take_all(stage: &mut Stage, counter: u64) -> Result<u64, Refused>
-    requires { counter ≤ 2 * stage.old.events }
-    ensures { Goes result (λ later. (later ≤ 2 * stage.new.events)
-        × ((takes : ℕ) × TakesAll takes counter stage.old later stage.new)) (TakesStop counter stage.old) }
+// End a takes until nothing is pushed. It answers the counter behind the last.
+fn take_all(stage: &mut Stage, counter: u64) -> Result<u64, NoMemory>
+    requires counter { counter ≤ 2 * stage.old.events }
+    requires few { stage.old.events + 5 * to_push stage.old.world.left.end < events_limit }
+    ensures counter { IfOk result (λ later. later ≤ 2 * stage.new.events) }
+    ensures takes { IfOk result (λ later. (takes : ℕ) × TakesAll takes counter stage.old later stage.new) }
+    ensures grows { OnOk result (Grows (5 * to_push stage.old.world.left.end + 1) 0 stage.old stage.new) }
 {
     let mut now = counter;
     'takes: loop {
@@ -166,9 +138,10 @@ fn take_all(stage: &mut Stage, counter: u64) -> Result<u64, Refused>
 }
 
 // The clock of end a is set.
-fn tick(stage: &mut Stage, moment: u64) -> Result<(), Refused>
-    requires { moment ≤ 33000 }
-    ensures { Runs result (ticks_a moment) stage.old stage.new }
+fn tick(stage: &mut Stage, moment: u64) -> Result<(), NoMemory>
+    requires dated { moment ≤ 33000 }
+    requires few { stage.old.events < events_limit }
+    ensures { OnOk result (Leads (ticks_a moment) stage.old stage.new) }
 {
     play_one(
         stage,
@@ -180,19 +153,25 @@ fn tick(stage: &mut Stage, moment: u64) -> Result<(), Refused>
 }
 
 // One round. It answers the counter behind it.
-fn play_round(stage: &mut Stage, round: u64, counter: u64) -> Result<u64, Refused>
+fn play_round(stage: &mut Stage, round: u64, counter: u64) -> Result<u64, NoMemory>
     requires rounds { round ≤ 11 }
-    requires few { counter ≤ 2 * stage.old.events }
-    ensures { Goes result (λ later. (later ≤ 2 * stage.new.events)
-        × RoundRuns round counter stage.old later stage.new) (RoundStops round counter stage.old) }
+    requires counter { counter ≤ 2 * stage.old.events }
+    requires handed { handed stage.old ≤ 1000 }
+    requires few { stage.old.events + 5002 ≤ events_limit }
+    ensures counter { IfOk result (λ later. later ≤ 2 * stage.new.events) }
+    ensures runs { IfOk result (λ later. RoundRuns round counter stage.old later stage.new) }
+    ensures grows { OnOk result (Grows 5002 0 stage.old stage.new) }
 {
     tick(stage, 3000 * round)?;
     take_all(stage, counter)
 }
 
 // All rounds, the first at 0.
-fn play_rounds(stage: &mut Stage) -> Result<(), Refused>
-    ensures { Goes result (λ _. Rounds 11 0 0 stage.old stage.new) (RoundsStop 11 0 0 stage.old) }
+fn play_rounds(stage: &mut Stage) -> Result<(), NoMemory>
+    requires handed { handed stage.old ≤ 1000 }
+    requires few { stage.old.events ≤ 1000 }
+    ensures rounds { OnOk result (Rounds 11 0 0 stage.old stage.new) }
+    ensures few { OnOk result (stage.new.events ≤ 1000 + 11 * 5002) }
 {
     let mut counter = 0;
     let mut round = 0;
@@ -232,9 +211,9 @@ fn invoice_name(alloc: Global) -> Result<Octets, NoMemory>
 }
 
 // Both ends get the mode.
-fn name_mode(alloc: Global, stage: &mut Stage) -> Result<(), Refused>
+fn name_mode(alloc: Global, stage: &mut Stage) -> Result<(), NoMemory>
     requires { stage.old ≡ new_stage }
-    ensures { Runs result (line.Mode invoice Pushes 10 3000 ∷ []) stage.old stage.new }
+    ensures { OnOk result (Leads (line.Mode invoice Pushed 10 3000 ∷ []) stage.old stage.new) }
 {
     let name = invoice_name(alloc)?;
     let line = Line::Mode {
@@ -247,9 +226,10 @@ fn name_mode(alloc: Global, stage: &mut Stage) -> Result<(), Refused>
 }
 
 // End a submits a message of so many bytes.
-fn submit_one(alloc: Global, stage: &mut Stage, size: u32) -> Result<(), Refused>
-    requires { size ≤ 40960 }
-    ensures { Runs result (line.Submit name.A invoice (Sized size) ∷ []) stage.old stage.new }
+fn submit_one(alloc: Global, stage: &mut Stage, size: u32) -> Result<(), NoMemory>
+    requires small { size ≤ 40960 }
+    requires few { stage.old.events < events_limit }
+    ensures { OnOk result (Leads (line.Submit name.A invoice (Sized size) ∷ []) stage.old stage.new) }
 {
     let mode = invoice_name(alloc)?;
     play_one(
@@ -263,8 +243,10 @@ fn submit_one(alloc: Global, stage: &mut Stage, size: u32) -> Result<(), Refused
 }
 
 // End a submits so many messages.
-fn submit_all(alloc: Global, stage: &mut Stage, seed: u64, count: u64) -> Result<(), Refused>
-    ensures { Runs result (submissions seed seed count) stage.old stage.new }
+fn submit_all(alloc: Global, stage: &mut Stage, seed: u64, count: u64) -> Result<(), NoMemory>
+    requires { stage.old.events + count ≤ events_limit }
+    ensures leads { OnOk result (Leads (submissions seed seed count) stage.old stage.new) }
+    ensures grows { OnOk result (Grows count count stage.old stage.new) }
 {
     let mut number = seed;
     let mut sent = 0;
@@ -279,27 +261,31 @@ fn submit_all(alloc: Global, stage: &mut Stage, seed: u64, count: u64) -> Result
 }
 
 // The mode is named and all is submitted.
-fn prepare(alloc: Global, stage: &mut Stage, seed: u64, count: u64) -> Result<(), Refused>
-    requires { stage.old ≡ new_stage }
-    ensures { Runs result (line.Mode invoice Pushes 10 3000 ∷ submissions seed seed count) stage.old stage.new }
+fn prepare(alloc: Global, stage: &mut Stage, seed: u64, count: u64) -> Result<(), NoMemory>
+    requires new { stage.old ≡ new_stage }
+    requires few { count ≤ 1000 }
+    ensures leads { OnOk result (Leads (line.Mode invoice Pushed 10 3000 ∷ submissions seed seed count) stage.old stage.new) }
+    ensures grows { OnOk result (Grows count count stage.old stage.new) }
 {
     name_mode(alloc, stage)?;
     submit_all(alloc, stage, seed, count)
 }
 
 // All lines of the generated world are played.
-fn run(alloc: Global, stage: &mut Stage, seed: u64, count: u64) -> Result<(), Refused>
-    requires { stage.old ≡ new_stage }
-    ensures { Goes result (λ _. IsGenerated seed count stage.new) (IsTooLong seed count) }
+fn run(alloc: Global, stage: &mut Stage, seed: u64, count: u64) -> Result<(), NoMemory>
+    requires new { stage.old ≡ new_stage }
+    requires few { count ≤ 1000 }
+    ensures { OnOk result (IsGenerated seed count stage.new) }
 {
     prepare(alloc, stage, seed, count)?;
     run_on(stage)
 }
 
 // All rounds are played, and the last tick.
-fn run_on(stage: &mut Stage) -> Result<(), Refused>
-    ensures { Goes result (λ _. (done : StageValue) × Rounds 11 0 0 stage.old done × Leads (ticks_a 33000) done stage.new)
-        (RestStops stage.old) }
+fn run_on(stage: &mut Stage) -> Result<(), NoMemory>
+    requires handed { handed stage.old ≤ 1000 }
+    requires few { stage.old.events ≤ 1000 }
+    ensures { OnOk result ((done : StageValue) × Rounds 11 0 0 stage.old done × Leads (ticks_a 33000) done stage.new) }
 {
     play_rounds(stage)?;
     tick(stage, 33000)
@@ -311,6 +297,7 @@ pub fn generate<K: Sink>(alloc: Global, seed: u64, count: u64, sink: &mut K) -> 
     requires { count ≤ 1000 }
     ensures ends { GeneratedEnds seed count result (record {
       left = None;
+      rest = None;
       taken = K.taken sink.old;
       later = K.taken sink.new;
       read_faults = 0;
@@ -342,6 +329,7 @@ fn generate_on<K: Sink>(
     requires new { stage.old ≡ new_stage }
     ensures ends { GeneratedEnds seed count result (record {
       left = None;
+      rest = None;
       taken = K.taken sink.old;
       later = K.taken sink.new;
       read_faults = 0;
@@ -353,9 +341,7 @@ fn generate_on<K: Sink>(
 {
     match run(alloc, stage, seed, count) {
         Ok(()) => write_ends(stage, sink),
-        Err(Refused::Wrong) => unreachable!(),
-        Err(Refused::TooMany) => DrillEnd::TooMany,
-        Err(Refused::NoMemory) => DrillEnd::NoMemory,
+        Err(_) => DrillEnd::NoMemory,
     }
 }
 
@@ -363,6 +349,7 @@ fn generate_on<K: Sink>(
 fn write_ends<K: Sink>(stage: &Stage, sink: &mut K) -> DrillEnd
     ensures ends { (seed count : ℕ) → IsGenerated seed count stage.now → GeneratedEnds seed count result (record {
       left = None;
+      rest = None;
       taken = K.taken sink.old;
       later = K.taken sink.new;
       read_faults = 0;
@@ -372,6 +359,7 @@ fn write_ends<K: Sink>(stage: &Stage, sink: &mut K) -> DrillEnd
     }) }
     ensures counted { K.faults sink.old ≤ K.faults sink.new }
 {
+    a_drill_delivers_once();
     match stage.end_lines() {
         Ok(text) => match send_all(sink, text.bytes()) {
             Ok(()) => DrillEnd::Read,

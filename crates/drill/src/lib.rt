@@ -12,5 +12,6 @@ mod script;
 mod stage;
 
 pub use generated::generate;
-pub use laws::a_drill_delivers_once;
-pub use script::{DrillEnd, drill};
+pub use laws::{a_drill_delivers_once, a_script_has_one_transcript};
+pub use playing::{MAX_EVENTS, MAX_MODES};
+pub use script::{DrillEnd, MAX_LINES, drill};

@@ -2,9 +2,11 @@
 ghost use Rattle.std.specs.Prelude.{◌≡◌, ◌≢◌, [], ◌≤◌, IsTrue, length};
 ghost use Rattle.as4_flow.specs.Faults.{Rose};
 ghost use Rattle.as4_flow.specs.Told.{Told, before};
-ghost use Rattle.drill.specs.Next.{HoldsNoLine, IfLine};
+ghost use Rattle.drill.specs.Next.{HoldsNoLine, IfLine, ReadsAhead};
 ghost use Rattle.drill_script.specs.Lacking.{parted};
+ghost use Rattle.drill_script.specs.LineParts.{BeginsKept};
 ghost use Rattle.drill_script.specs.LineText.{is_line, line_limit, line_text};
+ghost use Rattle.drill_script.specs.Lines.{BeginsLong, ahead_limit};
 ghost use Rattle.drill_script.specs.declared.line.Line.{Line as LineValue};
 
 use as4_flow::Source;
@@ -32,8 +34,15 @@ pub(crate) fn next_line<S: Source>(alloc: Global, reader: &mut LineReader, sourc
 
     ensures end { result ≡ Next.End → Told (before reader.old (S.left source.old)) (λ bytes. bytes ≡ []) }
     ensures outside { result ≡ Next.Outside → Told (before reader.old (S.left source.old)) HoldsNoLine }
+    ensures long { BeginsLong reader.old → result ≡ Next.Outside }
     ensures failed { result ≡ Next.Failed → Rose (S.faults source.old) (S.faults source.new) }
     ensures counted { S.faults source.old ≤ S.faults source.new }
+
+    // No fault is read over, and no more is read than a reader reads ahead.
+    ensures quiet { result ≢ Next.Failed → S.faults source.new ≡ S.faults source.old }
+    ensures ahead { length reader.old ≤ ahead_limit → ReadsAhead reader.old (S.left source.old) (S.left source.new) }
+    ensures held { length reader.old ≤ ahead_limit
+        → IfLine result (λ line. length (parted 10 (line_text line) reader.new) ≤ ahead_limit) }
 {
     match reader.next(source) {
         LineGot::Line(bytes) => read_line(alloc, bytes.bytes()),
@@ -50,6 +59,9 @@ fn read_line(alloc: Global, bytes: &[u8]) -> Next
     ensures line { IfLine result (λ line. (bytes.now ≡ line_text line) × IsTrue (is_line line)) }
     ensures outside { result ≡ Next.Outside → (line : LineValue) → IsTrue (is_line line) → bytes.now ≢ line_text line }
     ensures here { (result ≢ Next.End) × (result ≢ Next.Failed) }
+
+    // Memory is wanted behind these first words alone.
+    ensures lean { result ≡ Next.NoMemory → BeginsKept bytes.now }
 {
     match line_of(alloc, bytes) {
         Ok(Some(line)) => Next::Line(line),

@@ -1,17 +1,16 @@
 //! What each line of a script does.
-ghost use Rattle.std.specs.Prelude.{◌≡◌, ◌≢◌, ◌<◌, ◌≤◌, ◌∷◌, [], ◌++◌, Err, IfOk, IfSome, IsTrue, Some, codes, false, length, true};
+ghost use Rattle.std.specs.Prelude.{◌≡◌, ◌≢◌, ◌<◌, ◌≤◌, ◌∷◌, [], ◌++◌, Err, IfOk, IfSome, IsTrue, Some, codes, false, length, nat_le, true};
 ghost use Rattle.std.specs.Option.{unwrap_or};
 ghost use Rattle.as4_values.specs.declared.mode.Mode.{Mode as ModeValue};
 ghost use Rattle.drill.specs.Events.{Does, asked, comes, id_at, package_for, side_of, tells};
 ghost use Rattle.drill.specs.Stages.{IsAtEnd, Performs};
-ghost use Rattle.drill.specs.Transcript.{Makes, Plays, doing_of, is_placed, is_right, is_too_many};
+ghost use Rattle.drill.specs.Transcript.{Makes, Plays, doing_of, events_limit, is_placed, is_right, is_too_many};
 ghost use Rattle.drill_script.specs.LineText.{is_line, is_load, is_name, line_limit, line_text};
 ghost use Rattle.drill_texts.specs.Loads.{loads_of};
 ghost use Rattle.drill_texts.specs.Modes.{IsDrillMode};
 ghost use Rattle.drill_texts.specs.Texts.{status_text};
 ghost use Rattle.exchange_model.specs.Coming.{may_come};
-ghost use Rattle.exchange_model.specs.LosslessRound.{across, party_at};
-ghost use Rattle.exchange_model.specs.World.{IsHeard};
+ghost use Rattle.exchange_model.specs.World.{IsHeard, across, party_at};
 ghost use Rattle.exchange_model.specs.declared.what.What.TheVariants as what;
 
 use crate::naming::{add_mode, is_named, name_text};
@@ -24,10 +23,14 @@ use exchange_model::{Event, What};
 use std::alloc::Global;
 
 /// How many modes a script names at most.
-const MAX_MODES: usize = 1024;
+pub const MAX_MODES: usize = 1024;
+
+const _: () = prove!(MAX_MODES == 1024);
 
 /// How many events a script makes at most.
-const MAX_EVENTS: u64 = 100_000;
+pub const MAX_EVENTS: u64 = 100_000;
+
+const _: () = prove!(MAX_EVENTS == 100000);
 
 impl Stage {
     /// Plays a line, and gives what it writes.
@@ -39,6 +42,11 @@ impl Stage {
         ensures wrong { result ≡ Err Refused.Wrong → is_right line.now self.old ≡ false }
         ensures too_many { result ≡ Err Refused.TooMany
             → (is_right line.now self.old ≡ true) × (is_too_many line.now self.old ≡ true) }
+
+        // Neither is told as a want of memory.
+        ensures told { is_right line.now self.old ≡ false → result ≡ Err Refused.Wrong }
+        ensures full { is_right line.now self.old ≡ true → is_too_many line.now self.old ≡ true
+            → result ≡ Err Refused.TooMany }
     {
         match line {
             Line::Mode {
@@ -67,6 +75,7 @@ impl Stage {
         ensures adds { IfOk result (λ text. (text ≡ []) × ((mode : ModeValue) × IsDrillMode name.now way retries period mode
             × (self.new ≡ record self.old { modes = self.old.modes ++ mode ∷ [] }))) }
         ensures wrong { result ≡ Err Refused.Wrong → is_placed (Line.Mode name.now way retries period) self.old ≡ false }
+        ensures told { is_placed (Line.Mode name.now way retries period) self.old ≡ false → result ≡ Err Refused.Wrong }
         ensures few { result ≢ Err Refused.TooMany }
     {
         if self.begun || self.modes.len() >= MAX_MODES || is_named(self.modes.as_slice(), name) {
@@ -121,6 +130,9 @@ impl Stage {
         requires begun { self.old.begun ≡ true }
         ensures { Performs (Does (asked end 0 (what.Submit mode.now (Some (codes "c")) (loads_of load.now)))) self.old result self.new }
     {
+        if self.is_full() {
+            return Err(Refused::TooMany);
+        }
         let what = submission(self.alloc, mode, load)?;
         self.make(end, None, what, false, 0)
     }
@@ -132,6 +144,9 @@ impl Stage {
         requires begun { self.old.begun ≡ true }
         ensures { Performs (Does (asked end 0 (what.Ask mode.now))) self.old result self.new }
     {
+        if self.is_full() {
+            return Err(Refused::TooMany);
+        }
         let mode = name_text(self.alloc, mode)?;
         self.make(end, None, What::Ask { mode }, false, 0)
     }
@@ -144,6 +159,9 @@ impl Stage {
         match self.package_for(end, number) {
             None => Ok(no_package_line(self.alloc, end)?),
             Some(message) => {
+                if self.is_full() {
+                    return Err(Refused::TooMany);
+                }
                 let what = What::Came(message.try_clone(self.alloc)?);
                 self.make(end, None, what, lost, 0)
             }
@@ -159,12 +177,22 @@ impl Stage {
         match self.id_at(end, number) {
             None => Ok(unknown_line(self.alloc, end, number)?),
             Some(id) => {
+                if self.is_full() {
+                    return Err(Refused::TooMany);
+                }
                 let what = What::Status {
                     id: id.try_clone(self.alloc)?,
                 };
                 self.make(end, None, what, false, number)
             }
         }
+    }
+
+    /// Whether one more event is one too many.
+    fn is_full(&self) -> bool
+        ensures { result ≡ nat_le events_limit self.now.events }
+    {
+        self.events >= MAX_EVENTS
     }
 
     /// The moment that a line sets, or else the end's.
@@ -194,7 +222,7 @@ impl Stage {
         requires heard { IsHeard (party_at (across (side_of end)) self.old.world).said what }
         ensures { Performs (Does (record { end = end; what = what; moment = moment; lost = lost; number = number })) self.old result self.new }
     {
-        if self.events >= MAX_EVENTS {
+        if self.is_full() {
             drop(what);
             return Err(Refused::TooMany);
         }

@@ -1,13 +1,11 @@
 //! A script is read line by line, and each line is played.
-ghost use Rattle.std.specs.Prelude.{◌≡◌, ℕ, [], ◌+◌, ◌<◌, ◌≤◌, List, Option, IsNone, IsTrue, MatchOption, length};
+ghost use Rattle.std.specs.Prelude.{◌⊎◌, Some, false, true, ◌≡◌, ℕ, [], ◌+◌, ◌<◌, ◌≤◌, List, Option, IsNone, IsTrue, MatchOption, length};
 ghost use Rattle.as4_flow.specs.Told.{Told, before};
 ghost use Rattle.drill.specs.Ends.{Ends};
 ghost use Rattle.drill.specs.Running.{Flow, SoFar, between, flow};
-ghost use Rattle.drill.specs.Transcript.{PlaysAll, Stage as StageValue, lines_limit, new_stage};
+ghost use Rattle.drill.specs.Transcript.{is_right, is_too_many, lines_limit};
 ghost use Rattle.drill_script.specs.Lacking.{parted};
 ghost use Rattle.drill_script.specs.LineText.{is_line, line_limit, line_text};
-ghost use Rattle.drill_script.specs.declared.line.Line.{Line as LineValue};
-ghost use Rattle.exchange_model.specs.DeliveredOnce.{BothDeliverOnce};
 
 use crate::laws::a_drill_delivers_once;
 use crate::next::{Next, next_line};
@@ -18,7 +16,9 @@ use drill_script::{Line, LineReader};
 use std::alloc::Global;
 
 /// The most lines that a script has.
-const MAX_LINES: u64 = 1_000_000;
+pub const MAX_LINES: u64 = 1_000_000;
+
+const _: () = prove!(MAX_LINES == 1000000);
 
 /// How a drill ends.
 #[derive(Clone, Copy, Debug, PartialEq, Eq)]
@@ -42,6 +42,7 @@ pub enum DrillEnd {
 pub fn drill<S: Source, K: Sink>(alloc: Global, source: &mut S, sink: &mut K) -> DrillEnd
     ensures ends { Ends result (record {
       left = S.left source.old;
+      rest = S.left source.new;
       taken = K.taken sink.old;
       later = K.taken sink.new;
       read_faults = S.faults source.old;
@@ -50,10 +51,6 @@ pub fn drill<S: Source, K: Sink>(alloc: Global, source: &mut S, sink: &mut K) ->
       later_write_faults = K.faults sink.new;
     }) }
     ensures counted { (S.faults source.old ≤ S.faults source.new) × (K.faults sink.old ≤ K.faults sink.new) }
-
-    // Whatever the script, its messages are delivered once.
-    ensures once { (lines : List LineValue) (text : List ℕ) (stage : StageValue)
-        → PlaysAll lines new_stage text stage → BothDeliverOnce stage.world }
 {
     a_drill_delivers_once();
     let mut reader = LineReader::new(alloc);
@@ -88,6 +85,7 @@ fn play_next<S: Source, K: Sink>(
     ensures more { IsNone result → played < lines_limit }
     ensures counted { (S.faults source.old ≤ S.faults source.new) × (K.faults sink.old ≤ K.faults sink.new) }
 {
+    a_drill_delivers_once();
     match next_line(alloc, reader, source) {
         Next::Line(line) => play_line(stage, &line, sink, played),
         Next::End => Some(finish(stage, sink)),
@@ -108,7 +106,14 @@ fn play_line<K: Sink>(stage: &mut Stage, line: &Line, sink: &mut K, played: u64)
         MatchOption result (SoFar stage.new held (played + 1) start now) (λ end. Ends end (between start now)) }
     ensures more { IsNone result → played < lines_limit }
     ensures counted { K.faults sink.old ≤ K.faults sink.new }
+
+    // A line that isn't in its place, or one event too many, is told as such, whether or not memory would suffice.
+    ensures wrong { (played ≡ lines_limit) ⊎ (is_right line.now stage.old ≡ false)
+        → result ≡ Some (DrillEnd.Line (played + 1)) }
+    ensures full { played < lines_limit → is_right line.now stage.old ≡ true → is_too_many line.now stage.old ≡ true
+        → result ≡ Some DrillEnd.TooMany }
 {
+    a_drill_delivers_once();
     if played == MAX_LINES {
         return Some(DrillEnd::Line { number: played + 1 });
     }
@@ -131,6 +136,7 @@ fn finish<K: Sink>(stage: &Stage, sink: &mut K) -> DrillEnd
         → Ends result (between start (flow left (K.taken sink.new) reads (K.faults sink.new))) }
     ensures counted { K.faults sink.old ≤ K.faults sink.new }
 {
+    a_drill_delivers_once();
     match stage.end_lines() {
         Ok(text) => match send_all(sink, text.bytes()) {
             Ok(()) => DrillEnd::Read,

@@ -1,12 +1,11 @@
 //! Two ends with their processing modes, the packages that each has sent, and the count of events.
-ghost use Rattle.std.specs.Prelude.{◌≡◌, ℕ, ◌+◌, ◌<◌, ◌≤◌, ◌∷◌, ◌++◌, IfOk, IfSome, IsTrue, OnOk, Option, length, option_copied, true};
+ghost use Rattle.std.specs.Prelude.{◌≡◌, ℕ, ◌+◌, ◌<◌, ◌≤◌, ◌∷◌, ◌++◌, IfOk, IfSome, IsTrue, OnErr, OnOk, Option, length, option_copied, true};
 ghost use Rattle.std.specs.List.{Contains};
 ghost use Rattle.std.specs.Option.{unwrap_or};
 ghost use Rattle.drill.specs.Events.{id_at, package_for, side_of};
 ghost use Rattle.drill.specs.Transcript.{Makes, end_lines, events_limit, new_stage};
 ghost use Rattle.exchange_model.specs.Coming.{may_come};
-ghost use Rattle.exchange_model.specs.LosslessRound.{across, party_at};
-ghost use Rattle.exchange_model.specs.World.{IsHeard, new_party};
+ghost use Rattle.exchange_model.specs.World.{IsHeard, across, new_party, party_at};
 ghost use Rattle.exchange_model.specs.declared.what.What.TheVariants.{Came};
 
 use crate::naming::copies_of;
@@ -65,7 +64,8 @@ impl Stage {
 
     /// Both ends have the modes from here on.
     pub(crate) fn begin(&mut self) -> Result<(), NoMemory>
-        ensures { OnOk result (self.new ≡ record self.old { begun = true }) }
+        ensures ok { OnOk result (self.new ≡ record self.old { begun = true }) }
+        ensures err { OnErr result (self.old.events ≡ 0) }
     {
         if self.begun {
             return Ok(());

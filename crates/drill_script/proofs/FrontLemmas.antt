@@ -1,5 +1,5 @@
 -- Lemmas on what stands at the front of the bytes that a reader holds.
-use Rattle.std.proofs.Common.{◌≡◌, ℕ, ◌+◌, ◌<◌, ◌≤◌, Bool, true, false, cond, Option, None, Some, List, [], ◌∷◌, ◌++◌, length, take, drop, sym, ◌∙◌, ap, subst, arith, append_assoc, length-append}
+use Rattle.std.proofs.Common.{◌≡◌, ℕ, zero, suc, ◌⊎◌, inl, inr, refl, ◌+◌, ◌<◌, ◌≤◌, Bool, true, false, cond, Option, None, Some, List, [], ◌∷◌, ◌++◌, length, take, drop, sym, ◌∙◌, ap, subst, arith, append_assoc, length-append}
 use Rattle.std.proofs.lemmas.List.{take-append-drop, take_at, drop_at, length-take-le, take-append-le, take-take, take_all, append-nil}
 use Rattle.std.proofs.Math.Seq.{take-append-add}
 use Rattle.as4_flow.specs.Told.{Told, before}
@@ -8,7 +8,7 @@ use Rattle.drill_script.specs.Fronts.{BeginsLine}
 use Rattle.drill_script.specs.Lacking.{Lacks, parted}
 use Rattle.drill_script.specs.LineText.{line_limit}
 use Rattle.drill_script.specs.Lines.{BeginsLong}
-use Rattle.drill_script.proofs.LackingLemmas.{Lacks_append, Lacks_take, Lacks_nowhere, Lacks_before, parted_at}
+use Rattle.drill_script.proofs.LackingLemmas.{Lacks_append, Lacks_head, Lacks_tail, Lacks_take, Lacks_nowhere, Lacks_before, parted_at}
 
 -- where bytes are parted, the front and the rest are known by their places
 begins_line : (bytes front rest : List ℕ) (at : ℕ) → bytes ≡ parted 10 front rest → length front ≡ at → Lacks 10 front → at ≤ line_limit → BeginsLine bytes at
@@ -64,6 +64,33 @@ front_long bytes rest scanned at is within lacks found long =
 
 pub all_long : (bytes : List ℕ) → Lacks 10 bytes → line_limit < length bytes → BeginsLong bytes
 all_long bytes lacks long = long_front bytes bytes [] (sym (append-nil bytes)) lacks long
+
+-- what has no LF in its front stands before the first one
+pub lacking_front : (n : ℕ) (text more : List ℕ) → Lacks 10 (take n (text ++ 10 ∷ more)) → n ≤ length text
+lacking_front zero text more lacks = omega arith
+lacking_front (suc n) [] more lacks = absurd (Lacks_head 10 10 (take n more) lacks refl)
+lacking_front (suc n) (t ∷ text) more lacks =
+    let rest : n ≤ length text = lacking_front n text more (Lacks_tail 10 t (take n (text ++ 10 ∷ more)) lacks) in
+    omega arith
+
+-- what begins too long begins with no line
+long_no_line : (bytes : List ℕ) (at : ℕ) → BeginsLong bytes → BeginsLine bytes at → ⊥
+unfolding BeginsLong
+long_no_line bytes at long begins =
+    let same = ap (λ (l : List ℕ). take (line_limit + 1) l) begins.parts in
+    let lacks = subst (λ (l : List ℕ). Lacks 10 l) same long.1 in
+    let far = lacking_front (line_limit + 1) (take at bytes) (drop (at + 1) bytes) lacks in
+    omega (arith, far, begins.short, begins.room, length-take-le at bytes (omega arith))
+
+-- what was held at first, if it is held still, or wasn't too long
+pub never_long_line : (old now : List ℕ) (at : ℕ) → (now ≡ old) ⊎ (BeginsLong old → ⊥) → BeginsLine now at → BeginsLong old → ⊥
+never_long_line old now at (inl same) begins long = long_no_line now at (subst BeginsLong (sym same) long) begins
+never_long_line old now at (inr short) begins long = short long
+
+pub never_long_short : (old now : List ℕ) → (now ≡ old) ⊎ (BeginsLong old → ⊥) → Lacks 10 now × (length now ≤ line_limit) → BeginsLong old → ⊥
+unfolding BeginsLong
+never_long_short old now (inl same) short long = omega (arith, ap length same, short.1, long.0)
+never_long_short old now (inr other) short long = other long
 
 -- what is told behind the bytes that a reader holds
 

@@ -1,14 +1,23 @@
 -- Lemmas on the text of a line: its first word, a space, and its tail.
-use Rattle.std.proofs.Common.{◌≡◌, ℕ, ◌==◌, if◌then◌else◌, List, get_or, refl, sym, ◌∙◌, ap}
+use Rattle.std.proofs.Common.{◌≡◌, ℕ, ◌==◌, if◌then◌else◌, List, get_or, refl, sym, ◌∙◌, ap, arith}
+use Rattle.std.specs.List.{Contains}
 use Rattle.drill_script.specs.Lacking.{Lacks, parted}
 use Rattle.drill_script.specs.LineText.{line_text}
-use Rattle.drill_script.specs.LineParts.{Spells, verb_of, verb_text, tail_text}
+use Rattle.drill_script.specs.LineParts.{IsKept, Spells, kept_words, verb_of, verb_text, tail_text}
 use Rattle.drill_script.specs.declared.line.Line.{Line}
 use Rattle.drill_script.specs.declared.line.Line.TheVariants as line
 use Rattle.drill_script.specs.declared.verb.Counted.TheVariants.{Tick, Came, Lost, Read, Confirm, Status}
 use Rattle.drill_script.specs.declared.verb.Verb.{Verb}
 use Rattle.drill_script.specs.declared.verb.Verb.TheVariants.{Mode, Submit, Take, Ask, Count}
 use Rattle.drill_script.proofs.LackingLemmas.{Lacks_tested}
+
+-- a first word behind which bytes are kept is one of those
+pub kept_word : (verb : Verb) → IsKept verb → Contains kept_words (verb_text verb)
+kept_word Mode kept = (0, omega arith, refl)
+kept_word Submit kept = (1, omega arith, refl)
+kept_word Ask kept = (2, omega arith, refl)
+kept_word Take kept = absurd kept
+kept_word (Count counted) kept = absurd kept
 
 pub verb_unspaced : (verb : Verb) → Lacks 32 (verb_text verb)
 verb_unspaced Mode = Lacks_tested 32 _ refl

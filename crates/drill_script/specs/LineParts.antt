@@ -1,6 +1,6 @@
 -- A line by its first word and what stands behind it.
-use Rattle.std.specs.Prelude.{◌≡◌, ℕ, ◌≤◌, Bool, List, IsTrue, codes, drop}
-use Rattle.std.specs.List.{join_with_byte}
+use Rattle.std.specs.Prelude.{◌≡◌, ℕ, ◌≤◌, Bool, List, [], ◌∷◌, IsTrue, codes, drop}
+use Rattle.std.specs.List.{Contains, join_with_byte}
 use Rattle.std.specs.Fmt.{decimal}
 use Rattle.drill_script.specs.Lacking.{spaced}
 use Rattle.drill_script.specs.LineText.{are_bytes, is_line, line_words, way_text, hex_text}
@@ -32,6 +32,22 @@ verb_text Submit = codes "submit"
 verb_text Take = codes "take"
 verb_text Ask = codes "ask"
 verb_text (Count counted) = counted_text counted
+
+-- the first words of lines that have bytes to be kept
+abbrev pub kept_words : List (List ℕ)
+kept_words = codes "mode" ∷ codes "submit" ∷ codes "ask" ∷ []
+
+-- bytes that begin with such a word and a space
+abbrev pub BeginsKept : List ℕ → Type 0
+BeginsKept bytes = (word : List ℕ) × (tail : List ℕ) × Contains kept_words word × (bytes ≡ spaced word tail)
+
+-- a line with this first word has bytes to be kept
+abbrev pub IsKept : Verb → Type 0
+IsKept Mode = Unit {0}
+IsKept Submit = Unit {0}
+IsKept Take = ⊥
+IsKept Ask = Unit {0}
+IsKept (Count counted) = ⊥
 
 -- the line of an end and a number
 abbrev pub counted_line : Counted → EndName → ℕ → Line

@@ -1,6 +1,6 @@
 -- What a reader of lines answers.
-use Rattle.std.specs.Prelude.{ℕ, ◌+◌, ◌<◌, List, length, take}
-use Rattle.drill_script.specs.Lacking.{Lacks}
+use Rattle.std.specs.Prelude.{ℕ, ◌+◌, ◌<◌, ◌≤◌, List, length, take}
+use Rattle.drill_script.specs.Lacking.{Lacks, parted}
 use Rattle.drill_script.specs.LineText.{line_limit}
 use Rattle.drill_script.specs.declared.lines.LineGot.{LineGot}
 use Rattle.drill_script.specs.declared.lines.LineGot.TheVariants.{Line, End, Unended, TooLong, Failed, NoMemory}
@@ -22,6 +22,19 @@ OnNoLine Unended P = P
 OnNoLine TooLong P = P
 OnNoLine Failed P = P
 OnNoLine NoMemory P = P
+
+-- how many bytes a reader reads ahead at most: those of the longest line and of a piece
+abbrev pub ahead_limit : ℕ
+ahead_limit = line_limit + 65536
+
+-- what is held, with the line that came before it, was within this
+abbrev pub IsAhead : LineGot → List ℕ → Type 0
+IsAhead (Line line) held = length (parted 10 line held) ≤ ahead_limit
+IsAhead End held = length held ≤ ahead_limit
+IsAhead Unended held = length held ≤ ahead_limit
+IsAhead TooLong held = length held ≤ ahead_limit
+IsAhead Failed held = length held ≤ ahead_limit
+IsAhead NoMemory held = length held ≤ ahead_limit
 
 -- more bytes than a line may have stand before the first LF
 unfoldable pub BeginsLong : List ℕ → Type 0

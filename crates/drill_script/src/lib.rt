@@ -12,5 +12,6 @@ mod words;
 
 pub use line::{EndName, Line, ScriptLoad, Way};
 pub use lines::{LINE_LIMIT, LineGot, LineReader};
-pub use reading::{line_of, one_line};
+pub use load::MAX_SIZE;
+pub use reading::{MAX_PERIOD, MAX_RETRIES, line_of, one_line};
 pub use words::decimal_of;

@@ -4,7 +4,7 @@
 //!
 //! The buffer has the lines that were given out, and then what the reader holds. Before a read what it
 //! holds moves to the front, so that each byte is moved once and searched for an LF once.
-ghost use Rattle.std.specs.Prelude.{◌≡◌, ℕ, [], ◌+◌, ◌++◌, ◌<◌, ◌≤◌, length, take, drop, IfOk, OnOk};
+ghost use Rattle.std.specs.Prelude.{◌≡◌, ◌≢◌, ℕ, [], ◌+◌, ◌++◌, ◌<◌, ◌≤◌, length, take, drop, IfOk, OnOk};
 ghost use Rattle.std.specs.Result.{OnErr};
 ghost use Rattle.as4_flow.specs.Faults.{Rose};
 ghost use Rattle.as4_flow.specs.Told.{Told, before};
@@ -18,6 +18,8 @@ use std::marker::Model;
 
 /// The most bytes that a line has, without its LF.
 pub const LINE_LIMIT: usize = 1 << 20;
+
+const _: () = prove!(LINE_LIMIT == 1048576);
 
 /// What a reader of lines answers.
 #[derive(Drop)]
@@ -77,7 +79,7 @@ impl Model for LineReader {
 
 impl LineReader {
     ghost use Rattle.drill_script.specs.LineText.{line_limit};
-    ghost use Rattle.drill_script.specs.Lines.{IfLine, OnNoLine, BeginsLong};
+    ghost use Rattle.drill_script.specs.Lines.{IfLine, IsAhead, OnNoLine, BeginsLong, ahead_limit};
     ghost use Rattle.drill_script.specs.Fronts.{Has, MatchFilled};
 
     /// A reader that holds nothing. It takes no memory.
@@ -92,6 +94,7 @@ impl LineReader {
     }
 
     /// The next line of the source. What comes behind the line is held for the next call.
+    #[tactic(auto, using(crate::proofs::FrontLemmas::never_long_line, crate::proofs::FrontLemmas::never_long_short))]
     pub fn next<S: Source>(&mut self, source: &mut S) -> LineGot
         ensures line { IfLine result
             (λ line. before self.old (S.left source.old) ≡ before (parted 10 line self.new) (S.left source.new)) }
@@ -104,9 +107,16 @@ impl LineReader {
         ensures too_long { result ≡ LineGot.TooLong → Told (before self.old (S.left source.old)) BeginsLong }
         ensures failed { result ≡ LineGot.Failed → Rose (S.faults source.old) (S.faults source.new) }
 
+        // What is too long among what is held is told so, and takes no memory.
+        ensures long { BeginsLong self.old → result ≡ LineGot.TooLong }
+
         // Where no line came, nothing is lost.
         ensures kept { OnNoLine result (before self.new (S.left source.new) ≡ before self.old (S.left source.old)) }
         ensures counted { S.faults source.old ≤ S.faults source.new }
+
+        // No fault is read over, and no more is held than a line and a piece have.
+        ensures quiet { result ≢ LineGot.Failed → S.faults source.new ≡ S.faults source.old }
+        ensures ahead { length self.old ≤ ahead_limit → IsAhead result self.new }
     {
         let mut scanned = 0;
         'pieces: loop {
@@ -169,6 +179,8 @@ impl LineReader {
         ensures end { result ≡ Filled.End → Told (S.left source.old) (λ bytes. bytes ≡ []) }
         ensures failed { result ≡ Filled.Failed → Rose (S.faults source.old) (S.faults source.new) }
         ensures counted { S.faults source.old ≤ S.faults source.new }
+        ensures quiet { result ≢ Filled.Failed → S.faults source.new ≡ S.faults source.old }
+        ensures ahead { length self.new ≤ ahead_limit }
     {
         drop_front(&mut self.buffer, self.start);
         self.start = 0;

@@ -12,7 +12,9 @@ use as4_values::NoMemory;
 use std::alloc::Global;
 
 /// How many bytes a load that is told by its size has at most.
-const MAX_SIZE: u64 = 16_777_216;
+pub const MAX_SIZE: u64 = 16_777_216;
+
+const _: () = prove!(MAX_SIZE == 16777216);
 
 /// Reads what a message carries.
 pub(crate) fn load_of(alloc: Global, word: &[u8]) -> Result<Option<ScriptLoad>, NoMemory>

@@ -1,10 +1,11 @@
 //! The bytes that a reader of lines holds, and the pieces that it reads behind them.
-ghost use Rattle.std.specs.Prelude.{◌≡◌, [], ◌+◌, ◌<◌, ◌≤◌, length, take, drop};
+ghost use Rattle.std.specs.Prelude.{◌≡◌, ◌≢◌, [], ◌+◌, ◌<◌, ◌≤◌, length, take, drop};
 ghost use Rattle.as4_flow.specs.Faults.{Rose};
 ghost use Rattle.as4_flow.specs.Told.{Told, before};
 ghost use Rattle.drill_script.specs.Fronts.{Has, MatchFilled};
 ghost use Rattle.drill_script.specs.Lacking.{Lacks};
 ghost use Rattle.drill_script.specs.LineText.{line_limit};
+ghost use Rattle.drill_script.specs.Lines.{ahead_limit};
 
 use crate::lines::{Filled, Front, LINE_LIMIT};
 use as4_flow::{Got, Source};
@@ -12,6 +13,8 @@ use memchr::memchr;
 
 /// The most bytes that one read asks for.
 const PIECE: usize = 1 << 16;
+
+const _: () = prove!(PIECE == 65536);
 
 /// What stands at the front of these bytes, of which this many were searched.
 pub(crate) fn front_of(bytes: &[u8], scanned: usize) -> Front
@@ -50,6 +53,8 @@ pub(crate) fn read_piece<S: Source>(bytes: &mut Vec<u8>, source: &mut S) -> Fill
     ensures end { result ≡ Filled.End → Told (S.left source.old) (λ bytes. bytes ≡ []) }
     ensures failed { result ≡ Filled.Failed → Rose (S.faults source.old) (S.faults source.new) }
     ensures counted { S.faults source.old ≤ S.faults source.new }
+    ensures quiet { result ≢ Filled.Failed → S.faults source.new ≡ S.faults source.old }
+    ensures ahead { length bytes.new.items ≤ ahead_limit }
 {
     let len = bytes.len();
     if bytes.resize(len + PIECE, 0).is_err() {

@@ -1,9 +1,9 @@
 //! A line, read from its bytes.
 //!
 //!     a word, a space, and the rest: the word tells the kind of line, and the kind how the rest is read
-ghost use Rattle.std.specs.Prelude.{◌≡◌, ℕ, ◌≤◌, List, Some, IfOk, IfSome, IsTrue};
+ghost use Rattle.std.specs.Prelude.{◌≡◌, ℕ, ◌≤◌, List, Some, IfOk, IfSome, IsErr, IsTrue};
 ghost use Rattle.drill_script.specs.LineText.{line_text, is_line, end_text};
-ghost use Rattle.drill_script.specs.LineParts.{Spells, settings_text, counted_line, is_counted};
+ghost use Rattle.drill_script.specs.LineParts.{BeginsKept, IsKept, Spells, settings_text, counted_line, is_counted};
 ghost use Rattle.drill_script.specs.declared.line.EndName.{EndName};
 ghost use Rattle.drill_script.specs.declared.line.Line.{Line};
 ghost use Rattle.drill_script.specs.declared.line.Way.{Way};
@@ -17,16 +17,23 @@ use as4_values::{MAX_MOMENT, NoMemory, Octets};
 use std::alloc::Global;
 
 /// How often a message is sent again at most.
-const MAX_RETRIES: u64 = 1_000;
+pub const MAX_RETRIES: u64 = 1_000;
+
+const _: () = prove!(MAX_RETRIES == 1000);
 
 /// The longest period between two sendings, in milliseconds.
-const MAX_PERIOD: u64 = 1_000_000_000;
+pub const MAX_PERIOD: u64 = 1_000_000_000;
+
+const _: () = prove!(MAX_PERIOD == 1000000000);
 
 /// Reads a line, which is given without the LF at its end.
 pub fn line_of(alloc: Global, bytes: &[u8]) -> Result<Option<Line>, NoMemory>
     ensures found { IfOk result (λ read. IfSome read (λ line. (bytes.now ≡ line_text line) × IsTrue (is_line line))) }
     ensures only { (line : Line) → bytes.now ≡ line_text line → IsTrue (is_line line)
         → IfOk result (λ read. read ≡ Some line) }
+
+    // Memory is wanted behind these first words alone.
+    ensures lean { IsErr result → BeginsKept bytes.now }
 {
     let Some((word, tail)) = cut(b' ', bytes) else {
         return Ok(None);
@@ -46,6 +53,7 @@ pub fn one_line()
 fn tail_of(alloc: Global, verb: Verb, tail: &[u8]) -> Result<Option<Line>, NoMemory>
     ensures found { IfOk result (λ read. IfSome read (Spells verb tail.now)) }
     ensures only { (line : Line) → Spells verb tail.now line → IfOk result (λ read. read ≡ Some line) }
+    ensures lean { IsErr result → IsKept verb }
 {
     match verb {
         Verb::Mode => mode_of(alloc, tail),

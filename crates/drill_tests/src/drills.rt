@@ -368,3 +368,66 @@ fn a_generated_world_settles(rt: HostRuntime) {
     assert!(rt; settles(rt.alloc(), 0, ENDS_OF_NOTHING));
     assert!(rt; settles(rt.alloc(), 200, some));
 }
+
+/// A script, which read and which write fail, the first being 1, how the drill ends then, and how many bytes of the
+/// script are left. A read gives seven bytes at most.
+const FAULTS: [(&[u8], u64, u64, DrillEnd, usize); 9] = [
+    (b"take a\ntake a\n", 0, 0, DrillEnd::Read, 0),
+    (b"take a\ntake a\n", 1, 0, DrillEnd::ReadFault, 14),
+    (b"take a\ntake a\n", 2, 0, DrillEnd::ReadFault, 7),
+    (b"take a\ntake a\n", 3, 0, DrillEnd::ReadFault, 0),
+    (b"take a\ntake a\n", 0, 1, DrillEnd::WriteFault, 7),
+    (b"take a\ntake a\n", 0, 2, DrillEnd::WriteFault, 0),
+    (b"take a\ntake a\n", 0, 3, DrillEnd::WriteFault, 0),
+    (b"hop  a\ntake a\n", 2, 2, DrillEnd::Line { number: 1 }, 7),
+    (
+        b"take a\nhop  a\ntake a\n",
+        3,
+        2,
+        DrillEnd::Line { number: 2 },
+        7,
+    ),
+];
+
+/// How the drill of a script ends where these calls fail, and how many bytes of it are left.
+fn ends_with(alloc: Global, script: &[u8], read: u64, write: u64) -> Option<(DrillEnd, usize)> {
+    match (
+        script.to_vec(alloc),
+        vec![in alloc; 7, 7, 7],
+        vec![in alloc; read],
+        vec![in alloc; write],
+    ) {
+        (Ok(bytes), Ok(pieces), Ok(reads), Ok(writes)) => {
+            let mut source = MemorySource::of(bytes, pieces, reads);
+            let mut sink = MemorySink::of(alloc, Vec::new(alloc), writes);
+            let end = drill(alloc, &mut source, &mut sink);
+            let left = source.rest().len();
+            drop(source);
+            drop(sink);
+            Some((end, left))
+        }
+        (bytes, pieces, reads, writes) => {
+            drop(bytes);
+            drop(pieces);
+            drop(reads);
+            drop(writes);
+            None
+        }
+    }
+}
+
+/// The first row that ends otherwise.
+fn first_other_fault(alloc: Global, rows: &[(&[u8], u64, u64, DrillEnd, usize)]) -> Option<usize> {
+    for (row, (script, read, write, end, left)) in rows.iter().enumerate() {
+        if ends_with(alloc, script, *read, *write) != Some((*end, *left)) {
+            return Some(row);
+        }
+    }
+    None
+}
+
+/// No fault is read or written over, and a drill that has ended reads no further.
+#[test]
+fn a_fault_ends_a_drill(rt: HostRuntime) {
+    assert_eq!(rt; first_other_fault(rt.alloc(), &FAULTS), None);
+}

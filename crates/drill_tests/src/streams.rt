@@ -1,5 +1,5 @@
 //! What no clause says: that memory suffices, and that what the system's streams carry arrives.
-ghost use Rattle.std.specs.Prelude.{◌≡◌, IfOk};
+ghost use Rattle.std.specs.Prelude.{◌≡◌, ◌≤◌, IfOk};
 
 use as4_flow::{
     Got, MemorySink, MemorySource, Put, ReadRefusal, ReaderSource, Sink, Source, WriterSink,
@@ -294,4 +294,88 @@ fn an_interrupted_call_is_made_again_and_a_fault_is_told(rt: HostRuntime) {
     let reads = (Got::Gave(1), [0, 7, 7, 7], Got::Failed);
     assert_eq!(rt; halting_reads(rt.alloc()), Some(reads));
     assert_eq!(rt; halting_writes(), (Put::Took(1), Put::Failed));
+}
+
+/// A stream that carries one byte, fails once, and then has so many answers of one byte more before it ends.
+#[derive(Drop)]
+struct Stumbling {
+    calls: u8,
+    more: u8,
+}
+
+impl Stumbling {
+    fn call(&mut self) -> io::Result<usize>
+        ensures { IfOk result (λ n. n ≤ 1) }
+    {
+        self.calls = self.calls.saturating_add(1);
+        if self.calls == 1 {
+            return Ok(1);
+        }
+        if self.calls == 2 {
+            return Err(io::Error::other("a fault"));
+        }
+        if self.more == 0 {
+            return Ok(0);
+        }
+        self.more -= 1;
+        Ok(1)
+    }
+}
+
+impl Read for Stumbling {
+    fn read(&mut self, buf: &mut [u8]) -> io::Result<usize> {
+        if buf.is_empty() { Ok(0) } else { self.call() }
+    }
+}
+
+impl Write for Stumbling {
+    fn write(&mut self, buf: &[u8]) -> io::Result<usize> {
+        if buf.is_empty() { Ok(0) } else { self.call() }
+    }
+
+    fn flush(&mut self) -> io::Result<()> {
+        Ok(())
+    }
+}
+
+/// What three reads of a stream answer that fails once and then ends.
+fn stumbling_reads(alloc: Global) -> Option<(Got, Got, Got)> {
+    let mut source = ReaderSource::of(alloc, Stumbling { calls: 0, more: 0 }).ok()?;
+    let mut room = [7; 4];
+    let first = source.read(&mut room);
+    let second = source.read(&mut room);
+    let third = source.read(&mut room);
+    drop(source);
+    Some((first, second, third))
+}
+
+/// Whether a stream that fails once, and then has so many bytes more, is read to its end, and whether the fault is told.
+fn is_read_over(alloc: Global, more: u8) -> Option<bool> {
+    let mut source = ReaderSource::of(alloc, Stumbling { calls: 0, more }).ok()?;
+    let read = read_all(alloc, &mut source, 100);
+    drop(source);
+    match read {
+        Ok(bytes) => {
+            drop(bytes);
+            Some(true)
+        }
+        Err(refusal) => Some(refusal != ReadRefusal::Failed),
+    }
+}
+
+/// Whether all is sent to a stream that fails once and then takes so many bytes more.
+fn is_sent_over(more: u8) -> bool {
+    let mut sink = WriterSink::of(Stumbling { calls: 0, more });
+    let sent = send_all(&mut sink, b"0123");
+    drop(sink);
+    sent.is_ok()
+}
+
+#[test]
+fn a_stream_that_fails_once_is_not_read_or_written_on(rt: HostRuntime) {
+    let reads = (Got::Gave(1), Got::Failed, Got::End);
+    assert_eq!(rt; stumbling_reads(rt.alloc()), Some(reads));
+    assert_eq!(rt; is_read_over(rt.alloc(), 0), Some(false));
+    assert_eq!(rt; is_read_over(rt.alloc(), 3), Some(false));
+    assert!(rt; !is_sent_over(3));
 }

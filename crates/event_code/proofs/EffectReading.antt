@@ -49,7 +49,7 @@ code_refused bytes rest e refused = record { none = refused_none bytes rest e re
 tick_of : (moment : ℕ) → moment ≤ 253402300799999 → Tick
 tick_of moment dated = record { moment = moment; dated = dated }
 
-tick_told : (a b : Tick) → a.moment ≡ b.moment → a ≡ b
+pub tick_told : (a b : Tick) → a.moment ≡ b.moment → a ≡ b
 unfolding tick_of
 tick_told a b e =
     subst (λ (m : ℕ). (w : m ≤ 253402300799999) → tick_of m w ≡ b) (sym e)

@@ -54,7 +54,7 @@ party_parts p = (p.id, p.kind)
 party_of : Two → Party
 party_of t = record { id = t.0; kind = t.1 }
 
-party_told : (a b : Party) → party_parts a ≡ party_parts b → a ≡ b
+pub party_told : (a b : Party) → party_parts a ≡ party_parts b → a ≡ b
 unfolding party_of
 party_told a b e = ap party_of e
 
@@ -68,7 +68,7 @@ service_parts s = (s.value, s.kind)
 service_of : Two → Service
 service_of t = record { value = t.0; kind = t.1 }
 
-service_told : (a b : Service) → service_parts a ≡ service_parts b → a ≡ b
+pub service_told : (a b : Service) → service_parts a ≡ service_parts b → a ≡ b
 unfolding service_of
 service_told a b e = ap service_of e
 
@@ -82,7 +82,7 @@ agreement_parts a = ((a.value, a.kind), a.pmode)
 agreement_of : Three → Agreement
 agreement_of t = record { value = t.0.0; kind = t.0.1; pmode = t.1 }
 
-agreement_told : (a b : Agreement) → agreement_parts a ≡ agreement_parts b → a ≡ b
+pub agreement_told : (a b : Agreement) → agreement_parts a ≡ agreement_parts b → a ≡ b
 unfolding agreement_of
 agreement_told a b e = ap agreement_of e
 
@@ -96,7 +96,7 @@ property_parts p = ((p.name, p.kind), p.value)
 property_of : Three → Property
 property_of t = record { name = t.0.0; kind = t.0.1; value = t.1 }
 
-property_told : (a b : Property) → property_parts a ≡ property_parts b → a ≡ b
+pub property_told : (a b : Property) → property_parts a ≡ property_parts b → a ≡ b
 unfolding property_of
 property_told a b e = ap property_of e
 
@@ -123,7 +123,7 @@ side_parts s = (s.parties, s.role)
 side_of : (t : Parties) → IsPartyCount t.0 → Side
 side_of t counted = record { parties = t.0; role = t.1; counted = counted }
 
-side_told : (a b : Side) → side_parts a ≡ side_parts b → a ≡ b
+pub side_told : (a b : Side) → side_parts a ≡ side_parts b → a ≡ b
 unfolding side_of
 side_told a b e =
     subst (λ (t : Parties). (w : IsPartyCount t.0) → side_of t w ≡ b) (sym e)
@@ -171,7 +171,7 @@ part_parts p = (p.href, p.properties)
 part_of : (t : Parts) → IsPropertyCount t.1 → PartInfo
 part_of t counted = record { href = t.0; properties = t.1; counted = counted }
 
-part_told : (a b : PartInfo) → part_parts a ≡ part_parts b → a ≡ b
+pub part_told : (a b : PartInfo) → part_parts a ≡ part_parts b → a ≡ b
 unfolding part_of
 part_told a b e =
     subst (λ (t : Parts). (w : IsPropertyCount t.1) → part_of t w ≡ b) (sym e)

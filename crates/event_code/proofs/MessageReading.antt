@@ -125,7 +125,7 @@ whole_of s = record {
 one_whole : (t : Sent) → IsProp (IsWhole t)
 one_whole t = hlevel props
 
-submission_told : (a b : Submission) → submission_parts a ≡ submission_parts b → a ≡ b
+pub submission_told : (a b : Submission) → submission_parts a ≡ submission_parts b → a ≡ b
 unfolding submission_of whole_of
 submission_told a b e =
     subst (λ (t : Sent). (w : IsWhole t) → submission_of t w ≡ b) (sym e)
@@ -198,7 +198,7 @@ whole_came d = record { paired = d.paired; fits = d.fits }
 one_came : (t : Came) → IsProp (IsWholeCame t)
 one_came t = hlevel props
 
-delivery_told : (a b : Delivery) → delivery_parts a ≡ delivery_parts b → a ≡ b
+pub delivery_told : (a b : Delivery) → delivery_parts a ≡ delivery_parts b → a ≡ b
 unfolding delivery_of whole_came
 delivery_told a b e =
     subst (λ (t : Came). (w : IsWholeCame t) → delivery_of t w ≡ b) (sym e)

@@ -50,7 +50,7 @@ named_of p = (p.named, p.typed)
 one_name : (t : Three) → IsProp (IsNamedThree t)
 one_name t = hlevel props
 
-payload_told : (a b : Payload) → payload_parts a ≡ payload_parts b → a ≡ b
+pub payload_told : (a b : Payload) → payload_parts a ≡ payload_parts b → a ≡ b
 unfolding payload_of named_of
 payload_told a b e =
     subst (λ (t : Three). (is : IsNamedThree t) → payload_of t is ≡ b) (sym e)

@@ -123,7 +123,7 @@ counted_of h = (h.properties_counted, h.parts_counted)
 one_count : (w : Whole) → IsProp (IsCountedWhole w)
 one_count w = hlevel props
 
-header_told : (a b : UserHeader) → header_parts a ≡ header_parts b → a ≡ b
+pub header_told : (a b : UserHeader) → header_parts a ≡ header_parts b → a ≡ b
 unfolding header_of counted_of
 header_told a b e =
     subst (λ (w : Whole). (c : IsCountedWhole w) → header_of w c ≡ b) (sym e)

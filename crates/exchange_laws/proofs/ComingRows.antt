@@ -2,8 +2,10 @@
 use Rattle.std.proofs.Common.{◌≡◌, ℕ, ◌⊎◌, List, [], ◌∷◌, ◌++◌, true, false, Option, Some, None, map, inl, inr, refl, sym, ap, ◌∙◌, subst}
 use Rattle.std.specs.List.{filter_map}
 use Rattle.std.specs.Option.{option_map, option_and_then}
+use Rattle.as4_effects.specs.declared.effect.Effect.{Effect}
 use Rattle.as4_effects.specs.declared.effect.Effect.TheVariants as effect
 use Rattle.as4_effects.specs.declared.queue.Queue.TheVariants as queue
+use Rattle.as4_effects.specs.declared.submission.Submission.{Submission}
 use Rattle.as4_values.specs.ModeMatch.{mode_of, channel_mode}
 use Rattle.as4_values.specs.declared.header.UserHeader.{UserHeader}
 use Rattle.as4_values.specs.declared.message.Message.{Message}
@@ -14,7 +16,7 @@ use Rattle.as4_values.specs.declared.signal.Signal.{Signal}
 use Rattle.as4_values.specs.declared.signal_body.ErrorItem.{ErrorItem}
 use Rattle.as4_values.specs.declared.signal_body.SignalBody.{SignalBody}
 use Rattle.as4_values.specs.declared.signal_body.SignalBody.TheVariants as body
-use Rattle.exchange_model.specs.Apply.{after, after_all}
+use Rattle.exchange_model.specs.Apply.{after, after_all, changed, marked}
 use Rattle.exchange_model.specs.End.{End}
 use Rattle.exchange_model.specs.ErrorCodes.{ErrorRow, error_row, error_item}
 use Rattle.exchange_model.specs.Numbered.{AreNumberedFrom}
@@ -25,6 +27,7 @@ use Rattle.exchange_model.specs.declared.event.Event.{Event}
 use Rattle.exchange_model.specs.declared.inbox_entry.InboxEntry.{InboxEntry}
 use Rattle.exchange_model.specs.declared.outcome.Outcome.{Outcome}
 use Rattle.exchange_model.specs.declared.reply.Reply.TheVariants as reply
+use Rattle.exchange_model.specs.declared.sent.Mark.TheVariants as mark
 use Rattle.exchange_model.specs.declared.sent.Sent.{Sent}
 use Rattle.exchange_model.specs.declared.what.What.{What}
 use Rattle.exchange_model.specs.declared.what.What.TheVariants.{Came}
@@ -32,10 +35,12 @@ use Rattle.exchange_model.proofs.FoundLemmas.{sent_of_has}
 use Rattle.exchange_model.proofs.ListLemmas.{Has}
 use Rattle.exchange_laws.proofs.ListLemmas.{had_mapped, had_right}
 use Rattle.exchange_laws.proofs.SentSteps.{Receipts, sent_stays, sent_then}
-use Rattle.exchange_laws.proofs.SentChanges.{NoneReceipted, none_by_refusal, sent_receipted, sent_refused}
-use Rattle.exchange_laws.proofs.RefusalLemmas.{refusals_spare}
+use Rattle.exchange_laws.proofs.SentSteps.{Fails}
+use Rattle.exchange_laws.proofs.SentChanges.{IsPendingNumber, pending_behind, sent_receipted, sent_refused}
+use Rattle.exchange_laws.proofs.RefusalLemmas.{AreApart, once_apart, refusals_pend, refusals_fail}
 use Rattle.exchange_laws.proofs.InboxLemmas.{ids, id_of, known_has}
 use Rattle.exchange_laws.proofs.InboxSteps.{inbox_stays, inbox_push}
+use Rattle.exchange_laws.proofs.TriesSteps.{TriesStay, tries_quiet, stay_same, stay_marked, stay_then}
 use Rattle.exchange_laws.proofs.EndSteps.{BacksSignal, EndGoes, goes_by, rests, rests_silent, by_option, by_bool}
 use Rattle.exchange_laws.proofs.OwnRows.{Goes, says_one, hands_out}
 
@@ -51,7 +56,7 @@ errs : (what : What) (code : ℕ) (about : List ℕ) (end : End) (event : Event)
     → Errs code about event outcome
     → Goes what end outcome
 errs what code about end event outcome numbered h =
-    rests what _ end outcome numbered h.2
+    rests what _ end outcome numbered h.2 (λ id. refl)
     (says_one end.sent end.inbox (message.Signal h.0) (errors_back end.inbox h.0.ref_to (Some about) h.0.body (error_row code) h.1.tells))
 
 -- a receipt stands by the message that came
@@ -75,7 +80,7 @@ user_comes modes end event header payloads outcome numbered h =
 
     known : is_known header.id end.inbox ≡ true → Answers header [] event outcome → Goes what end outcome
     known there a =
-        rests what _ end outcome numbered a.2
+        rests what _ end outcome numbered a.2 (λ id. refl)
         (says_one end.sent end.inbox (message.Signal a.0)
         (receipt_backs end.inbox header a.0 a.1.refers a.1.copies (known_has header.id end.inbox there)))
 
@@ -93,6 +98,7 @@ user_comes modes end event header payloads outcome numbered h =
           inbox = inbox_push what end.inbox end.confirmed entry new came;
           says = says_one end.sent (end.inbox ++ entry ∷ []) (message.Signal d.3.0)
               (receipt_backs (end.inbox ++ entry ∷ []) header d.3.0 d.3.1.refers d.3.1.copies there);
+          tries = tries_quiet _ end.sent _ (λ id. refl) (stay_same end.sent);
         })
 
 -- a pull request
@@ -126,11 +132,12 @@ receipt_comes signal copy end event outcome receipt numbered h =
     settles : (s : Sent) → Has end.sent s → Receipts what s.submission → Settles s outcome → Goes what end outcome
     settles s there r k =
         by_bool _ _ _ (is_pending s) k
-        (λ _ g. goes_by what reply.Quiet (effect.Receipted s.submission.number ∷ []) end outcome g
+        (λ pending g. goes_by what reply.Quiet (effect.Receipted s.submission.number ∷ []) end outcome g
         (record {
-          sent = sent_receipted what end.sent s numbered there r;
+          sent = sent_receipted what end.sent s numbered there pending r;
           inbox = inbox_stays what end.inbox end.confirmed;
           says = λ m none. absurd none;
+          tries = tries_quiet [] end.sent _ (λ id. refl) (stay_marked end.sent s.submission.number mark.Receipted);
         }))
         (λ _. rests_silent what reply.Quiet end outcome refl numbered)
 
@@ -145,27 +152,62 @@ receipt_comes signal copy end event outcome receipt numbered h =
         record { signal = signal; copy = copy; came = refl; receipt = receipt; names = r.1 ∙ ap Some (sym there.1); same = own.0 } in
         settles s there.0 brought own.1
 
--- the refusals, one after another, where none names a receipted submission
-refuses : (what : What) (refusals : List Refusal) (end : End) → AreNumberedFrom 0 end.sent
-    → ((refusal : Refusal) → Has refusals refusal → NoneReceipted refusal.number end.sent)
-    → EndGoes what reply.Quiet end (after_all (map (λ (refusal : Refusal). effect.Refused refusal.number refusal.code) refusals) end)
+-- the effects of refusals
+abbrev refused : List Refusal → List Effect
+refused refusals = map (λ (refusal : Refusal). effect.Refused refusal.number refusal.code) refusals
+
+-- refusals are no tries
+refused_stay : (refusals : List Refusal) (end : End) → TriesStay end.sent (after_all (refused refusals) end).sent
 unfolding after
-refuses what [] end numbered spare =
-    record { sent = sent_stays what end.sent numbered; inbox = inbox_stays what end.inbox end.confirmed; says = λ m none. absurd none }
-refuses what (refusal ∷ refusals) end numbered spare =
-    let first = sent_refused what end.sent refusal.number refusal.code numbered (spare refusal (inl refl)) in
-    let rest = refuses what refusals (after (effect.Refused refusal.number refusal.code) end) first.numbered
-    (λ later h. none_by_refusal end.sent later.number refusal.number refusal.code (spare later (inr h))) in
-    record { sent = sent_then what _ _ _ first rest.sent; inbox = rest.inbox; says = λ m none. absurd none }
+refused_stay [] end = stay_same end.sent
+refused_stay (refusal ∷ refusals) end =
+    stay_then end.sent _ _ (stay_marked end.sent refusal.number (mark.Refused refusal.code))
+    (refused_stay refusals (after (effect.Refused refusal.number refusal.code) end))
+
+-- a failure is about each submission that is refused
+abbrev AreFailures : What → List Refusal → List Sent → Type 0
+AreFailures what refusals sent = (refusal : Refusal) → Has refusals refusal
+    → (s : Sent) → Has sent s → s.submission.number ≡ refusal.number → Fails what s.submission refusal.code
+
+-- the same behind a refusal
+failures_behind : (what : What) (refusal : Refusal) (refusals : List Refusal) (sent : List Sent) → AreFailures what refusals sent
+    → AreFailures what refusals (changed refusal.number (marked (mark.Refused refusal.code)) sent)
+failures_behind what refusal refusals sent fail later h t there number =
+    let s = stay_marked sent refusal.number (mark.Refused refusal.code) t there in
+    subst (λ (u : Submission). Fails what u later.code) s.2 (fail later h s.0 s.1 (ap (λ (u : Submission). u.number) s.2 ∙ number))
+
+-- the refusals, one after another, where each is of a pending submission
+refuses : (what : What) (refusals : List Refusal) (end : End) → AreNumberedFrom 0 end.sent → AreApart refusals
+    → ((refusal : Refusal) → Has refusals refusal → IsPendingNumber refusal.number end.sent) → AreFailures what refusals end.sent
+    → EndGoes what reply.Quiet end (after_all (refused refusals) end)
+unfolding after
+refuses what [] end numbered apart pend fail =
+    record {
+      sent = sent_stays what end.sent numbered;
+      inbox = inbox_stays what end.inbox end.confirmed;
+      says = λ m none. absurd none;
+      tries = tries_quiet [] end.sent end.sent (λ id. refl) (stay_same end.sent);
+    }
+refuses what (refusal ∷ refusals) end numbered apart pend fail =
+    let first = sent_refused what end.sent refusal.number refusal.code numbered (pend refusal (inl refl)) (fail refusal (inl refl)) in
+    let rest = refuses what refusals (after (effect.Refused refusal.number refusal.code) end) first.numbered apart.1
+    (λ later h. pending_behind end.sent later.number refusal.number refusal.code (apart.0 later h) (pend later (inr h)))
+    (failures_behind what refusal refusals end.sent (λ later h. fail later (inr h))) in
+    record {
+      sent = sent_then what _ _ _ first rest.sent;
+      inbox = rest.inbox;
+      says = λ m none. absurd none;
+      tries = tries_quiet [] end.sent _ (λ id. refl) (refused_stay (refusal ∷ refusals) end);
+    }
 
 -- errors
-errors_come : (what : What) (items : List ErrorItem) (ref_to : Option (List ℕ)) (end : End) (outcome : Outcome)
+errors_come : (signal : Signal) (items : List ErrorItem) (end : End) (outcome : Outcome) → signal.body ≡ body.Errors items
     → AreNumberedFrom 0 end.sent
-    → outcome ≡ record { effects = refusals_of ref_to end.sent items; reply = reply.Quiet } → Goes what end outcome
+    → outcome ≡ record { effects = refusals_of signal.ref_to end.sent items; reply = reply.Quiet } → Goes (Came (message.Signal signal)) end outcome
 unfolding refusals_of
-errors_come what items ref_to end outcome numbered h = goes_by what reply.Quiet _ end outcome h
-    (refuses what (once (filter_map (refusal_of ref_to end.sent) items)) end numbered
-    (refusals_spare end.sent ref_to items numbered))
+errors_come signal items end outcome errors numbered h = goes_by (Came (message.Signal signal)) reply.Quiet _ end outcome h
+    (refuses (Came (message.Signal signal)) (once (filter_map (refusal_of signal.ref_to end.sent) items)) end numbered (once_apart _)
+    (refusals_pend end.sent signal.ref_to items numbered) (refusals_fail end.sent signal items numbered errors))
 
 -- a signal, by what it holds
 signal_comes : (modes : List Mode) (end : End) (event : Event) (signal : Signal) (b : SignalBody) (outcome : Outcome)
@@ -175,7 +217,7 @@ signal_comes modes end event signal (body.Pull mpc) outcome e numbered h =
     pull_comes (Came (message.Signal signal)) modes end event signal.id mpc outcome numbered h
 signal_comes modes end event signal (body.Receipt copy) outcome e numbered h = receipt_comes signal copy end event outcome e numbered h
 signal_comes modes end event signal (body.Errors items) outcome e numbered h =
-    errors_come (Came (message.Signal signal)) items signal.ref_to end outcome numbered h
+    errors_come signal items end outcome e numbered h
 
 -- what comes
 pub comes : (modes : List Mode) (end : End) (event : Event) (m : Message) (outcome : Outcome) → AreNumberedFrom 0 end.sent

@@ -21,6 +21,7 @@ use Rattle.exchange_model.proofs.ListLemmas.{Has}
 use Rattle.exchange_laws.proofs.SentSteps.{SentGoes, sent_stays}
 use Rattle.exchange_laws.proofs.InboxLemmas.{ids}
 use Rattle.exchange_laws.proofs.InboxSteps.{InboxGoes, inbox_stays}
+use Rattle.exchange_laws.proofs.TriesSteps.{IsQuiet, TriesGo, quiet_none, tries_quiet, stay_same}
 
 -- a receipt is of a message that came
 abbrev pub BacksSignal : List InboxEntry → Option (List ℕ) → SignalBody → Type 0
@@ -39,13 +40,14 @@ pub record EndGoes (what : What) (reply : Reply) (old new : End) : Type 0 where
   pub sent : SentGoes what old.sent new.sent
   pub inbox : InboxGoes what old.inbox old.confirmed new.inbox new.confirmed
   pub says : (m : Message) → Has (sends reply) m → Backs new.sent new.inbox m
+  pub tries : TriesGo (sends reply) old.sent new.sent
 
 -- the record of the effects makes the journal longer, and no more
 goes_applied : (what : What) (r : Reply) (effects : List Effect) (end : End) → EndGoes what r end (after_all effects end)
     → EndGoes what r end (applied effects end)
 unfolding applied
 goes_applied what r [] end g = g
-goes_applied what r (e ∷ effects) end g = record { sent = g.sent; inbox = g.inbox; says = g.says }
+goes_applied what r (e ∷ effects) end g = record { sent = g.sent; inbox = g.inbox; says = g.says; tries = g.tries }
 
 -- by what the outcome is
 pub goes_by : (what : What) (r : Reply) (effects : List Effect) (end : End) (outcome : Outcome)
@@ -56,13 +58,14 @@ goes_by what r effects end outcome e g =
 
 -- nothing changes
 pub rests : (what : What) (r : Reply) (end : End) (outcome : Outcome) → AreNumberedFrom 0 end.sent → Rests r outcome
-    → ((m : Message) → Has (sends r) m → Backs end.sent end.inbox m)
+    → IsQuiet (sends r) → ((m : Message) → Has (sends r) m → Backs end.sent end.inbox m)
     → EndGoes what outcome.reply end (applied outcome.effects end)
-rests what r end outcome numbered e says =
+rests what r end outcome numbered e quiet says =
     goes_by what r [] end outcome e (record {
       sent = sent_stays what end.sent numbered;
       inbox = inbox_stays what end.inbox end.confirmed;
       says = says;
+      tries = tries_quiet (sends r) end.sent end.sent quiet (stay_same end.sent);
     })
 
 -- nothing changes, and no message is sent
@@ -70,7 +73,7 @@ pub rests_silent : (what : What) (r : Reply) (end : End) (outcome : Outcome) →
     → Rests r outcome
     → EndGoes what outcome.reply end (applied outcome.effects end)
 rests_silent what r end outcome silent numbered e =
-    rests what r end outcome numbered e (λ m h. absurd (subst (λ (ms : List Message). Has ms m) silent h))
+    rests what r end outcome numbered e (quiet_none (sends r) silent) (λ m h. absurd (subst (λ (ms : List Message). Has ms m) silent h))
 
 -- the cases of a match
 pub by_option : {X : Type 0} (P : Type 0) (Q : X → Type 0) (R : Type 0) (o : Option X) → MatchOption o P Q

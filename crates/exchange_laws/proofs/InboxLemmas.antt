@@ -42,7 +42,7 @@ all_apart (x ∷ xs) apart zero (suc j) d below within =
     λ e. apart.0 (subst (Has xs) (sym e) (has_contained xs (get_or xs j d) (Contains-get_or xs j d (omega arith))))
 all_apart (x ∷ xs) apart (suc i) (suc j) d below within = all_apart xs apart.1 i j d (omega arith) (omega arith)
 
-or_either : (a b : Bool) → (a || b) ≡ true → (a ≡ true) ⊎ (b ≡ true)
+pub or_either : (a b : Bool) → (a || b) ≡ true → (a ≡ true) ⊎ (b ≡ true)
 or_either true b h = inl refl
 or_either false b h = inr h
 

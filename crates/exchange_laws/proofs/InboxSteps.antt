@@ -9,7 +9,7 @@ use Rattle.exchange_model.specs.declared.inbox_entry.InboxEntry.{InboxEntry}
 use Rattle.exchange_model.specs.declared.what.What.{What}
 use Rattle.exchange_model.specs.declared.what.What.TheVariants.{Came}
 use Rattle.exchange_model.proofs.ListLemmas.{Has}
-use Rattle.exchange_laws.proofs.ListLemmas.{had_left}
+use Rattle.exchange_laws.proofs.ListLemmas.{had_left, got_left}
 use Rattle.exchange_laws.proofs.InboxLemmas.{id_of, ids, Apart, apart_push, unknown_new}
 
 -- an entry that stood at this place before; where its payloads still are to stand, they stood before too
@@ -20,12 +20,21 @@ pub record Stood (old : List InboxEntry) (confirmed : ℕ) (n : ℕ) (entry : In
   pub payloads : is_kept → entry.payloads ≡ before.payloads
   pub unconfirmed : is_kept → confirmed ≤ n
 
+-- an entry that stands at this place later; where its payloads still are to stand, they do
+pub record Stays (new : List InboxEntry) (n : ℕ) (entry : InboxEntry) (is_kept : Type 0) : Type 0 where
+  pub later : InboxEntry
+  pub there : slice_get new n ≡ Some later
+  pub header : later.header ≡ entry.header
+  pub payloads : is_kept → later.payloads ≡ entry.payloads
+
 -- from before an event to after it, with the counts of those that are confirmed
 pub record InboxGoes (what : What) (old : List InboxEntry) (before : ℕ) (new : List InboxEntry) (after : ℕ) : Type 0 where
   pub apart : Apart (ids old) → Apart (ids new)
   pub known : (id : List ℕ) → Has (ids old) id → Has (ids new) id
   pub entries : (n : ℕ) (entry : InboxEntry) → slice_get new n ≡ Some entry
       → Stood old before n entry (after ≤ n) ⊎ (what ≡ Came (message.User entry.header entry.payloads))
+  pub stays : (n : ℕ) (entry : InboxEntry) → slice_get old n ≡ Some entry → Stays new n entry (after ≤ n)
+  pub grows : before ≤ after
 
 -- nothing changes
 pub inbox_stays : (what : What) (inbox : List InboxEntry) (confirmed : ℕ) → InboxGoes what inbox confirmed inbox confirmed
@@ -33,6 +42,8 @@ inbox_stays what inbox confirmed = record {
   apart = λ apart. apart;
   known = λ id h. h;
   entries = λ n entry at. inl (record { before = entry; there = at; header = refl; payloads = λ k. refl; unconfirmed = λ k. k });
+  stays = λ n entry at. record { later = entry; there = at; header = refl; payloads = λ k. refl };
+  grows = omega arith;
 }
 
 -- an entry of a longer inbox is an old one or the new one
@@ -51,6 +62,8 @@ inbox_push what inbox confirmed entry unknown came = record {
   apart = λ apart. subst Apart (sym pushed) (apart_push (ids inbox) entry.header.id apart (unknown_new entry.header.id inbox unknown));
   known = λ id h. subst (λ (xs : List (List ℕ)). Has xs id) (sym pushed) (had_left (ids inbox) (entry.header.id ∷ []) id h);
   entries = λ n x at. entries_by n x (got_either inbox entry n x at);
+  stays = λ n x at. record { later = x; there = got_left inbox (entry ∷ []) n x at; header = refl; payloads = λ k. refl };
+  grows = omega arith;
 }
   where
     pushed : ids (inbox ++ entry ∷ []) ≡ ids inbox ++ entry.header.id ∷ []
@@ -81,6 +94,18 @@ got_emptied (suc count) (e ∷ es) zero x at =
 got_emptied (suc count) (e ∷ es) (suc n) x at =
     let h = got_emptied count es n x at in (h.0, h.1, h.2, λ k. h.3 (omega arith))
 
+-- an entry that was there is left, and has its payloads where it is not emptied
+emptied_got : (count : ℕ) (inbox : List InboxEntry) (n : ℕ) (x : InboxEntry) → slice_get inbox n ≡ Some x
+    → Stays (map stripped (take count inbox) ++ drop count inbox) n x (count ≤ n)
+emptied_got zero inbox n x at = record { later = x; there = at; header = refl; payloads = λ k. refl }
+emptied_got (suc count) [] n x at = absurd cc
+emptied_got (suc count) (e ∷ es) zero x at =
+    let same : e ≡ x = cc in
+    record { later = stripped e; there = refl; header = ap (λ (y : InboxEntry). y.header) same; payloads = λ k. absurd (omega arith) }
+emptied_got (suc count) (e ∷ es) (suc n) x at =
+    let h = emptied_got count es n x at in
+    record { later = h.later; there = h.there; header = h.header; payloads = λ k. h.payloads (omega arith) }
+
 -- the consumer took over more
 pub inbox_emptied : (what : What) (inbox : List InboxEntry) (confirmed count : ℕ) → confirmed ≤ count
     → InboxGoes what inbox confirmed (emptied count inbox) count
@@ -90,4 +115,6 @@ inbox_emptied what inbox confirmed count more = record {
   known = λ id h. subst (λ (xs : List (List ℕ)). Has xs id) (sym (ids_emptied count inbox)) h;
   entries = λ n x at. let h = got_emptied count inbox n x at in
       inl (record { before = h.0; there = h.1; header = h.2; payloads = h.3; unconfirmed = λ k. omega arith });
+  stays = emptied_got count inbox;
+  grows = more;
 }

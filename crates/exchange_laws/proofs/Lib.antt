@@ -1,11 +1,16 @@
+pub mod Accounts
 pub mod AloneLemmas
+pub mod AskedLemmas
 pub mod ComingRows
+pub mod EffectLemmas
 pub mod EndSteps
 pub mod InboxLemmas
 pub mod InboxSteps
+pub mod OutcomeKinds
 pub mod ListLemmas
 pub mod OwnRows
 pub mod RefusalLemmas
+pub mod RoomLemmas
 pub mod RoundLemmas
 pub mod Rounds
 pub mod SendsLemmas
@@ -13,5 +18,10 @@ pub mod SentChanges
 pub mod SentLemmas
 pub mod SentSteps
 pub mod SettleLemmas
+pub mod SideLemmas
+pub mod StayLemmas
 pub mod StepLemmas
+pub mod TimesLemmas
+pub mod ToldLemmas
+pub mod TriesSteps
 pub mod WorldLemmas

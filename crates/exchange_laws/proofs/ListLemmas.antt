@@ -26,6 +26,24 @@ has_got [] n x e = absurd cc
 has_got (y ∷ ys) zero x e = inl cc
 has_got (y ∷ ys) (suc n) x e = inr (has_got ys n x e)
 
+-- the item at a place is there in a longer list
+pub got_left : {X : Type 0} (xs ys : List X) (n : ℕ) (x : X) → slice_get xs n ≡ Some x → slice_get (xs ++ ys) n ≡ Some x
+got_left [] ys n x e = absurd cc
+got_left (y ∷ xs) ys zero x e = e
+got_left (y ∷ xs) ys (suc n) x e = got_left xs ys n x e
+
+-- the last of a longer list is there
+pub got_last : {X : Type 0} (xs : List X) (x : X) → slice_get (xs ++ x ∷ []) (length xs) ≡ Some x
+got_last [] x = refl
+got_last (y ∷ xs) x = got_last xs x
+
+-- and mapped in the mapped one
+pub got_mapped : {X Y : Type 0} (f : X → Y) (xs : List X) (n : ℕ) (x : X) → slice_get xs n ≡ Some x
+    → slice_get (map f xs) n ≡ Some (f x)
+got_mapped f [] n x e = absurd cc
+got_mapped f (y ∷ xs) zero x e = let same : y ≡ x = cc in ap (λ z. Some (f z)) same
+got_mapped f (y ∷ xs) (suc n) x e = got_mapped f xs n x e
+
 -- in lists that are joined
 pub had_left : {X : Type 0} (xs ys : List X) (x : X) → Has xs x → Has (xs ++ ys) x
 had_left [] ys x h = absurd h

@@ -28,11 +28,13 @@ use Rattle.exchange_model.specs.declared.sent.Mark.{Mark}
 use Rattle.exchange_model.specs.declared.sent.Mark.TheVariants as mark
 use Rattle.exchange_model.specs.declared.sent.Sent.{Sent}
 use Rattle.exchange_model.specs.declared.what.What.{What}
+use Rattle.exchange_model.specs.declared.what.What.TheVariants.{Tick}
 use Rattle.exchange_model.proofs.FoundLemmas.{head_has}
 use Rattle.exchange_model.proofs.ListLemmas.{Has}
 use Rattle.exchange_laws.proofs.SentSteps.{sent_stays, sent_push}
 use Rattle.exchange_laws.proofs.SentChanges.{sent_ticked, sent_tried}
 use Rattle.exchange_laws.proofs.InboxSteps.{inbox_stays, inbox_emptied}
+use Rattle.exchange_laws.proofs.TriesSteps.{tries_quiet, stay_same, stay_ticked, tries_push, tries_tried}
 use Rattle.exchange_laws.proofs.EndSteps.{Backs, BacksSignal, EndGoes, goes_by, rests, rests_silent, by_option, by_bool}
 
 -- what the event leads to
@@ -62,19 +64,21 @@ submits what modes end event name conversation loads outcome numbered h =
           sent = sent_push what end.sent t.0 numbered t.1.numbered;
           inbox = inbox_stays what end.inbox end.confirmed;
           says = λ m none. absurd none;
+          tries = tries_push [] end.sent t.0 refl t.1.numbered;
         })
 
 -- Tick
-pub ticks : (what : What) (end : End) (event : Event) (outcome : Outcome) → AreNumberedFrom 0 end.sent → Ticks end event outcome
-    → Goes what end outcome
+pub ticks : (end : End) (event : Event) (outcome : Outcome) → AreNumberedFrom 0 end.sent → Ticks end event outcome
+    → Goes Tick end outcome
 unfolding Ticks after
-ticks what end event outcome numbered h =
-    by_bool _ _ _ (nat_le event.stamp end.moment) h (λ _. rests_silent what (reply.Ticked 0) end outcome refl numbered) (λ _ t.
-    goes_by what _ (effect.Ticked t.0 ∷ []) end outcome t.2
+ticks end event outcome numbered h =
+    by_bool _ _ _ (nat_le event.stamp end.moment) h (λ _. rests_silent Tick (reply.Ticked 0) end outcome refl numbered) (λ _ t.
+    goes_by Tick _ (effect.Ticked t.0 ∷ []) end outcome t.2
     (record {
-      sent = sent_ticked what end.sent t.0.moment numbered;
-      inbox = inbox_stays what end.inbox end.confirmed;
+      sent = sent_ticked end.sent t.0.moment numbered;
+      inbox = inbox_stays Tick end.inbox end.confirmed;
       says = λ m none. absurd none;
+      tries = tries_quiet [] end.sent _ (λ id. refl) (stay_ticked end.sent t.0.moment);
     }))
 
 -- a head is handed out
@@ -92,6 +96,7 @@ hands_out what q end s r outcome numbered head says h =
       inbox = inbox_stays what end.inbox end.confirmed;
       says = λ m k. says_one _ end.inbox (message_of s.submission)
           (t.0, t.1, ap (λ u. u.header) t.2, ap (λ u. u.payloads) t.2) m (subst (λ (ms : List Message). Has ms m) says k);
+      tries = tries_tried (sends r) end.sent s end.moment numbered there.0 says;
     })
 
 -- Take
@@ -111,7 +116,7 @@ asks what modes end event name outcome numbered h =
     asked : (r : Route) → AsksBy r event outcome → Goes what end outcome
     asked (route.Push address) k = rests_silent what reply.NoMode end outcome refl numbered k
     asked (route.Pull mpc address) k =
-        rests what (reply.Request address (message.Signal k.0)) end outcome numbered k.2
+        rests what (reply.Request address (message.Signal k.0)) end outcome numbered k.2 (λ id. refl)
         (says_one end.sent end.inbox (message.Signal k.0) (subst (BacksSignal end.inbox k.0.ref_to) (sym k.1.asks) tt))
 
 -- the answer to a question about an entry sends nothing
@@ -147,6 +152,7 @@ confirms what end upto outcome numbered h =
       sent = sent_stays what end.sent numbered;
       inbox = inbox_emptied what end.inbox end.confirmed (upto + 1) (at_least upto end.confirmed below);
       says = λ m none. absurd none;
+      tries = tries_quiet [] end.sent _ (λ id. refl) (stay_same end.sent);
     })))
 
 -- the answer to a question about a submission sends nothing

@@ -1,153 +1,189 @@
 -- A round of three acts, between the parties at either side.
-use Rattle.std.proofs.Common.{◌≡◌, List, [], ◌∷◌, ◌++◌, false, Some, refl, sym, ap, ◌∙◌, subst}
-use Rattle.std.specs.Prelude.{IsSome}
+use Rattle.std.proofs.Common.{◌≡◌, ℕ, suc, inl, inr, List, [], ◌∷◌, ◌++◌, Bool, true, false, Some, refl, sym, ap, ◌∙◌, subst}
+use Rattle.std.specs.Prelude.{if◌then◌else◌, slice_get}
 use Rattle.std.specs.List.{Contains}
 use Rattle.as4_effects.specs.declared.submission.Submission.{Submission}
-use Rattle.as4_values.specs.ModeMatch.{mode_of}
+use Rattle.as4_values.specs.declared.header.UserHeader.{UserHeader}
 use Rattle.as4_values.specs.declared.message.Message.{Message}
 use Rattle.as4_values.specs.declared.message.Message.TheVariants as message
 use Rattle.as4_values.specs.declared.signal.Signal.{Signal}
 use Rattle.as4_values.specs.declared.signal_body.SignalBody.TheVariants as body
 use Rattle.exchange_model.specs.End.{End}
-use Rattle.exchange_model.specs.LosslessRound.{IsFull, IsAskedFor, IsRound, IsSettled, party_at, across}
+use Rattle.exchange_model.specs.LosslessRound.{IsNext, IsAskedFor, IsBroughtOver, IsSettled, SendsOne, StandsIn, ThirdSettles, SecondSettles, ARoundSettles, behind_act}
+use Rattle.exchange_model.specs.Numbered.{AreNumberedFrom}
 use Rattle.exchange_model.specs.Questions.{is_known, sent_of}
-use Rattle.exchange_model.specs.Table.{message_of}
-use Rattle.exchange_model.specs.World.{Act, Party, World, Side, Left, Right, sends, MayAct, acted, MayHappenAt, world_at, MayHappen, world_after}
+use Rattle.exchange_model.specs.Table.{IsOther, message_of}
+use Rattle.exchange_model.specs.World.{Act, Party, World, Side, Left, Right, sends, MayAct, MayHappenAt, acted, across, party_at, world_at}
 use Rattle.exchange_model.specs.declared.inbox_entry.InboxEntry.{InboxEntry}
-use Rattle.exchange_model.specs.declared.reply.Reply.{Reply}
-use Rattle.exchange_model.specs.declared.reply.Reply.TheVariants as reply
 use Rattle.exchange_model.specs.declared.sent.Mark.TheVariants as mark
 use Rattle.exchange_model.specs.declared.sent.Sent.{Sent}
-use Rattle.exchange_model.specs.declared.what.What.TheVariants as what
 use Rattle.exchange_model.proofs.ListLemmas.{Has}
-use Rattle.exchange_laws.proofs.ListLemmas.{contains_had}
-use Rattle.exchange_laws.proofs.SentLemmas.{sent_of_own}
-use Rattle.exchange_laws.proofs.RoundLemmas.{IsPendingAt, out_pends, IsDelivered, over_delivers, back_settles}
-use Rattle.exchange_laws.proofs.WorldLemmas.{PartyHolds, party_acts, WorldHolds}
+use Rattle.exchange_model.proofs.NumberedLemmas.{one_number}
+use Rattle.exchange_laws.proofs.ListLemmas.{contains_had, had_right}
+use Rattle.exchange_laws.proofs.SentLemmas.{one_of_number, sent_of_own}
+use Rattle.exchange_laws.proofs.InboxLemmas.{ids, known_has}
+use Rattle.exchange_laws.proofs.RoundLemmas.{IsPendingAt, IsOut, out_sends, IsDelivered, over_delivers, back_settles}
+use Rattle.exchange_laws.proofs.WorldLemmas.{PartyHolds, Holds, WorldHolds, party_acts, world_acts}
 
--- what a round says of the two ends
-pub record IsRoundOf (s : Sent) (sender receiver : End) (out over back : Act) : Type 0 where
-  pub out_roomy : IsFull out.outcome.reply → ⊥
-  pub head : IsAskedFor s out sender
-  pub over_roomy : IsFull over.outcome.reply → ⊥
-  pub message : over.event.what ≡ what.Came (message_of s.submission)
-  pub mode : IsSome (mode_of over.modes s.submission.header)
-  pub unknown : is_known s.submission.header.id receiver.inbox ≡ false
-  pub back_roomy : IsFull back.outcome.reply → ⊥
-  pub receipt : (answer : Message) × (sends over.outcome.reply ≡ answer ∷ []) × (back.event.what ≡ what.Came answer)
+-- the parties at the two sides, before and after an act at one of them
+may_act : (side : Side) (act : Act) (world : World) → MayHappenAt side act world
+    → MayAct act (party_at side world) (party_at (across side) world)
+may_act Left act world may = may
+may_act Right act world may = may
 
--- the receipt that was sent is what comes back
-receipt_back : (r : Reply) (answer : Message) (signal : Signal) → r ≡ reply.Answer (message.Signal signal) → sends r ≡ answer ∷ []
-    → answer ≡ message.Signal signal
-receipt_back r answer signal e says =
-    let both : message.Signal signal ∷ [] ≡ answer ∷ [] = sym (ap sends e) ∙ says in cc
+party_acted : (side : Side) (act : Act) (world : World) → party_at side (world_at side act world) ≡ acted act (party_at side world)
+party_acted Left act world = refl
+party_acted Right act world = refl
 
--- the sender has the receipt
-receipted : (s : Sent) (out over back : Act) (party other : Party) → PartyHolds party → MayAct out party other
-    → MayAct over other (acted out party)
-    → MayAct back (acted out party) (acted over other) → IsRoundOf s party.end other.end out over back
-    → IsDelivered s.submission over.outcome.reply (acted over other).end
-    → (t : Sent) × (sent_of s.submission.header.id (acted back (acted out party)).end.sent ≡ Some t) × (t.mark ≡ mark.Receipted)
-receipted s out over back party other holds may_out may_over may_back round delivered = (
-  settled,
-  ap (λ (u : Submission). sent_of u.header.id last.end.sent) (sym pending.2) ∙ sent_of_own last.end.sent settled last_holds.numbered there,
-  refl,
-)
+other_rests : (side : Side) (act : Act) (world : World) → party_at (across side) (world_at side act world) ≡ party_at (across side) world
+other_rests Left act world = refl
+other_rests Right act world = refl
+
+party_rests : (side : Side) (act : Act) (world : World) → party_at side (world_at (across side) act world) ≡ party_at side world
+party_rests Left act world = refl
+party_rests Right act world = refl
+
+party_holds : (side : Side) (world : World) → WorldHolds world → PartyHolds (party_at side world)
+party_holds Left world holds = holds.left
+party_holds Right world holds = holds.right
+
+holds_across : (side : Side) (world : World) → WorldHolds world → Holds (party_at side world).end (party_at (across side) world).end
+holds_across Left world holds = holds.to_right
+holds_across Right world holds = holds.to_left
+
+-- an act that is next
+next_may : (side : Side) (act : Act) (world : World) → IsNext side world act → MayHappenAt side act world
+next_may side act world next = subst (λ (a : Side). MayHappenAt a act world) next.here next.may.0
+
+behind_at : (side : Side) (act : Act) (world : World) → act.side ≡ side → behind_act act world ≡ world_at side act world
+behind_at side act world here = ap (λ (a : Side). world_at a act world) here
+
+-- the message that it sends may come, where the reply isn't lost
+said_then : (act : Act) (party : Party) (m : Message) → sends act.outcome.reply ≡ m ∷ [] → act.lost ≡ false
+    → Contains (acted act party).said m
+said_then act party m one kept = contains_had (acted act party).said m
+    (subst (λ (said : List Message). Has said m) (sym said) (had_right party.said (m ∷ []) m (inl refl)))
   where
-    next : Party
-    next = acted out party
+    said : (acted act party).said ≡ party.said ++ m ∷ []
+    said =
+        ap (λ (b : Bool). if b then party.said else party.said ++ sends act.outcome.reply) kept
+        ∙ ap (λ (ms : List Message). party.said ++ ms) one
+
+sends_one : (side : Side) (world : World) (act : Act) (m : Message) → act.side ≡ side → sends act.outcome.reply ≡ m ∷ []
+    → SendsOne side world act m
+sends_one side world act m here one = record {
+  one = one;
+  heard = λ kept. subst (λ (w : World). Contains (party_at side w).said m) (sym (behind_at side act world here))
+      (subst (λ (p : Party). Contains p.said m) (sym (party_acted side act world)) (said_then act (party_at side world) m one kept));
+}
+
+-- the submission is receipted
+abbrev IsReceiptedAt : Submission → Party → Type 0
+IsReceiptedAt u party = (t : Sent) × (sent_of u.header.id party.end.sent ≡ Some t) × (t.mark ≡ mark.Receipted)
+
+-- what the inbox knows by this identifier is the message of the submission
+entry_of : (id : List ℕ) (inbox : List InboxEntry) → Has (ids inbox) id
+    → (n : ℕ) × (entry : InboxEntry) × (slice_get inbox n ≡ Some entry) × (entry.header.id ≡ id)
+entry_of id [] h = absurd h
+entry_of id (e ∷ es) (inl same) = (0, e, refl, same)
+entry_of id (e ∷ es) (inr h) = let later = entry_of id es h in (suc later.0, later.1, later.2, later.3)
+
+known_stands : (s : Sent) (sender receiver : End) → AreNumberedFrom 0 sender.sent → Holds sender receiver → IsPendingAt s.submission sender
+    → is_known s.submission.header.id receiver.inbox ≡ true → StandsIn s receiver
+known_stands s sender receiver numbered holds pending known =
+    let at = entry_of s.submission.header.id receiver.inbox (known_has s.submission.header.id receiver.inbox known) in
+    let from = holds.submitted at.0 at.1 at.2 in
+    let id : from.0.submission.header.id ≡ s.submission.header.id = ap (λ (h : UserHeader). h.id) (sym from.2.header) ∙ at.3 in
+    let number : from.0.submission.number ≡ pending.0.submission.number =
+    one_number from.0.submission s.submission id ∙ ap (λ (u : Submission). u.number) (sym pending.2) in
+    let one : from.0 ≡ pending.0 = one_of_number sender.sent from.0 pending.0 numbered from.1 pending.1 number in
+    let same : from.0.submission ≡ s.submission = ap (λ (t : Sent). t.submission) one ∙ pending.2 in (
+      at.0,
+      at.1,
+      at.2,
+      record {
+        header = from.2.header ∙ ap (λ (u : Submission). u.header) same;
+        payloads = λ k. from.2.payloads k ∙ ap (λ (u : Submission). u.payloads) same;
+      },
+    )
+
+-- the third act
+third : (side : Side) (s : Sent) (world : World) (signal : Signal) → WorldHolds world
+    → IsPendingAt s.submission (party_at side world).end
+    → StandsIn s (party_at (across side) world).end
+    → signal.ref_to ≡ Some s.submission.header.id → signal.body ≡ body.Receipt (Some s.submission.header)
+    → ThirdSettles side s (message.Signal signal) world
+third side s world signal holds pending stands refers copies back next came =
+    subst (IsSettled side s) (sym (behind_at side back world next.here)) (record {
+      receipted = subst (IsReceiptedAt s.submission) (sym (party_acted side back world)) receipted;
+      delivered = subst (λ (p : Party). StandsIn s p.end) (sym (other_rests side back world)) stands;
+    })
+  where
+    party : Party
+    party = party_at side world
+
+    may : MayAct back party (party_at (across side) world)
+    may = may_act side back world (next_may side back world next)
 
     last : Party
-    last = acted back next
-
-    next_holds : PartyHolds next
-    next_holds = party_acts out party other holds may_out
+    last = acted back party
 
     last_holds : PartyHolds last
-    last_holds = party_acts back next (acted over other) next_holds may_back
-
-    pending : IsPendingAt s.submission next.end
-    pending = out_pends out party.end s may_out.step round.out_roomy round.head
+    last_holds = party_acts back party (party_at (across side) world) (party_holds side world holds) may
 
     settled : Sent
     settled = record pending.0 { mark = mark.Receipted }
 
-    came : back.event.what ≡ what.Came (message.Signal delivered.signal)
-    came = round.receipt.2 ∙ ap what.Came (receipt_back over.outcome.reply round.receipt.0 delivered.signal delivered.answers round.receipt.1)
+    own_copy : IsOther (Some s.submission.header) pending.0.submission.header → ⊥
+    own_copy other = other (ap (λ (u : Submission). u.header) (sym pending.2))
 
     there : Has last.end.sent settled
     there =
-        back_settles back next.end pending.0 delivered.signal may_back.step round.back_roomy came
-        (delivered.refers ∙ ap (λ (u : Submission). Some u.header.id) (sym pending.2))
-        (delivered.copies ∙ ap (λ (u : Submission). body.Receipt (Some u.header)) (sym pending.2))
-        next_holds.numbered pending.1 pending.3
+        back_settles back party.end pending.0 signal (Some s.submission.header) may.step next.roomy came
+        (refers ∙ ap (λ (u : Submission). Some u.header.id) (sym pending.2)) copies own_copy
+        (party_holds side world holds).numbered pending.1 pending.3
 
--- three acts at these sides
-abbrev Acts : Side → Side → Side → World → Act → Act → Act → Type 0
-Acts a b c world out over back =
-    MayHappenAt a out world × (MayHappenAt b over (world_at a out world) × (MayHappenAt c back (world_at b over (world_at a out world)) × Unit {0}))
-
-abbrev later : Side → Side → Side → World → Act → Act → Act → World
-later a b c world out over back = world_at c back (world_at b over (world_at a out world))
-
--- between two parties
-settled_by : (s : Sent) (out over back : Act) (party other : Party) → PartyHolds party → MayAct out party other
-    → MayAct over other (acted out party)
-    → MayAct back (acted out party) (acted over other) → IsRoundOf s party.end other.end out over back
-    → ((t : Sent) × (sent_of s.submission.header.id (acted back (acted out party)).end.sent ≡ Some t) × (t.mark ≡ mark.Receipted))
-    × ((entry : InboxEntry) × Contains (acted over other).end.inbox entry × (entry.header ≡ s.submission.header) × (entry.payloads ≡ s.submission.payloads))
-settled_by s out over back party other holds may_out may_over may_back round =
-    let delivered = over_delivers over other.end s.submission may_over.step round.over_roomy round.message round.mode round.unknown in (
-      receipted s out over back party other holds may_out may_over may_back round delivered,
-      (delivered.entry, contains_had (acted over other).end.inbox delivered.entry delivered.there, delivered.header, delivered.payloads),
+    receipted : IsReceiptedAt s.submission last
+    receipted = (
+      settled,
+      ap (λ (u : Submission). sent_of u.header.id last.end.sent) (sym pending.2) ∙ sent_of_own last.end.sent settled last_holds.numbered there,
+      refl,
     )
 
--- from either side
-settled_at : (side : Side) (s : Sent) (world : World) (out over back : Act) → WorldHolds world
-    → Acts side (across side) side world out over back
-    → IsRoundOf s (party_at side world).end (party_at (across side) world).end out over back
-    → IsSettled side s (later side (across side) side world out over back)
-settled_at Left s world out over back holds may round =
-    let both = settled_by s out over back world.left world.right holds.left may.0 may.1.0 may.1.1.0 round in
-    record { receipted = both.0; delivered = both.1 }
-settled_at Right s world out over back holds may round =
-    let both = settled_by s out over back world.right world.left holds.right may.0 may.1.0 may.1.1.0 round in
-    record { receipted = both.0; delivered = both.1 }
-
--- at the sides that the acts name
-pub round_settles : (side : Side) (s : Sent) (world : World) (out over back : Act) → WorldHolds world
-    → MayHappen (out ∷ over ∷ back ∷ []) world
-    → IsRound side s world out over back → IsSettled side s (world_after (out ∷ over ∷ back ∷ []) world)
-round_settles side s world out over back holds may round =
-    subst (λ (a : Side). Acts a over.side back.side world out over back → IsSettled side s (later a over.side back.side world out over back))
-    (sym round.hands_out.here)
-    (subst (λ (b : Side). Acts side b back.side world out over back → IsSettled side s (later side b back.side world out over back))
-    (sym round.brings_over.here)
-    (subst (λ (c : Side). Acts side (across side) c world out over back → IsSettled side s (later side (across side) c world out over back))
-    (sym round.brings_back.here)
-    (λ acts. settled_at side s world out over back holds acts of_ends)))
-    may
+-- the second act
+second : (side : Side) (s : Sent) (world : World) → WorldHolds world → IsPendingAt s.submission (party_at side world).end
+    → SecondSettles side s world
+second side s world holds pending over next brought = (
+  message.Signal delivered.signal,
+  sends_one (across side) world over (message.Signal delivered.signal) next.here (ap sends delivered.answers),
+  subst (ThirdSettles side s (message.Signal delivered.signal)) (sym (behind_at (across side) over world next.here))
+      (third side s (world_at (across side) over world) delivered.signal
+      (world_acts (across side) over world holds (next_may (across side) over world next))
+      (subst (λ (p : Party). IsPendingAt s.submission p.end) (sym (party_rests side over world)) pending)
+      (subst (λ (p : Party). StandsIn s p.end) (sym (party_acted (across side) over world)) delivered.stands)
+      delivered.refers delivered.copies),
+)
   where
-    of_ends : IsRoundOf s (party_at side world).end (party_at (across side) world).end out over back
-    of_ends = record {
-      out_roomy = round.hands_out.roomy;
-      head = round.head;
-      over_roomy = round.brings_over.roomy;
-      message = round.message;
-      mode = round.mode;
-      unknown = round.unknown;
-      back_roomy = round.brings_back.roomy;
-      receipt = round.receipt;
-    }
+    other : Party
+    other = party_at (across side) world
 
--- what happens before the round, and in it
-pub may_split : (acts more : List Act) (world : World) → MayHappen (acts ++ more) world
-    → MayHappen acts world × MayHappen more (world_after acts world)
-may_split [] more world may = (tt, may)
-may_split (act ∷ acts) more world may =
-    let rest = may_split acts more (world_at act.side act world) may.1 in ((may.0, rest.0), rest.1)
+    delivered : IsDelivered s over.outcome.reply (acted over other).end
+    delivered =
+        over_delivers over other.end s (may_act (across side) over world (next_may (across side) over world next)).step
+        next.roomy brought.message brought.mode
+        (known_stands s (party_at side world).end other.end (party_holds side world holds).numbered (holds_across side world holds) pending)
 
-pub after_both : (acts more : List Act) (world : World)
-    → world_after (acts ++ more) world ≡ world_after more (world_after acts world)
-after_both [] more world = refl
-after_both (act ∷ acts) more world = after_both acts more (world_at act.side act world)
+-- the first act
+pub settles : (side : Side) (s : Sent) (world : World) → WorldHolds world → ARoundSettles side s world
+settles side s world holds out next asked = (
+  sends_one side world out (message_of s.submission) next.here handed.sent,
+  subst (SecondSettles side s) (sym (behind_at side out world next.here))
+      (second side s (world_at side out world) (world_acts side out world holds (next_may side out world next))
+      (subst (λ (p : Party). IsPendingAt s.submission p.end) (sym (party_acted side out world)) handed.pends)),
+)
+  where
+    party : Party
+    party = party_at side world
+
+    handed : IsOut s out.outcome (acted out party).end
+    handed = out_sends out party.end s (may_act side out world (next_may side out world next)).step next.roomy asked

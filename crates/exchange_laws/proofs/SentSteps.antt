@@ -1,20 +1,26 @@
 -- How an event changes what an end was handed in to send.
-use Rattle.std.proofs.Common.{◌≡◌, ◌+◌, ◌⊎◌, inl, inr, List, [], ◌∷◌, ◌++◌, Option, Some, length, map, refl, sym, ap, ◌∙◌, subst}
+use Rattle.std.proofs.Common.{◌≡◌, ℕ, ◌+◌, ◌≤◌, ◌⊎◌, inl, inr, List, [], ◌∷◌, ◌++◌, Option, Some, length, map, refl, sym, ap, ◌∙◌, subst, arith}
+use Rattle.std.specs.Prelude.{slice_get, false}
+use Rattle.std.specs.Option.{option_or}
 use Rattle.as4_effects.specs.declared.submission.Submission.{Submission}
 use Rattle.as4_values.specs.declared.header.UserHeader.{UserHeader}
 use Rattle.as4_values.specs.declared.message.Message.TheVariants as message
 use Rattle.as4_values.specs.declared.signal.Signal.{Signal}
+use Rattle.as4_values.specs.declared.signal_body.ErrorItem.{ErrorItem}
+use Rattle.as4_values.specs.declared.signal_body.Severity.TheVariants.{Failure}
 use Rattle.as4_values.specs.declared.signal_body.SignalBody.TheVariants as body
 use Rattle.exchange_model.specs.Apply.{unsent}
 use Rattle.exchange_model.specs.Numbered.{AreNumberedFrom}
+use Rattle.exchange_model.specs.Questions.{is_pending}
 use Rattle.exchange_model.specs.Table.{IsOther}
+use Rattle.exchange_model.specs.declared.sent.Mark.{Mark}
 use Rattle.exchange_model.specs.declared.sent.Mark.TheVariants as mark
 use Rattle.exchange_model.specs.declared.sent.Sent.{Sent}
 use Rattle.exchange_model.specs.declared.what.What.{What}
-use Rattle.exchange_model.specs.declared.what.What.TheVariants.{Came}
+use Rattle.exchange_model.specs.declared.what.What.TheVariants.{Came, Tick}
 use Rattle.exchange_model.proofs.ListLemmas.{Has}
 use Rattle.exchange_model.proofs.NumberedLemmas.{numbered_push}
-use Rattle.exchange_laws.proofs.ListLemmas.{has_mapped, had_mapped, had_left, has_either}
+use Rattle.exchange_laws.proofs.ListLemmas.{has_mapped, had_mapped, had_left, has_either, got_left, got_mapped}
 use Rattle.exchange_laws.proofs.SentLemmas.{numbered_map}
 
 -- a receipt of the submission comes, with no copy of another header
@@ -26,31 +32,76 @@ pub record Receipts (what : What) (s : Submission) : Type 0 where
   pub names : signal.ref_to ≡ Some s.header.id
   pub same : IsOther copy s.header → ⊥
 
--- what is given up was sent as often as its mode says
-abbrev pub IsSpent : Sent → Type 0
-IsSpent s = s.mark ≡ mark.Failed → s.tries ≡ s.submission.retries + 1
+-- an error signal comes with a failure of this code that is about the submission
+pub record Fails (what : What) (s : Submission) (code : List ℕ) : Type 0 where
+  pub signal : Signal
+  pub items : List ErrorItem
+  pub item : ErrorItem
+  pub came : what ≡ Came (message.Signal signal)
+  pub errors : signal.body ≡ body.Errors items
+  pub one : Has items item
+  pub failure : item.severity ≡ Failure
+  pub names : option_or item.about signal.ref_to ≡ Some s.header.id
+  pub told : item.code ≡ code
 
-abbrev pub AllSpent : List Sent → Type 0
-AllSpent sent = (s : Sent) → Has sent s → IsSpent s
+-- what makes a submission stand so
+abbrev pub Causes : What → Mark → Submission → Type 0
+Causes what mark.Pending s = Unit {0}
+Causes what mark.Receipted s = Receipts what s
+Causes what mark.Failed s = what ≡ Tick
+Causes what (mark.Refused code) s = Fails what s code
+
+-- none was sent more often than its mode says, and what is given up as often
+pub record KeepsTries (s : Sent) : Type 0 where
+  pub most : s.tries ≤ s.submission.retries + 1
+  pub all : s.mark ≡ mark.Failed → s.tries ≡ s.submission.retries + 1
+
+abbrev pub AllKeepTries : List Sent → Type 0
+AllKeepTries sent = (s : Sent) → Has sent s → KeepsTries s
+
+-- the submission that stands at this place later
+pub record Stands (new : List Sent) (n : ℕ) (s : Sent) : Type 0 where
+  pub later : Sent
+  pub there : slice_get new n ≡ Some later
+  pub same : later.submission ≡ s.submission
+  pub more : s.tries ≤ later.tries
 
 -- from before an event to after it
 pub record SentGoes (what : What) (old new : List Sent) : Type 0 where
   pub numbered : AreNumberedFrom 0 new
   pub kept : (s : Sent) → Has old s → (t : Sent) × Has new t × (t.submission ≡ s.submission)
-  pub receipted : (t : Sent) → Has new t → t.mark ≡ mark.Receipted
-      → ((s : Sent) × Has old s × (s.mark ≡ mark.Receipted) × (s.submission ≡ t.submission)) ⊎ Receipts what t.submission
-  pub spent : AllSpent old → AllSpent new
-  -- what is receipted changes no more
-  pub settled : (s : Sent) → Has old s → s.mark ≡ mark.Receipted → Has new s
+  -- each stood so before, or was made to stand so
+  pub marked : (t : Sent) → Has new t
+      → ((s : Sent) × Has old s × (s.mark ≡ t.mark) × (s.submission ≡ t.submission)) ⊎ Causes what t.mark t.submission
+  pub tries : AllKeepTries old → AllKeepTries new
+  -- what is pending no more changes no more
+  pub settled : (s : Sent) → Has old s → is_pending s ≡ false → Has new s
+  pub stands : (n : ℕ) (s : Sent) → slice_get old n ≡ Some s → Stands new n s
+
+-- one that stands as receipted, or as refused
+pub receipted_by : (what : What) (old new : List Sent) (t : Sent) → SentGoes what old new → Has new t → t.mark ≡ mark.Receipted
+    → ((s : Sent) × Has old s × (s.mark ≡ mark.Receipted) × (s.submission ≡ t.submission)) ⊎ Receipts what t.submission
+receipted_by what old new t goes h m = elim (goes.marked t h) [
+  | inl s ↦ inl (s.0, s.1, s.2 ∙ m, s.3)
+  | inr cause ↦ inr (subst (λ (n : Mark). Causes what n t.submission) m cause)
+]
+
+pub refused_by : (what : What) (old new : List Sent) (t : Sent) (code : List ℕ) → SentGoes what old new → Has new t → t.mark ≡ mark.Refused code
+    → ((s : Sent) × Has old s × (s.mark ≡ mark.Refused code) × (s.submission ≡ t.submission)) ⊎ Fails what t.submission code
+refused_by what old new t code goes h m = elim (goes.marked t h) [
+  | inl s ↦ inl (s.0, s.1, s.2 ∙ m, s.3)
+  | inr cause ↦ inr (subst (λ (n : Mark). Causes what n t.submission) m cause)
+]
 
 -- nothing changes
 pub sent_stays : (what : What) (sent : List Sent) → AreNumberedFrom 0 sent → SentGoes what sent sent
 sent_stays what sent numbered = record {
   numbered = numbered;
   kept = λ s h. (s, h, refl);
-  receipted = λ t h e. inl (t, h, e, refl);
-  spent = λ spent. spent;
+  marked = λ t h. inl (t, h, refl, refl);
+  tries = λ keep. keep;
   settled = λ s h m. h;
+  stands = λ n s at. record { later = s; there = at; same = refl; more = omega arith };
 }
 
 pending_new : (s : Submission) (t : Sent) → Has (unsent s ∷ []) t → mark.Pending ≡ t.mark
@@ -63,25 +114,26 @@ pub sent_push : (what : What) (sent : List Sent) (s : Submission) → AreNumbere
 sent_push what sent s numbered e = record {
   numbered = numbered_push sent (unsent s) numbered e;
   kept = λ t h. (t, had_left sent (unsent s ∷ []) t h, refl);
-  receipted = λ t h m. elim (has_either sent (unsent s ∷ []) t h)
-      [ inl old ↦ inl (t, old, m, refl) | inr new ↦ absurd (no_receipted t new m) ];
-  spent = λ spent t h m. elim (has_either sent (unsent s ∷ []) t h)
-      [ inl old ↦ spent t old m | inr new ↦ absurd (no_failed t new m) ];
+  marked = λ t h. elim (has_either sent (unsent s ∷ []) t h) [ inl old ↦ inl (t, old, refl, refl) | inr new ↦ inr (begins t new) ];
+  tries = λ keep t h. elim (has_either sent (unsent s ∷ []) t h) [ inl old ↦ keep t old | inr new ↦ new_keeps t new ];
   settled = λ t h m. had_left sent (unsent s ∷ []) t h;
+  stands = λ n t at. record { later = t; there = got_left sent (unsent s ∷ []) n t at; same = refl; more = omega arith };
 }
   where
-    no_receipted : (t : Sent) → Has (unsent s ∷ []) t → t.mark ≡ mark.Receipted → ⊥
-    no_receipted t new m = let p = pending_new s t new in let q : mark.Pending ≡ mark.Receipted = p ∙ m in cc
+    begins : (t : Sent) → Has (unsent s ∷ []) t → Causes what t.mark t.submission
+    begins t new = subst (λ (m : Mark). Causes what m t.submission) (pending_new s t new) tt
 
-    no_failed : (t : Sent) → Has (unsent s ∷ []) t → t.mark ≡ mark.Failed → ⊥
-    no_failed t new m = let p = pending_new s t new in let q : mark.Pending ≡ mark.Failed = p ∙ m in cc
+    new_keeps : (t : Sent) → Has (unsent s ∷ []) t → KeepsTries t
+    new_keeps t (inl e) = subst KeepsTries e (record { most = omega arith; all = λ m. absurd cc })
+    new_keeps t (inr none) = absurd none
 
 -- a change of each submission's standing
 pub record IsChange (what : What) (sent : List Sent) (f : Sent → Sent) : Type 0 where
   pub same : (s : Sent) → (f s).submission ≡ s.submission
-  pub receipted : (s : Sent) → Has sent s → (f s).mark ≡ mark.Receipted → (s.mark ≡ mark.Receipted) ⊎ Receipts what s.submission
-  pub spent : (s : Sent) → Has sent s → IsSpent s → IsSpent (f s)
-  pub settled : (s : Sent) → Has sent s → s.mark ≡ mark.Receipted → f s ≡ s
+  pub marked : (s : Sent) → Has sent s → (s.mark ≡ (f s).mark) ⊎ Causes what (f s).mark s.submission
+  pub tries : (s : Sent) → Has sent s → KeepsTries s → KeepsTries (f s)
+  pub settled : (s : Sent) → Has sent s → is_pending s ≡ false → f s ≡ s
+  pub more : (s : Sent) → s.tries ≤ (f s).tries
 
 -- each one changed
 pub sent_map : (what : What) (sent : List Sent) (f : Sent → Sent) → AreNumberedFrom 0 sent → IsChange what sent f
@@ -89,29 +141,37 @@ pub sent_map : (what : What) (sent : List Sent) (f : Sent → Sent) → AreNumbe
 sent_map what sent f numbered c = record {
   numbered = numbered_map 0 f sent c.same numbered;
   kept = λ s h. (f s, had_mapped f sent s h, c.same s);
-  receipted = λ t h m. let o = has_mapped f sent t h in receipted_by t o.0 o.1 o.2 m;
-  spent = λ spent t h. let o = has_mapped f sent t h in subst IsSpent o.2 (c.spent o.0 o.1 (spent o.0 o.1));
+  marked = λ t h. let o = has_mapped f sent t h in marked_by t o.0 o.1 o.2;
+  tries = λ keep t h. let o = has_mapped f sent t h in subst KeepsTries o.2 (c.tries o.0 o.1 (keep o.0 o.1));
   settled = λ s h m. subst (Has (map f sent)) (c.settled s h m) (had_mapped f sent s h);
+  stands = λ n s at. record { later = f s; there = got_mapped f sent n s at; same = c.same s; more = c.more s };
 }
   where
-    receipted_by : (t s : Sent) → Has sent s → f s ≡ t → t.mark ≡ mark.Receipted
-        → ((s : Sent) × Has sent s × (s.mark ≡ mark.Receipted) × (s.submission ≡ t.submission)) ⊎ Receipts what t.submission
-    receipted_by t s h e m =
+    marked_by : (t s : Sent) → Has sent s → f s ≡ t
+        → ((s : Sent) × Has sent s × (s.mark ≡ t.mark) × (s.submission ≡ t.submission)) ⊎ Causes what t.mark t.submission
+    marked_by t s h e =
         let same : s.submission ≡ t.submission = sym (c.same s) ∙ ap (λ (u : Sent). u.submission) e in
-        elim (c.receipted s h (ap (λ (u : Sent). u.mark) e ∙ m))
-        [ inl old ↦ inl (s, h, old, same) | inr came ↦ inr (subst (Receipts what) same came) ]
+        let mark : (f s).mark ≡ t.mark = ap (λ (u : Sent). u.mark) e in
+        elim (c.marked s h) [
+          | inl old ↦ inl (s, h, old ∙ mark, same)
+          | inr cause ↦ inr (subst (λ (m : Mark). Causes what m t.submission) mark (subst (Causes what (f s).mark) same cause))
+        ]
 
 -- one after another
 pub sent_then : (what : What) (a b c : List Sent) → SentGoes what a b → SentGoes what b c → SentGoes what a c
 sent_then what a b c f g = record {
   numbered = g.numbered;
   kept = λ s h. let t = f.kept s h in let u = g.kept t.0 t.1 in (u.0, u.1, u.2 ∙ t.2);
-  receipted = λ u k m. elim (g.receipted u k m) [ inl t ↦ earlier u t.0 t.1 t.2 t.3 | inr came ↦ inr came ];
-  spent = λ spent. g.spent (f.spent spent);
+  marked = λ u k. elim (g.marked u k) [ inl t ↦ earlier u t.0 t.1 t.2 t.3 | inr cause ↦ inr cause ];
+  tries = λ keep. g.tries (f.tries keep);
   settled = λ s h m. g.settled s (f.settled s h m) m;
+  stands = λ n s at. let t = f.stands n s at in let u = g.stands n t.later t.there in
+      record { later = u.later; there = u.there; same = u.same ∙ t.same; more = omega (arith, t.more, u.more) };
 }
   where
-    earlier : (u t : Sent) → Has b t → t.mark ≡ mark.Receipted → t.submission ≡ u.submission
-        → ((s : Sent) × Has a s × (s.mark ≡ mark.Receipted) × (s.submission ≡ u.submission)) ⊎ Receipts what u.submission
-    earlier u t k m e =
-        elim (f.receipted t k m) [ inl s ↦ inl (s.0, s.1, s.2, s.3 ∙ e) | inr came ↦ inr (subst (Receipts what) e came) ]
+    earlier : (u t : Sent) → Has b t → t.mark ≡ u.mark → t.submission ≡ u.submission
+        → ((s : Sent) × Has a s × (s.mark ≡ u.mark) × (s.submission ≡ u.submission)) ⊎ Causes what u.mark u.submission
+    earlier u t k m e = elim (f.marked t k) [
+      | inl s ↦ inl (s.0, s.1, s.2 ∙ m, s.3 ∙ e)
+      | inr cause ↦ inr (subst (λ (n : Mark). Causes what n u.submission) m (subst (Causes what t.mark) e cause))
+    ]

@@ -18,7 +18,7 @@ row_goes : (modes : List Mode) (end : End) (event : Event) (w : What) (outcome :
     → RowOf modes end event w outcome → Goes w end outcome
 row_goes modes end event (what.Submit mode conversation loads) outcome numbered h =
     submits _ modes end event mode conversation loads outcome numbered h
-row_goes modes end event what.Tick outcome numbered h = ticks _ end event outcome numbered h
+row_goes modes end event what.Tick outcome numbered h = ticks end event outcome numbered h
 row_goes modes end event what.Take outcome numbered h = takes _ end outcome numbered h
 row_goes modes end event (what.Ask mode) outcome numbered h = asks _ modes end event mode outcome numbered h
 row_goes modes end event (what.Came m) outcome numbered h = comes modes end event m outcome numbered h

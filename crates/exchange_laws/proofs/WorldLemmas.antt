@@ -18,7 +18,7 @@ use Rattle.exchange_model.specs.declared.what.What.TheVariants as what
 use Rattle.exchange_model.proofs.ListLemmas.{Has}
 use Rattle.exchange_model.proofs.NumberedLemmas.{none_numbered}
 use Rattle.exchange_laws.proofs.ListLemmas.{has_contained, has_either}
-use Rattle.exchange_laws.proofs.SentSteps.{Receipts, AllSpent}
+use Rattle.exchange_laws.proofs.SentSteps.{Receipts, receipted_by}
 use Rattle.exchange_laws.proofs.InboxLemmas.{ids, Apart}
 use Rattle.exchange_laws.proofs.InboxSteps.{Stood}
 use Rattle.exchange_laws.proofs.EndSteps.{Backs, BacksSignal, EndGoes}
@@ -27,7 +27,6 @@ use Rattle.exchange_laws.proofs.StepLemmas.{step_goes}
 -- of a party: its submissions are numbered, its inbox has no identifier twice, and it stands by what it said
 pub record PartyHolds (party : Party) : Type 0 where
   pub numbered : AreNumberedFrom 0 party.end.sent
-  pub spent : AllSpent party.end.sent
   pub apart : Apart (ids party.end.inbox)
   pub said : (m : Message) → Has party.said m → Backs party.end.sent party.end.inbox m
 
@@ -75,7 +74,6 @@ act_goes act party other holds may = step_goes act.modes party.end act.event act
 pub party_acts : (act : Act) (party other : Party) → PartyHolds party → MayAct act party other → PartyHolds (acted act party)
 party_acts act party other holds may = record {
   numbered = goes.sent.numbered;
-  spent = goes.sent.spent holds.spent;
   apart = goes.inbox.apart holds.apart;
   said = λ m h. elim (said_either act.lost party.said (sends act.outcome.reply) m h) [
     | inl old ↦ backs_later act.event.what act.outcome.reply party.end (acted act party).end m goes (holds.said m old)
@@ -106,7 +104,7 @@ sender_acts : (act : Act) (party other : Party) → PartyHolds party → PartyHo
     → Holds (acted act party).end other.end
 sender_acts act party other holds other_holds may h = record {
   submitted = λ n entry at. later entry (other.end.confirmed ≤ n) (h.submitted n entry at);
-  receipted = λ t there m. receipted_by t (goes.sent.receipted t there m);
+  receipted = λ t there m. of_receipted t (receipted_by act.event.what party.end.sent (acted act party).end.sent t goes.sent there m);
 }
   where
     goes : EndGoes act.event.what act.outcome.reply party.end (acted act party).end
@@ -118,11 +116,11 @@ sender_acts act party other holds other_holds may h = record {
         let t = goes.sent.kept s.0 s.1 in
         (t.0, t.1, record { header = s.2.header ∙ ap (λ u. u.header) (sym t.2); payloads = λ k. s.2.payloads k ∙ ap (λ u. u.payloads) (sym t.2) })
 
-    receipted_by : (t : Sent)
+    of_receipted : (t : Sent)
         → ((s : Sent) × Has party.end.sent s × (s.mark ≡ mark.Receipted) × (s.submission ≡ t.submission)) ⊎ Receipts act.event.what t.submission
         → Has (ids other.end.inbox) t.submission.header.id
-    receipted_by t (inl s) = subst (Has (ids other.end.inbox)) (ap (λ u. u.header.id) s.3) (h.receipted s.0 s.1 s.2)
-    receipted_by t (inr r) = receipt_heard act.event.what t other other_holds may.heard r
+    of_receipted t (inl s) = subst (Has (ids other.end.inbox)) (ap (λ u. u.header.id) s.3) (h.receipted s.0 s.1 s.2)
+    of_receipted t (inr r) = receipt_heard act.event.what t other other_holds may.heard r
 
 -- the receiver acts
 receiver_acts : (act : Act) (party other : Party) → PartyHolds party → PartyHolds other → MayAct act party other
@@ -148,7 +146,7 @@ receiver_acts act party other holds other_holds may h = record {
         (s.0, s.1, record { header = sym s.2; payloads = λ k. sym s.3 })
 
 -- after an act at either side
-world_acts : (side : Side) (act : Act) (world : World) → WorldHolds world → MayHappenAt side act world
+pub world_acts : (side : Side) (act : Act) (world : World) → WorldHolds world → MayHappenAt side act world
     → WorldHolds (world_at side act world)
 world_acts Left act world holds may = record {
   left = party_acts act world.left world.right holds.left may;
@@ -173,8 +171,8 @@ world_holds (act ∷ acts) world holds may =
 -- at the start
 pub new_world_holds : WorldHolds new_world
 new_world_holds = record {
-  left = record { numbered = none_numbered; spent = λ s h. absurd h; apart = tt; said = λ m h. absurd h };
-  right = record { numbered = none_numbered; spent = λ s h. absurd h; apart = tt; said = λ m h. absurd h };
+  left = record { numbered = none_numbered; apart = tt; said = λ m h. absurd h };
+  right = record { numbered = none_numbered; apart = tt; said = λ m h. absurd h };
   to_right = record { submitted = λ n entry at. absurd cc; receipted = λ s h. absurd h };
   to_left = record { submitted = λ n entry at. absurd cc; receipted = λ s h. absurd h };
 }

@@ -1,11 +1,12 @@
 -- What the exchange promises to two businesses (AS4 Profile, section 3.2, reception awareness): each message is
 -- delivered once.
-use Rattle.std.specs.Prelude.{◌≡◌, ◌≢◌, ℕ, ◌+◌, ◌≤◌, Some, map, slice_get}
+use Rattle.std.specs.Prelude.{◌≡◌, ◌≢◌, ℕ, ◌+◌, ◌≤◌, List, Some, map, slice_get}
 use Rattle.std.specs.List.{AllPairs, Contains, count_by}
 use Rattle.std.specs.Str.{bytes_eq}
 use Rattle.exchange_model.specs.End.{End}
+use Rattle.exchange_model.specs.HandingOut.{times_handed_out}
 use Rattle.exchange_model.specs.Questions.{sent_of}
-use Rattle.exchange_model.specs.World.{World}
+use Rattle.exchange_model.specs.World.{Act, World, Left, Right, MayHappen, acts_at, new_world, world_after}
 use Rattle.exchange_model.specs.declared.inbox_entry.InboxEntry.{InboxEntry}
 use Rattle.exchange_model.specs.declared.sent.Mark.TheVariants.{Receipted, Failed}
 use Rattle.exchange_model.specs.declared.sent.Sent.{Sent}
@@ -16,8 +17,10 @@ pub record CameFrom (s : Sent) (entry : InboxEntry) (is_kept : Type 0) : Type 0 
   pub header : entry.header ≡ s.submission.header
   pub payloads : is_kept → entry.payloads ≡ s.submission.payloads
 
--- from one end to the other
-pub record DeliversOnce (sender receiver : End) : Type 0 where
+-- from one end to the other, where these acts have happened at the sender
+pub record DeliversOnce (acts : List Act) (sender receiver : End) : Type 0 where
+  -- no two submissions have one identifier
+  pub told_apart : AllPairs (λ a b. a ≢ b) (map (λ (s : Sent). s.submission.header.id) sender.sent)
   -- the inbox has each identifier at most once
   pub at_most_once : AllPairs (λ a b. a ≢ b) (map (λ (entry : InboxEntry). entry.header.id) receiver.inbox)
   -- each entry is the submission of its identifier, with its payloads until it is confirmed
@@ -26,10 +29,18 @@ pub record DeliversOnce (sender receiver : End) : Type 0 where
   -- what the sender holds a receipt for stands in the inbox, exactly once
   pub exactly_once : (s : Sent) → Contains sender.sent s → s.mark ≡ Receipted
       → count_by (λ (entry : InboxEntry). bytes_eq entry.header.id s.submission.header.id) receiver.inbox ≡ 1
-  -- what is given up was sent, and sent again as often as its mode says
-  pub tried_enough : (s : Sent) → Contains sender.sent s → s.mark ≡ Failed → s.tries ≡ s.submission.retries + 1
+  -- what is given up was handed out to be sent, and handed out again as often as its mode says
+  pub given_up : (s : Sent) → Contains sender.sent s → s.mark ≡ Failed
+      → times_handed_out s.submission.header.id acts ≡ s.submission.retries + 1
 
 -- both ways
-pub record BothDeliverOnce (world : World) : Type 0 where
-  pub to_right : DeliversOnce world.left.end world.right.end
-  pub to_left : DeliversOnce world.right.end world.left.end
+pub record BothDeliverOnce (acts : List Act) (world : World) : Type 0 where
+  pub to_right : DeliversOnce (acts_at Left acts) world.left.end world.right.end
+  pub to_left : DeliversOnce (acts_at Right acts) world.right.end world.left.end
+
+-- acts that may happen from the start have led to this world, and each message was delivered once
+pub record HasDeliveredOnce (world : World) : Type 0 where
+  pub acts : List Act
+  pub may : MayHappen acts new_world
+  pub leads : world_after acts new_world ≡ world
+  pub once : BothDeliverOnce acts world

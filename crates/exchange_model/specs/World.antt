@@ -1,7 +1,7 @@
 -- Two ends and a network that may lose, repeat and reorder what they send: each message that an end ever sent may
 -- arrive at the other end never, once or often, at any time. A crash is a step whose reply is lost, or no step.
-use Rattle.std.specs.Prelude.{List, [], ◌∷◌, ◌++◌, Bool, if◌then◌else◌}
-use Rattle.std.specs.List.{Contains}
+use Rattle.std.specs.Prelude.{List, [], ◌∷◌, ◌++◌, Bool, true, false, if◌then◌else◌}
+use Rattle.std.specs.List.{Contains, filter}
 use Rattle.as4_values.specs.declared.message.Message.{Message}
 use Rattle.as4_values.specs.declared.mode.Mode.{Mode}
 use Rattle.exchange_model.specs.Apply.{applied}
@@ -32,6 +32,11 @@ new_world = record { left = new_party; right = new_party }
 pub data Side : Type 0 where
   Left : Side
   Right : Side
+
+abbrev pub is_same_side : Side → Side → Bool
+is_same_side Left Left = true
+is_same_side Right Right = true
+is_same_side a b = false
 
 -- what happens at one end: an event under some modes, its outcome, and whether the reply is lost
 pub record Act : Type 0 where
@@ -85,3 +90,15 @@ MayHappen (act ∷ acts) world = MayHappenAt act.side act world × MayHappen act
 abbrev pub world_after : List Act → World → World
 world_after [] world = world
 world_after (act ∷ acts) world = world_after acts (world_at act.side act world)
+
+-- the acts at one side
+abbrev pub acts_at : Side → List Act → List Act
+acts_at side acts = filter (λ (act : Act). is_same_side act.side side) acts
+
+abbrev pub party_at : Side → World → Party
+party_at Left world = world.left
+party_at Right world = world.right
+
+abbrev pub across : Side → Side
+across Left = Right
+across Right = Left

@@ -9,9 +9,9 @@ fn is_drilled(alloc: Global, script: &[u8], wanted: Wanted) -> bool {
 }
 
 /// What is told of the first line of a script, and of the third.
-const FIRST_IS_WRONG: &[u8] = b"line 1\nas4 --help shows the lines of a script\n";
+const FIRST_IS_WRONG: &[u8] = b"line 1\n";
 
-const THIRD_IS_WRONG: &[u8] = b"line 3\nas4 --help shows the lines of a script\n";
+const THIRD_IS_WRONG: &[u8] = b"line 3\n";
 
 const WRONG_FROM_THE_START: [(&str, &str); 4] = [
     ("hello\n", ""),

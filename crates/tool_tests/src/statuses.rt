@@ -1,14 +1,18 @@
 //! The number of each status, and what it tells.
 
-use crate::ended::{Failing, READ_FAILS, TELL_FAILS, WRITE_FAILS, ends, sink};
+use crate::ended::{Failing, NOTHING_FAILS, READ_FAILS, TELL_FAILS, WRITE_FAILS, ends, sink};
 use as4_tool::Status;
 use std::alloc::Global;
 
 /// Words, what fails, and the status and the line with which they end.
-const FAULTS: [(&str, Failing, u8, &str); 5] = [
+const FAULTS: [(&str, Failing, u8, &str); 9] = [
     ("answer 0 1", READ_FAILS, 3, "read fault\n"),
     ("drill", READ_FAILS, 3, "read fault\n"),
     ("--help", WRITE_FAILS, 4, "write fault\n"),
+    ("--version", WRITE_FAILS, 4, "write fault\n"),
+    ("drill --generate 0 0", WRITE_FAILS, 4, "write fault\n"),
+    ("drill", NOTHING_FAILS, 2, "line 1\n"),
+    ("answer 0 1", NOTHING_FAILS, 13, "not built yet\n"),
     ("answer 0 1", TELL_FAILS, 13, ""),
     ("answer 0", TELL_FAILS, 64, ""),
 ];
@@ -51,24 +55,16 @@ const STATUSES: [(Status, u8, &str); 10] = [
             number: 18_446_744_073_709_551_615,
         },
         2,
-        "line 18446744073709551615\nas4 --help shows the lines of a script\n",
+        "line 18446744073709551615\n",
     ),
-    (
-        Status::WrongLine { number: 1 },
-        2,
-        "line 1\nas4 --help shows the lines of a script\n",
-    ),
+    (Status::WrongLine { number: 1 }, 2, "line 1\n"),
     (Status::ReadFault, 3, "read fault\n"),
     (Status::WriteFault, 4, "write fault\n"),
     (Status::NoMemory, 5, "no memory\n"),
     (Status::TooManyEvents, 6, "more than 100000 events\n"),
     (Status::TooLong, 11, "input too long\n"),
     (Status::Unbuilt, 13, "not built yet\n"),
-    (
-        Status::BadWords,
-        64,
-        "bad words\nas4 --help shows the words\n",
-    ),
+    (Status::BadWords, 64, "bad words\n"),
 ];
 
 /// The first of these statuses that has another number or tells something else.
@@ -87,12 +83,7 @@ fn each_status_has_its_number_and_line(rt: HostRuntime) {
 }
 
 /// What is told of a wrong line, by the write that fails.
-const FRONTS: [(u64, &str); 4] = [
-    (1, ""),
-    (2, "line "),
-    (3, "line 12"),
-    (4, "line 12\nas4 --help shows the lines of a script\n"),
-];
+const FRONTS: [(u64, &str); 4] = [(1, ""), (2, "line "), (3, "line 12"), (4, "line 12\n")];
 
 /// The first row of which something else is told.
 fn first_other_front(alloc: Global, rows: &[(u64, &str)]) -> Option<usize> {

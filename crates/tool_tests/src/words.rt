@@ -1,12 +1,14 @@
 //! Which words are a command, and what the help says.
 
 use crate::ended::{NOTHING_FAILS, end_so, ends, words_of};
-use as4_tool::{Command, HELP, VERSION, command_of};
-use as4_values::Seq;
+use as4_tool::{Command, HELP, LIMIT, MAX_COUNT, VERSION, command_of};
+use as4_values::{MAX_MOMENT, Seq};
+use drill::{MAX_EVENTS, MAX_LINES, MAX_MODES};
+use drill_script::{LINE_LIMIT, MAX_PERIOD, MAX_RETRIES, MAX_SIZE};
 use std::alloc::Global;
 use std::str;
 
-const HINT: &[u8] = b"bad words\nas4 --help shows the words\n";
+const TOLD: &[u8] = b"bad words\n";
 
 /// A message file that isn't read yet.
 const OTHER: &[u8] = b"Content-Type: text/xml\r\n\r\n<order/>";
@@ -52,7 +54,7 @@ const BAD_WORDS: [&str; 16] = [
 /// The first of these lines that isn't bad words, or with which something is written.
 fn first_not_bad(alloc: Global, lines: &[&str]) -> Option<usize> {
     for (at, line) in lines.iter().enumerate() {
-        if !ends(alloc, line, OTHER, NOTHING_FAILS, (64, b"", HINT)) {
+        if !ends(alloc, line, OTHER, NOTHING_FAILS, (64, b"", TOLD)) {
             return Some(at);
         }
     }
@@ -133,7 +135,7 @@ fn numbers_of_a_drill_out_of_range_are_no_command(rt: HostRuntime) {
 #[test]
 fn no_words_are_bad(rt: HostRuntime) {
     let words = Seq::of(Vec::new(rt.alloc()));
-    assert!(rt; end_so(rt.alloc(), &words, b"", NOTHING_FAILS, (64, b"", HINT)));
+    assert!(rt; end_so(rt.alloc(), &words, b"", NOTHING_FAILS, (64, b"", TOLD)));
 }
 
 #[test]
@@ -144,29 +146,21 @@ fn help_and_version_are_written(rt: HostRuntime) {
     assert!(rt; VERSION == b"as4 0.1.0\n".as_slice());
 }
 
-/// The numbers and the lines that a user goes by.
-const HELP_PARTS: [&str; 14] = [
-    "0 to 253402300799999",
+/// The lines that a user goes by.
+const HELP_PARTS: [&str; 9] = [
     "0 to 340282366920938463463374607431768211455",
-    "0 to 18446744073709551615",
-    "0 to 1000",
-    "at most 16842752 bytes",
-    "2  line N",
-    "isn't one of a script, or not in its place",
-    "3  read fault",
-    "4  write fault",
-    "5  no memory",
-    "6  more than 100000 events",
-    "11  input too long",
-    "13  not built yet",
-    "64  bad words",
+    "2  line N:",
+    "3  read fault:",
+    "4  write fault:",
+    "5  no memory:",
+    "6  more than 100000 events:",
+    "11  input too long:",
+    "13  not built yet:",
+    "64  bad words:",
 ];
 
 /// The first of these parts that the help lacks.
-fn first_lacking(parts: &[&str]) -> Option<usize> {
-    let Ok(help) = str::from_utf8(HELP) else {
-        return Some(0);
-    };
+fn first_lacking(help: &str, parts: &[&str]) -> Option<usize> {
     for (at, part) in parts.iter().enumerate() {
         if !help.contains(*part) {
             return Some(at);
@@ -176,6 +170,45 @@ fn first_lacking(parts: &[&str]) -> Option<usize> {
 }
 
 #[test]
-fn the_help_has_each_range_and_line(rt: HostRuntime) {
-    assert_eq!(rt; first_lacking(&HELP_PARTS), None);
+fn the_help_has_each_line(rt: HostRuntime) {
+    let help = str::from_utf8(HELP).unwrap_or("");
+    assert_eq!(rt; first_lacking(help, &HELP_PARTS), None);
+}
+
+/// What stands before a number in the help, the number, and what stands behind it.
+const NUMBERS: [(&str, u64, &str); 13] = [
+    ("1970-01-01T00:00:00Z, 0 to ", MAX_MOMENT, "\n"),
+    ("messages follow from: 0 to ", u64::MAX, ";"),
+    ("script submits: 0 to ", MAX_COUNT, "\n"),
+    ("an answer has at most ", LIMIT as u64, " bytes"),
+    ("a period has 1 to ", MAX_PERIOD, "\n"),
+    ("retries are at most ", MAX_RETRIES, ";"),
+    ("size=BYTES, at most ", MAX_SIZE, "\n"),
+    ("A script has at most ", MAX_LINES, " lines"),
+    ("lines of at most ", LINE_LIMIT as u64, " bytes"),
+    ("names at most ", MAX_MODES as u64, " modes"),
+    ("makes at most ", MAX_EVENTS, "\n"),
+    ("6  more than ", MAX_EVENTS, " events"),
+    ("NAME and MODE are 1 to ", 32, " of a to"),
+];
+
+/// The first of these numbers that the help hasn't in its place.
+fn first_other_number(alloc: Global, help: &str, rows: &[(&str, u64, &str)]) -> Option<usize> {
+    for (at, (front, number, back)) in rows.iter().enumerate() {
+        match format!(in alloc; "{front}{number}{back}") {
+            Ok(part) => {
+                if !help.contains(part.as_str()) {
+                    return Some(at);
+                }
+            }
+            Err(_) => return Some(at),
+        }
+    }
+    None
+}
+
+#[test]
+fn the_help_has_each_limit(rt: HostRuntime) {
+    let help = str::from_utf8(HELP).unwrap_or("");
+    assert_eq!(rt; first_other_number(rt.alloc(), help, &NUMBERS), None);
 }

@@ -7,7 +7,7 @@ invariant-pieces g l = record {
   within : length l.bytes.items ≤ l.limit + 1;
   has_room : 0 < length l.room.items;
   so_far : g.S.Source.left l.fn.source ≡ before l.bytes.items (g.S.Source.left l.source);
-  counted : g.S.Source.faults l.fn.source ≤ g.S.Source.faults l.source;
+  quiet : g.S.Source.faults l.source ≡ g.S.Source.faults l.fn.source;
 }
 
 abbrev pub decreases-pieces : goal.decreases-pieces

@@ -7,7 +7,7 @@ invariant-loop-sent g l = record {
   within : l.sent ≤ length l.bytes;
   front : g.K.Sink.taken l.sink ≡ behind (g.K.Sink.taken l.fn.sink) (take l.sent l.bytes);
   untouched : l.sent ≡ 0 → l.sink ≡ l.fn.sink;
-  counted : g.K.Sink.faults l.fn.sink ≤ g.K.Sink.faults l.sink;
+  quiet : g.K.Sink.faults l.sink ≡ g.K.Sink.faults l.fn.sink;
 }
 
 abbrev pub decreases-loop-sent : goal.decreases-loop-sent

@@ -1,8 +1,7 @@
-use Rattle.std.proofs.Common.{arith}
-use Rattle.drill.specs.Generated.{Leads, Stops, carried}
+use Rattle.std.proofs.Common.{[], ◌∷◌, arith}
 use Rattle.drill_script.specs.declared.line.Line.TheVariants as line
-use Rattle.std.specs.Prelude.{[], ◌∷◌}
-use Rattle.drill.proofs.GeneratedLemmas.{came_right, came_said, came_short, carried_stops, carried_twice, goes_out, lost_right, lost_said, lost_short}
+use Rattle.drill.proofs.GeneratedLemmas.{came_right, came_said, came_short, carried_twice, lost_right, lost_said, lost_short}
+use Rattle.drill.proofs.SpendLemmas.{leads_events}
 use Rattle.drill.proofs.generated.carry.Goals as goal
 
 pub play_one-requires-clause-spelled : goal.play_one-requires-clause-spelled
@@ -23,16 +22,10 @@ play_one-requires-then-counter-eq4-clause-short c = lost_short c.args.end c.args
 pub play_one-requires-then-counter-eq4-clause-right : goal.play_one-requires-then-counter-eq4-clause-right
 play_one-requires-then-counter-eq4-clause-right c = lost_right c.args.end c.args.place c.play_one.new.stage (omega arith)
 
-pub returns-in_err-play_one : goal.returns-in_err-play_one
-returns-in_err-play_one c =
-    goes_out c.from_residual.result c.in_err-play_one.field-0.0
-    (λ _. Leads (line.Came c.args.end c.args.place ∷ []) c.args.stage.now c.play_one.new.stage)
-    (λ _. Leads (carried c.args.counter c.args.end c.args.place) c.args.stage.now c.play_one.new.stage)
-    (Stops (line.Came c.args.end c.args.place ∷ []) c.args.stage.now)
-    (Stops (carried c.args.counter c.args.end c.args.place) c.args.stage.now)
-    c.from_residual.ensures.1
-    (carried_stops c.args.counter c.args.end c.args.place c.args.stage.now c.if-counter-eq2.false)
-    c.in_err-play_one.ensures
+pub play_one-requires-then-counter-eq4-clause-few : goal.play_one-requires-then-counter-eq4-clause-few
+play_one-requires-then-counter-eq4-clause-few c =
+    let more = leads_events (line.Came c.args.end c.args.place ∷ []) c.args.stage.now c.play_one.new.stage c.in_ok-play_one.ensures in
+    omega (arith, more)
 
 pub returns-then-counter-eq4 : goal.returns-then-counter-eq4
 returns-then-counter-eq4 c =

@@ -1,13 +1,15 @@
-use Rattle.std.proofs.Common.{◌*◌, ◌-◌, ◌≤◌}
-use Rattle.drill.proofs.GeneratedLemmas.{RoundsOn, RoundsStopOn}
+use Rattle.std.proofs.Common.{◌+◌, ◌*◌, ◌-◌, ◌≤◌}
+use Rattle.drill.specs.Generating.{handed}
+use Rattle.drill.proofs.GeneratedLemmas.{RoundsOn}
 use Rattle.drill.proofs.generated.play_rounds.Given as goal
 
 abbrev pub invariant-rounds : goal.invariant-rounds
 invariant-rounds l = record {
   within : l.round ≤ 11;
-  few : l.counter ≤ 2 * l.stage.events;
+  counter : l.counter ≤ 2 * l.stage.events;
+  handed : handed l.stage ≤ 1000;
+  few : l.stage.events ≤ 1000 + l.round * 5002;
   on : RoundsOn l.fn.stage l.round l.counter l.stage;
-  stops : RoundsStopOn l.fn.stage l.round l.counter l.stage;
 }
 
 abbrev pub decreases-rounds : goal.decreases-rounds

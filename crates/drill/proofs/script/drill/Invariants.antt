@@ -9,8 +9,6 @@ invariant-lines g l = record {
   so_far : SoFar l.stage l.reader l.played
       (flow (g.S.Source.left l.fn.source) (g.K.Sink.taken l.fn.sink) (g.S.Source.faults l.fn.source) (g.K.Sink.faults l.fn.sink))
       (flow (g.S.Source.left l.source) (g.K.Sink.taken l.sink) (g.S.Source.faults l.source) (g.K.Sink.faults l.sink));
-  reads : g.S.Source.faults l.fn.source ≤ g.S.Source.faults l.source;
-  writes : g.K.Sink.faults l.fn.sink ≤ g.K.Sink.faults l.sink;
 }
 
 abbrev pub decreases-lines : goal.decreases-lines

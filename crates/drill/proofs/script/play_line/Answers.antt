@@ -2,7 +2,9 @@ use Rattle.std.proofs.Common.{◌≡◌, ℕ, ◌<◌, List, ap, ◌∙◌, subs
 use Rattle.as4_flow.specs.Told.{TakesFront, behind}
 use Rattle.drill.specs.Running.{flow}
 use Rattle.drill.specs.Transcript.{lines_limit}
-use Rattle.drill.proofs.EndLemmas.{Turn, so_far_played, ends_unwritten, ends_wrong}
+use Rattle.drill.proofs.EndLemmas.{Turn, so_far_played, ends_full, ends_too_many, ends_unwritten, ends_without_memory, ends_wrong}
+use Rattle.drill_script.specs.Lacking.{parted}
+use Rattle.drill_script.specs.LineText.{line_text}
 use Rattle.drill.proofs.script.play_line.Goals as goal
 
 pub returns-in-Ok-send_all-clause-goes : goal.returns-in-Ok-send_all-clause-goes
@@ -15,7 +17,7 @@ returns-in-Ok-send_all-clause-goes g c start held left reads s =
     (flow left (g.K.Sink.taken c.args.sink.now) reads (g.K.Sink.faults c.args.sink.now))
     (g.K.Sink.taken c.send_all.new.sink) (g.K.Sink.faults c.send_all.new.sink) s turn few
     (c.in-Ok-send_all.ensures.ok ∙ ap (behind (g.K.Sink.taken c.args.sink.now)) text)
-    c.in-Ok-send_all.ensures.counted
+    c.in-Ok-send_all.ensures.quiet
 
 pub returns-in-Ok-clause-goes : goal.returns-in-Ok-clause-goes
 returns-in-Ok-clause-goes g c start held left reads s =
@@ -25,12 +27,29 @@ returns-in-Ok-clause-goes g c start held left reads s =
     let few : c.args.played < lines_limit = omega arith in
     let front : TakesFront c.in-Ok.text (g.K.Sink.taken c.args.sink.now) (g.K.Sink.taken c.send_all.new.sink) =
     subst (λ (l : List ℕ). TakesFront l (g.K.Sink.taken c.args.sink.now) (g.K.Sink.taken c.send_all.new.sink)) text c.in-Err.ensures.front in
-    ends_unwritten c.args.line.now c.in-Ok.text c.args.stage.now c.play.new.self held c.args.played start
+    ends_unwritten c.a_drill_delivers_once.ensures c.args.line.now c.in-Ok.text c.args.stage.now c.play.new.self held c.args.played start
     (flow left (g.K.Sink.taken c.args.sink.now) reads (g.K.Sink.faults c.args.sink.now))
     (g.K.Sink.taken c.send_all.new.sink) (g.K.Sink.faults c.send_all.new.sink) s turn few front c.in-Err.ensures.err
 
 pub returns-in-Err-Wrong-clause-goes : goal.returns-in-Err-Wrong-clause-goes
 returns-in-Err-Wrong-clause-goes g c start held left reads s =
-    ends_wrong c.args.line.now c.args.stage.now held c.args.played start
+    ends_wrong c.a_drill_delivers_once.ensures c.args.line.now c.args.stage.now held c.args.played start
     (flow left (g.K.Sink.taken c.args.sink.now) reads (g.K.Sink.faults c.args.sink.now)) s c.requires.spelled
     (c.in-Err-Wrong.ensures.wrong (cc))
+
+pub returns-then-played-eq-MAX_LINES-clause-goes : goal.returns-then-played-eq-MAX_LINES-clause-goes
+returns-then-played-eq-MAX_LINES-clause-goes g c start held left reads s =
+    ends_full c.a_drill_delivers_once.ensures c.args.line.now c.args.stage.now held c.args.played start
+    (flow left (g.K.Sink.taken c.args.sink.now) reads (g.K.Sink.faults c.args.sink.now)) s (omega arith)
+
+pub returns-in-Err-TooMany-clause-goes : goal.returns-in-Err-TooMany-clause-goes
+returns-in-Err-TooMany-clause-goes g c start held left reads s =
+    let many = c.in-Err-TooMany.ensures.too_many (cc) in
+    let few : c.args.played < lines_limit = omega arith in
+    ends_too_many c.a_drill_delivers_once.ensures c.args.line.now c.args.stage.now held c.args.played start
+    (flow left (g.K.Sink.taken c.args.sink.now) reads (g.K.Sink.faults c.args.sink.now)) s many.0 many.1 few
+
+pub returns-clause-goes : goal.returns-clause-goes
+returns-clause-goes g c start held left reads s =
+    ends_without_memory c.a_drill_delivers_once.ensures c.args.stage.now (parted 10 (line_text c.args.line.now) held) c.args.played start
+    (flow left (g.K.Sink.taken c.args.sink.now) reads (g.K.Sink.faults c.args.sink.now)) s

@@ -21,10 +21,22 @@ pub returns-in-Mode-clause-right : goal.returns-in-Mode-clause-right
 returns-in-Mode-clause-right c =
     (mode_played c.args.line.now c.in-Mode.name c.in-Mode.way c.in-Mode.retries c.in-Mode.period c.args.self.now c.name_mode.new.self c.name_mode.result
     c.in-Mode.is c.requires.spelled c.requires.short
-    c.name_mode.ensures.placed c.name_mode.ensures.adds c.name_mode.ensures.wrong c.name_mode.ensures.few).right
+    c.name_mode.ensures.placed c.name_mode.ensures.adds c.name_mode.ensures.wrong c.name_mode.ensures.told c.name_mode.ensures.few).right
 
 pub returns-in-Mode-clause-plays : goal.returns-in-Mode-clause-plays
 returns-in-Mode-clause-plays c =
     (mode_played c.args.line.now c.in-Mode.name c.in-Mode.way c.in-Mode.retries c.in-Mode.period c.args.self.now c.name_mode.new.self c.name_mode.result
     c.in-Mode.is c.requires.spelled c.requires.short
-    c.name_mode.ensures.placed c.name_mode.ensures.adds c.name_mode.ensures.wrong c.name_mode.ensures.few).plays
+    c.name_mode.ensures.placed c.name_mode.ensures.adds c.name_mode.ensures.wrong c.name_mode.ensures.told c.name_mode.ensures.few).plays
+
+pub returns-in-Mode-clause-told : goal.returns-in-Mode-clause-told
+returns-in-Mode-clause-told c =
+    (mode_played c.args.line.now c.in-Mode.name c.in-Mode.way c.in-Mode.retries c.in-Mode.period c.args.self.now c.name_mode.new.self c.name_mode.result
+    c.in-Mode.is c.requires.spelled c.requires.short
+    c.name_mode.ensures.placed c.name_mode.ensures.adds c.name_mode.ensures.wrong c.name_mode.ensures.told c.name_mode.ensures.few).told
+
+pub returns-in-Mode-clause-full : goal.returns-in-Mode-clause-full
+returns-in-Mode-clause-full c =
+    (mode_played c.args.line.now c.in-Mode.name c.in-Mode.way c.in-Mode.retries c.in-Mode.period c.args.self.now c.name_mode.new.self c.name_mode.result
+    c.in-Mode.is c.requires.spelled c.requires.short
+    c.name_mode.ensures.placed c.name_mode.ensures.adds c.name_mode.ensures.wrong c.name_mode.ensures.told c.name_mode.ensures.few).full

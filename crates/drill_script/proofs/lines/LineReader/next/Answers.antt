@@ -1,4 +1,4 @@
-use Rattle.std.proofs.Common.{refl, sym, ◌∙◌, arith}
+use Rattle.std.proofs.Common.{inl, refl, sym, ◌∙◌, arith}
 use Rattle.drill_script.proofs.FrontLemmas.{BeginsLong_told}
 use Rattle.drill_script.proofs.LackingLemmas.{Lacks_none}
 use Rattle.drill_script.proofs.lines.LineReader.next.Goals as goal
@@ -9,7 +9,9 @@ pieces-init g c = record {
   lacks = Lacks_none 10;
   whole = refl;
   grew = omega arith;
-  counted = omega arith;
+  quiet = refl;
+  short = inl refl;
+  ahead = λ within. within;
 }
 
 pub returns-in-TooLong-clause-too_long : goal.returns-in-TooLong-clause-too_long

@@ -1,7 +1,8 @@
-use Rattle.std.proofs.Common.{◌≡◌, ◌+◌, ◌-◌, ◌≤◌, length, take}
+use Rattle.std.proofs.Common.{◌≡◌, ◌⊎◌, ◌+◌, ◌-◌, ◌≤◌, length, take}
 use Rattle.as4_flow.specs.Told.{before}
 use Rattle.drill_script.specs.Lacking.{Lacks}
 use Rattle.drill_script.specs.LineText.{line_limit}
+use Rattle.drill_script.specs.Lines.{BeginsLong, ahead_limit}
 use Rattle.drill_script.proofs.lines.LineReader.next.Given as goal
 
 abbrev pub invariant-pieces : goal.invariant-pieces
@@ -10,7 +11,9 @@ invariant-pieces g l = record {
   lacks : Lacks 10 (take l.scanned l.self);
   whole : before l.fn.self (g.S.Source.left l.fn.source) ≡ before l.self (g.S.Source.left l.source);
   grew : length l.fn.self ≤ length l.self;
-  counted : g.S.Source.faults l.fn.source ≤ g.S.Source.faults l.source;
+  quiet : g.S.Source.faults l.source ≡ g.S.Source.faults l.fn.source;
+  short : (l.self ≡ l.fn.self) ⊎ (BeginsLong l.fn.self → ⊥);
+  ahead : length l.fn.self ≤ ahead_limit → length l.self ≤ ahead_limit;
 }
 
 abbrev pub decreases-pieces : goal.decreases-pieces

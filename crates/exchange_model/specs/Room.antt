@@ -1,0 +1,9 @@
+-- Room in the journal for the record of whatever one effect.
+use Rattle.std.specs.Prelude.{◌+◌, ◌≤◌}
+use Rattle.as4_effects.specs.Sound.{effect_limit}
+use Rattle.exchange_model.specs.End.{End}
+use Rattle.exchange_model.specs.Table.{journal_limit}
+
+-- an effect has a limit; its record has seven bytes more
+abbrev pub HasRoomForOne : End → Type 0
+HasRoomForOne end = end.size + (effect_limit + 7) ≤ journal_limit

@@ -1,0 +1,8 @@
+pub mod Cases
+pub mod OneOutcome
+pub mod OneSubmission
+pub mod SameHeader
+pub mod SomeOutcome
+pub mod SomeStamp
+pub mod SomeSubmission
+pub mod Signals

@@ -1,0 +1,81 @@
+-- The signals that an end makes: each is told by the moment, the nonce and what it is about, and there is one.
+use Rattle.std.proofs.Common.{◌≡◌, ℕ, ◌≤◌, List, [], ◌∷◌, Option, Some, None, refl, sym, ap, ◌∙◌, subst}
+use Rattle.std.specs.Prelude.{IsTrue, option_map}
+use Rattle.std.proofs.Props.{props}
+use Rattle.std.proofs.lemmas.Option.{same_Some}
+use Rattle.as4_values.proofs.MomentLemmas.{one_stamp_of}
+use Rattle.as4_values.specs.SignalParts.{is_signal}
+use Rattle.as4_values.specs.Identifiers.{signal_id}
+use Rattle.as4_values.specs.declared.header.UserHeader.{UserHeader}
+use Rattle.as4_values.specs.declared.signal.Signal.{Signal}
+use Rattle.as4_values.specs.declared.signal_body.SignalBody.{SignalBody}
+use Rattle.as4_values.specs.declared.signal_body.SignalBody.TheVariants as body
+use Rattle.exchange_model.specs.ErrorCodes.{ErrorRow, error_row, error_item}
+use Rattle.exchange_model.specs.Signals.{IsReceiptOf, IsErrorSignalOf, IsPullOf}
+use Rattle.outcome_laws.proofs.SomeStamp.{some_stamp}
+
+-- what a signal says
+abbrev Told : Type 0
+Told = (List ℕ × List ℕ) × (Option (List ℕ) × SignalBody)
+
+abbrev told_by : Signal → Told
+told_by s = ((s.stamp, s.id), (s.ref_to, s.body))
+
+signal_of : (t : Told) → IsTrue (is_signal t.1.0 t.1.1) → Signal
+signal_of t whole = record { stamp = t.0.0; id = t.0.1; ref_to = t.1.0; body = t.1.1; whole = whole }
+
+signal_told : (a b : Signal) → told_by a ≡ told_by b → a ≡ b
+unfolding signal_of
+signal_told a b e =
+    subst (λ (t : Told). (w : IsTrue (is_signal t.1.0 t.1.1)) → signal_of t w ≡ b) (sym e)
+    (λ w. ap (signal_of (told_by b)) (let one : IsProp (IsTrue (is_signal b.ref_to b.body)) = hlevel props in one w b.whole))
+    a.whole
+
+-- no two
+pub one_receipt : (header : UserHeader) (ms nonce : ℕ) (a b : Signal) → IsReceiptOf header ms nonce a → IsReceiptOf header ms nonce b → a ≡ b
+one_receipt header ms nonce a b h k =
+    let stamp : a.stamp ≡ b.stamp = one_stamp_of ms a.stamp b.stamp h.stamped k.stamped in
+    let id : a.id ≡ b.id = h.named ∙ sym k.named in
+    let ref_to : a.ref_to ≡ b.ref_to = h.refers ∙ sym k.refers in
+    let said : a.body ≡ b.body = h.copies ∙ sym k.copies in
+    signal_told a b (let e : told_by a ≡ told_by b = cc in e)
+
+pub one_error : (code : ℕ) (about : Option (List ℕ)) (ms nonce : ℕ) (a b : Signal) → IsErrorSignalOf code about ms nonce a
+    → IsErrorSignalOf code about ms nonce b → a ≡ b
+one_error code about ms nonce a b h k =
+    let stamp : a.stamp ≡ b.stamp = one_stamp_of ms a.stamp b.stamp h.stamped k.stamped in
+    let id : a.id ≡ b.id = h.named ∙ sym k.named in
+    let ref_to : a.ref_to ≡ b.ref_to = h.refers ∙ sym k.refers in
+    let said : a.body ≡ b.body = same_Some a.body b.body (sym h.tells ∙ k.tells) in
+    signal_told a b (let e : told_by a ≡ told_by b = cc in e)
+
+pub one_pull : (mpc : List ℕ) (ms nonce : ℕ) (a b : Signal) → IsPullOf mpc ms nonce a → IsPullOf mpc ms nonce b → a ≡ b
+one_pull mpc ms nonce a b h k =
+    let stamp : a.stamp ≡ b.stamp = one_stamp_of ms a.stamp b.stamp h.stamped k.stamped in
+    let id : a.id ≡ b.id = h.named ∙ sym k.named in
+    let ref_to : a.ref_to ≡ b.ref_to = h.refers ∙ sym k.refers in
+    let said : a.body ≡ b.body = h.asks ∙ sym k.asks in
+    signal_told a b (let e : told_by a ≡ told_by b = cc in e)
+
+-- and there is one
+pub some_receipt : (header : UserHeader) (ms nonce : ℕ) → ms ≤ 253402300799999 → (signal : Signal) × IsReceiptOf header ms nonce signal
+some_receipt header ms nonce dated =
+    let stamp = some_stamp ms dated in (
+      record { stamp = stamp.0; id = signal_id nonce; ref_to = Some header.id; body = body.Receipt (Some header); whole = refl },
+      record { stamped = stamp.1; named = refl; refers = refl; copies = refl },
+    )
+
+pub some_error : (code : ℕ) (row : ErrorRow) (about : Option (List ℕ)) (ms nonce : ℕ) → error_row code ≡ Some row → ms ≤ 253402300799999
+    → (signal : Signal) × IsErrorSignalOf code about ms nonce signal
+some_error code row about ms nonce found dated =
+    let stamp = some_stamp ms dated in (
+      record { stamp = stamp.0; id = signal_id nonce; ref_to = about; body = body.Errors (error_item row about ∷ []); whole = refl },
+      record { stamped = stamp.1; named = refl; refers = refl; tells = ap (option_map (λ r. body.Errors (error_item r about ∷ []))) found },
+    )
+
+pub some_pull : (mpc : List ℕ) (ms nonce : ℕ) → ms ≤ 253402300799999 → (signal : Signal) × IsPullOf mpc ms nonce signal
+some_pull mpc ms nonce dated =
+    let stamp = some_stamp ms dated in (
+      record { stamp = stamp.0; id = signal_id nonce; ref_to = None; body = body.Pull mpc; whole = refl },
+      record { stamped = stamp.1; named = refl; refers = refl; asks = refl },
+    )

@@ -1,0 +1,23 @@
+//! Laws of one step: each is the contract of a function that does nothing.
+ghost use Rattle.std.specs.Prelude.{◌≡◌, List};
+ghost use Rattle.as4_values.specs.declared.mode.Mode.{Mode};
+ghost use Rattle.exchange_model.specs.Alone.{MayHappenTo, end_after};
+ghost use Rattle.exchange_model.specs.End.{End, empty_end};
+ghost use Rattle.exchange_model.specs.Typed.{IsTyped};
+ghost use Rattle.exchange_model.specs.Table.{Step};
+ghost use Rattle.exchange_model.specs.World.{Act};
+ghost use Rattle.exchange_model.specs.declared.event.Event.{Event};
+ghost use Rattle.exchange_model.specs.declared.outcome.Outcome.{Outcome};
+
+/// An event has one outcome: no two steps of one end differ at it.
+pub fn an_event_has_one_outcome()
+    ensures { (modes : List Mode) (end : End) (event : Event) (a b : Outcome)
+        → Step modes end event a → Step modes end event b → a ≡ b }
+{}
+
+/// And it has one: whatever has happened to an end, and whatever its modes are, there is a step at each event that the
+/// types of this crate can hold.
+pub fn an_event_has_an_outcome()
+    ensures { (acts : List Act) (modes : List Mode) (event : Event) → MayHappenTo acts empty_end → IsTyped event
+        → (outcome : Outcome) × Step modes (end_after acts empty_end) event outcome }
+{}
