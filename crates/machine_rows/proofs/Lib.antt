@@ -1,4 +1,5 @@
 pub mod ComingRows
+pub mod FreeLemmas
 pub mod FreshLemmas
 pub mod HeadLemmas
 pub mod OwnRows

@@ -31,6 +31,7 @@ use Rattle.exchange_model.specs.declared.sent.Mark.TheVariants as mark
 use Rattle.exchange_model.specs.declared.sent.Sent.{Sent}
 use Rattle.exchange_model.specs.declared.sent.Standing.{Standing}
 use Rattle.exchange_model.specs.declared.sent.Standing.TheVariants as standing
+use Rattle.machine_rows.specs.Free.{IsBare}
 
 -- a queue with a head of this number, and the submission of the number
 a_head : (P : Type 0) (Q : Sent → Type 0) (o found : Option Sent) (number : ℕ) (submission : Submission)
@@ -105,6 +106,16 @@ pub no_code : (code_of : Sent → Option (List ℕ)) (o : Option Sent)
 no_code code_of None e h has = cc
 no_code code_of (Some s) e h has =
     refused_mark ⊥ s.tries s.mark (same_Some (standing_of s.tries s.mark) standing.Refused e) (λ code m. has s code m (sym h))
+
+-- what is said of a refused one isn't free: it has the code
+pub refused_speaks : (o found : Option Sent) → Some standing.Refused ≡ option_map (λ (s : Sent). standing_of s.tries s.mark) found
+    → found ≡ o → IsBare (standing_reply o) → ⊥
+refused_speaks None found e f bare =
+    let absent : Some standing.Refused ≡ None = e ∙ ap (option_map (λ (s : Sent). standing_of s.tries s.mark)) f in cc
+refused_speaks (Some s) found e f bare =
+    let is : standing.Refused ≡ standing_of s.tries s.mark =
+    same_Some standing.Refused (standing_of s.tries s.mark) (e ∙ ap (option_map (λ (t : Sent). standing_of t.tries t.mark)) f) in
+    refused_mark ⊥ s.tries s.mark (sym is) (λ code m. subst (λ (k : Mark). IsBare (mark_reply s.tries k)) m bare)
 
 -- Ask
 pub asks_pull : (mpc address copied : List ℕ) (by : Route) (event : Event) (signal : Signal) (outcome : Outcome)

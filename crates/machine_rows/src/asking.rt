@@ -1,8 +1,10 @@
 //! What an end has to send is asked for (One-Way/Push and One-Way/Pull, ebMS 3.0 Core, section 2.2).
-ghost use Rattle.std.specs.Prelude.{◌≡◌, [], IfOk};
+ghost use Rattle.std.specs.Prelude.{◌≡◌, [], IfOk, IsOk};
 ghost use Rattle.exchange_model.specs.Table.{Takes, Asks, AsksBy, message_of};
 ghost use Rattle.exchange_model.specs.Submitting.{address_of};
+ghost use Rattle.exchange_model.specs.declared.outcome.Outcome.{Outcome as OutcomeValue};
 ghost use Rattle.end_tables.specs.Standing.{CanStand};
+ghost use Rattle.machine_rows.specs.Free.{IsFree};
 
 use crate::rows::{gives, rests, room_for_one};
 use crate::signals::pull_request;
@@ -18,6 +20,7 @@ use std::alloc::Global;
 pub fn take(alloc: Global, tables: &EndTables) -> Result<Outcome, NoMemory>
     ensures row { IfOk result (Takes tables.now.end) }
     ensures stands { IfOk result (λ outcome. CanStand tables.now.end outcome.effects) }
+    ensures free { (row : OutcomeValue) → Takes tables.now.end row → IsFree row → IsOk result }
 {
     let Some(number) = tables.head(&Queue::Push) else {
         return Ok(rests(alloc, Reply::Nothing));
@@ -77,6 +80,7 @@ pub fn message_of(alloc: Global, submission: &Submission) -> Result<Message, NoM
 pub fn ask(alloc: Global, modes: &Modes, event: &Event, name: &Text) -> Result<Outcome, NoMemory>
     ensures row { IfOk result (Asks modes.now event.now name.now) }
     ensures rests { IfOk result (λ outcome. outcome.effects ≡ []) }
+    ensures free { (row : OutcomeValue) → Asks modes.now event.now name.now row → IsFree row → IsOk result }
 {
     match modes.named(name) {
         None => Ok(rests(alloc, Reply::NoMode)),
@@ -87,6 +91,7 @@ pub fn ask(alloc: Global, modes: &Modes, event: &Event, name: &Text) -> Result<O
 fn ask_by(alloc: Global, route: &Route, event: &Event) -> Result<Outcome, NoMemory>
     ensures row { IfOk result (AsksBy route.now event.now) }
     ensures rests { IfOk result (λ outcome. outcome.effects ≡ []) }
+    ensures free { (row : OutcomeValue) → AsksBy route.now event.now row → IsFree row → IsOk result }
 {
     match route {
         Route::Push { .. } => Ok(rests(alloc, Reply::NoMode)),

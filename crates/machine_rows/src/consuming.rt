@@ -1,8 +1,10 @@
 //! The consumer and the producer at this end ask.
-ghost use Rattle.std.specs.Prelude.{◌≡◌, [], IfOk, Some, option_map};
+ghost use Rattle.std.specs.Prelude.{◌≡◌, [], IfOk, IsOk, Some, option_map};
 ghost use Rattle.exchange_model.specs.Questions.{sent_at, sent_of, standing_of};
 ghost use Rattle.exchange_model.specs.Table.{Confirms, Rests, read_reply, standing_reply};
+ghost use Rattle.exchange_model.specs.declared.outcome.Outcome.{Outcome as OutcomeValue};
 ghost use Rattle.end_tables.specs.Standing.{CanStand};
+ghost use Rattle.machine_rows.specs.Free.{IsBare, IsFree};
 
 use crate::rows::{gives, rests, room_for_one};
 use as4_effects::Effect;
@@ -16,6 +18,7 @@ use std::alloc::Global;
 pub fn read(alloc: Global, tables: &EndTables, n: u64) -> Result<Outcome, NoMemory>
     ensures row { IfOk result (Rests (read_reply tables.now.end n)) }
     ensures stands { IfOk result (λ outcome. CanStand tables.now.end outcome.effects) }
+    ensures free { (row : OutcomeValue) → Rests (read_reply tables.now.end n) row → IsFree row → IsOk result }
 {
     Ok(rests(alloc, read_reply(alloc, tables, n)?))
 }
@@ -23,7 +26,8 @@ pub fn read(alloc: Global, tables: &EndTables, n: u64) -> Result<Outcome, NoMemo
 /// The reply to `Read`.
 #[tactic(auto, unfolding(exchange_model::specs::Table::read_reply))]
 fn read_reply(alloc: Global, tables: &EndTables, n: u64) -> Result<Reply, NoMemory>
-    ensures { IfOk result (λ reply. reply ≡ read_reply tables.now.end n) }
+    ensures reply { IfOk result (λ reply. reply ≡ read_reply tables.now.end n) }
+    ensures free { IsBare (read_reply tables.now.end n) → IsOk result }
 {
     match tables.read(n) {
         Held::Gone => Ok(Reply::Gone),
@@ -40,6 +44,7 @@ fn read_reply(alloc: Global, tables: &EndTables, n: u64) -> Result<Reply, NoMemo
 pub fn confirm(alloc: Global, tables: &EndTables, upto: u64) -> Result<Outcome, NoMemory>
     ensures row { IfOk result (Confirms tables.now.end upto) }
     ensures stands { IfOk result (λ outcome. CanStand tables.now.end outcome.effects) }
+    ensures free { (row : OutcomeValue) → Confirms tables.now.end upto row → IsFree row → IsOk result }
 {
     if upto < tables.confirmed() {
         return Ok(rests(alloc, Reply::Gone));
@@ -55,13 +60,15 @@ pub fn confirm(alloc: Global, tables: &EndTables, upto: u64) -> Result<Outcome, 
 pub fn status(alloc: Global, tables: &EndTables, id: &MessageId) -> Result<Outcome, NoMemory>
     ensures row { IfOk result (Rests (standing_reply (sent_of id.now tables.now.end.sent))) }
     ensures stands { IfOk result (λ outcome. CanStand tables.now.end outcome.effects) }
+    ensures free { (row : OutcomeValue) → Rests (standing_reply (sent_of id.now tables.now.end.sent)) row → IsFree row → IsOk result }
 {
     Ok(rests(alloc, standing_reply(alloc, tables, id)?))
 }
 
 /// The reply to `Status`.
 fn standing_reply(alloc: Global, tables: &EndTables, id: &MessageId) -> Result<Reply, NoMemory>
-    ensures { IfOk result (λ reply. reply ≡ standing_reply (sent_of id.now tables.now.end.sent)) }
+    ensures reply { IfOk result (λ reply. reply ≡ standing_reply (sent_of id.now tables.now.end.sent)) }
+    ensures free { IsBare (standing_reply (sent_of id.now tables.now.end.sent)) → IsOk result }
 {
     let Some(number) = tables.number_of(id) else {
         return Ok(Reply::Unknown);

@@ -1,8 +1,10 @@
 //! Each event has its rows.
-ghost use Rattle.std.specs.Prelude.{◌≡◌, IfOk, IsTrue};
+ghost use Rattle.std.specs.Prelude.{◌≡◌, IfOk, IsOk, IsTrue};
 ghost use Rattle.end_tables.specs.Standing.{CanStand};
 ghost use Rattle.exchange_model.specs.Coming.{may_come};
 ghost use Rattle.exchange_model.specs.Table.{RowOf, Comes};
+ghost use Rattle.exchange_model.specs.declared.outcome.Outcome.{Outcome as OutcomeValue};
+ghost use Rattle.machine_rows.specs.Free.{IsFree};
 
 use crate::{asking, coming, consuming, submitting};
 use as4_values::{Message, NoMemory};
@@ -21,6 +23,9 @@ pub fn row_of(
 ) -> Result<Outcome, NoMemory>
     ensures row { IfOk result (RowOf modes.now tables.now.end event.now event.now.what) }
     ensures stands { IfOk result (λ outcome. CanStand tables.now.end outcome.effects) }
+
+    // Where the row needs no memory, want of memory isn't told in its place.
+    ensures free { (row : OutcomeValue) → RowOf modes.now tables.now.end event.now event.now.what row → IsFree row → IsOk result }
 {
     match &event.what {
         What::Submit {
@@ -50,6 +55,7 @@ fn row_of_message(
     requires { IsTrue (may_come (What.Came message.now)) }
     ensures row { IfOk result (Comes modes.now tables.now.end event.now message.now) }
     ensures stands { IfOk result (λ outcome. CanStand tables.now.end outcome.effects) }
+    ensures free { (row : OutcomeValue) → Comes modes.now tables.now.end event.now message.now row → IsFree row → IsOk result }
 {
     match message {
         Message::User { header, payloads } => {

@@ -1,8 +1,10 @@
 //! A message is handed in to be sent, and the clock is set.
-ghost use Rattle.std.specs.Prelude.{◌≡◌, ◌<◌, IfOk, false, length};
+ghost use Rattle.std.specs.Prelude.{◌≡◌, ◌<◌, IfOk, IsOk, false, length};
 ghost use Rattle.exchange_model.specs.Submitting.{are_too_large};
 ghost use Rattle.exchange_model.specs.Table.{Submits, TakesIn, Ticks};
+ghost use Rattle.exchange_model.specs.declared.outcome.Outcome.{Outcome as OutcomeValue};
 ghost use Rattle.end_tables.specs.Standing.{CanStand};
+ghost use Rattle.machine_rows.specs.Free.{IsFree};
 
 use crate::rows::{gives, rests, room_for_one};
 use as4_effects::{Effect, Tick};
@@ -29,6 +31,8 @@ pub fn submit(
 ) -> Result<Outcome, NoMemory>
     ensures row { IfOk result (Submits modes.now tables.now.end event.now name.now conversation.now loads.now) }
     ensures stands { IfOk result (λ outcome. CanStand tables.now.end outcome.effects) }
+    ensures free { (row : OutcomeValue) → Submits modes.now tables.now.end event.now name.now conversation.now loads.now row
+        → IsFree row → IsOk result }
 {
     let Some(mode) = modes.named(name) else {
         return Ok(rests(alloc, Reply::NoMode));
@@ -78,6 +82,7 @@ fn take_in(
 pub fn tick(alloc: Global, tables: &EndTables, event: &Event) -> Result<Outcome, NoMemory>
     ensures row { IfOk result (Ticks tables.now.end event.now) }
     ensures stands { IfOk result (λ outcome. CanStand tables.now.end outcome.effects) }
+    ensures free { (row : OutcomeValue) → Ticks tables.now.end event.now row → IsFree row → IsOk result }
 {
     if event.stamp <= tables.moment() {
         return Ok(rests(alloc, Reply::Ticked { failed: 0 }));

@@ -1,7 +1,12 @@
+mod arrivals;
+mod replayed;
 mod rig;
+mod said;
+mod steps;
 
-use rig::{End, Said, Step, right_steps};
+use rig::right_steps;
 use std::alloc::{AllocError, Global};
+use steps::{End, Said, Step};
 
 /// What happens at one of two ends, and what it says.
 type Happens = (End, Step, Said);
@@ -19,6 +24,57 @@ const A_REPEAT: Steps = &[
     (End::B, Step::Read(1), Said::NoEntry),
 ];
 
+/// A message is taken over once, and not before it came; its repeat isn't delivered anew.
+const TAKEN_OVER: Steps = &[
+    (End::A, Step::Submit("invoice"), Said::Submitted(0)),
+    (End::A, Step::Take, Said::Push),
+    (End::B, Step::Confirm(0), Said::NoEntry),
+    (End::B, Step::ConfirmLightly(0), Said::NoEntry),
+    (End::B, Step::Hear, Said::Receipt),
+    (End::B, Step::Confirm(0), Said::Confirmed(0)),
+    (End::B, Step::Confirm(0), Said::Gone),
+    (End::B, Step::ConfirmLightly(0), Said::Gone),
+    (End::B, Step::Read(0), Said::Gone),
+    (End::B, Step::Hear, Said::Receipt),
+    (End::B, Step::Inbox, Said::Count(1)),
+    (End::B, Step::Read(0), Said::Gone),
+];
+
+/// Ticks and confirmations do without memory what they do with it.
+const LIGHTLY: Steps = &[
+    (End::A, Step::Submit("once"), Said::Submitted(0)),
+    (End::A, Step::Take, Said::Push),
+    (End::B, Step::Hear, Said::Receipt),
+    (End::B, Step::ConfirmLightly(0), Said::Confirmed(0)),
+    (End::B, Step::Read(0), Said::Gone),
+    (End::A, Step::TickLightly(999), Said::Ticked(0)),
+    (End::A, Step::TickLightly(999), Said::Ticked(0)),
+    (End::A, Step::Status, Said::Pending(1)),
+    (End::A, Step::TickLightly(1000), Said::Ticked(1)),
+    (End::A, Step::Status, Said::Failed),
+    (End::A, Step::Tick(1000), Said::Ticked(0)),
+];
+
+/// What no mode takes, and what is too large, is said at once and changes nothing.
+const NOT_TAKEN: Steps = &[
+    (End::A, Step::Submit("none"), Said::NoMode),
+    (End::A, Step::Ask("none"), Said::NoMode),
+    (End::A, Step::SubmitTooMuch("invoice"), Said::TooLarge),
+    (End::A, Step::StatusOf("none@x"), Said::Unknown),
+    (End::A, Step::Take, Said::Nothing),
+    (End::A, Step::Size, Said::Count(9)),
+];
+
+/// A message for which there is no mode is refused, and not delivered.
+const NO_MODE: Steps = &[
+    (End::A, Step::Submit("invoice"), Said::Submitted(0)),
+    (End::A, Step::Take, Said::Push),
+    (End::B, Step::HearOfAnotherAction, Said::Error(10)),
+    (End::B, Step::Inbox, Said::Count(0)),
+    (End::B, Step::Size, Said::Count(9)),
+    (End::B, Step::Hear, Said::Receipt),
+];
+
 /// A pull request for a channel that no mode names is refused, and no record is written.
 const NO_CHANNEL: Steps = &[
     (End::A, Step::Pull("x"), Said::Error(1)),
@@ -29,7 +85,7 @@ const NO_CHANNEL: Steps = &[
 /// What waits in a channel is pulled in order, and again once it is due.
 const PULLS: Steps = &[
     (End::A, Step::Ask("pulled"), Said::Request),
-    (End::A, Step::Ask("once"), Said::Other),
+    (End::A, Step::Ask("once"), Said::NoMode),
     (End::A, Step::Submit("pulled"), Said::Submitted(0)),
     (End::A, Step::Submit("pulled"), Said::Submitted(1)),
     (End::A, Step::Pull("drill-m"), Said::User(0)),
@@ -75,8 +131,12 @@ const ERRORS: Steps = &[
     (End::A, Step::Status, Said::Refused),
 ];
 
-const EXCHANGES: [Steps; 6] = [
+const EXCHANGES: [Steps; 10] = [
     A_REPEAT,
+    TAKEN_OVER,
+    LIGHTLY,
+    NOT_TAKEN,
+    NO_MODE,
     NO_CHANNEL,
     PULLS,
     A_LOST_RECEIPT,

@@ -1,4 +1,5 @@
 pub mod PlanLemmas
+pub mod PreparedLemmas
 pub mod RecordLemmas
 pub mod ReplayLemmas
 pub mod SmallLemmas

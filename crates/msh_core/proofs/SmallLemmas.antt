@@ -1,5 +1,5 @@
 -- Ticks and confirmations.
-use Rattle.std.proofs.Common.{◌≡◌, ℕ, ◌+◌, ◌<◌, ◌≤◌, List, [], ◌∷◌, Bool, true, false, nat_le, length, map, length-append, refl, ap, sym, subst, ◌∙◌}
+use Rattle.std.proofs.Common.{◌≡◌, ℕ, ◌+◌, ◌<◌, ◌≤◌, List, [], ◌∷◌, Bool, true, false, nat_le, length, map, length-append, refl, ap, sym, subst, ◌∙◌, arith}
 use Rattle.std.specs.Bool.{MatchBool}
 use Rattle.std.specs.List.{count_by}
 use Rattle.std.proofs.lemmas.Bool.{le-leb, lt-leb, lt-ltb, le-ltb}
@@ -10,6 +10,7 @@ use Rattle.as4_effects.specs.declared.effect.Effect.TheVariants as effect
 use Rattle.as4_effects.specs.declared.effect.Tick.{Tick}
 use Rattle.as4_values.specs.declared.mode.Mode.{Mode}
 use Rattle.exchange_model.specs.Apply.{after, applied, failed_if_spent, record_len}
+use Rattle.exchange_model.specs.Coming.{may_come}
 use Rattle.exchange_model.specs.End.{End}
 use Rattle.exchange_model.specs.Questions.{is_spent}
 use Rattle.exchange_model.specs.Table.{Step, RowOf, Ticks, Confirms, IsLimited, has_room}
@@ -20,7 +21,8 @@ use Rattle.exchange_model.specs.declared.reply.Reply.TheVariants as reply
 use Rattle.exchange_model.specs.declared.what.What.{What}
 use Rattle.exchange_model.specs.declared.what.What.TheVariants as what
 use Rattle.msh_core.specs.Machine.{Machine}
-use Rattle.msh_core.specs.Small.{PlansFor, StandsFor}
+use Rattle.msh_core.specs.Small.{CanGo, IsSmallReady, PlansFor, StandsFor}
+use Rattle.msh_core.specs.declared.small.SmallPlan.{SmallPlan}
 use Rattle.msh_core.specs.declared.small.SmallPlan.TheVariants as plan
 
 at_true : (P Q : Type 0) (b : Bool) → b ≡ true → P → MatchBool b P Q
@@ -205,3 +207,20 @@ pub rest_done : (end : End) (r : Reply) (outcome : Outcome) → StandsFor end (p
 unfolding applied
 rest_done end r outcome stands =
     (ap (λ (o : Outcome). applied o.effects end) (sym stands), ap (λ (o : Outcome). o.reply) (sym stands))
+
+-- what is planned for every tick to a moment, and can go, is ready
+pub tick_ready : (machine : Machine) (stamp : ℕ) (p : SmallPlan) → stamp ≤ 253402300799999
+    → ((event : Event) → event.what ≡ what.Tick → event.stamp ≡ stamp → PlansFor machine event p) → CanGo machine.end p
+    → IsSmallReady machine p
+unfolding may_come
+tick_ready machine stamp p dated planned goes =
+    let event : Event = record { stamp = stamp; nonce = 0; what = what.Tick; dated = dated; deliverable = refl } in
+    record { planned = (event, planned event refl refl); goes = goes }
+
+-- and so is what is planned for every confirmation up to a message
+pub confirm_ready : (machine : Machine) (upto : ℕ) (p : SmallPlan)
+    → ((event : Event) → event.what ≡ what.Confirm upto → PlansFor machine event p) → CanGo machine.end p → IsSmallReady machine p
+unfolding may_come
+confirm_ready machine upto p planned goes =
+    let event : Event = record { stamp = 0; nonce = 0; what = what.Confirm upto; dated = omega arith; deliverable = refl } in
+    record { planned = (event, planned event refl); goes = goes }

@@ -6,7 +6,8 @@ use Rattle.as4_values.specs.declared.mode.Mode.{Mode}
 use Rattle.end_tables.specs.Rooms.{Rooms, HasRoom, queue_for}
 use Rattle.end_tables.specs.Standing.{CanStand}
 use Rattle.exchange_model.specs.End.{End}
-use Rattle.exchange_model.specs.Table.{has_room}
+use Rattle.exchange_model.specs.Table.{Step, has_room}
+use Rattle.exchange_model.specs.declared.event.Event.{Event}
 use Rattle.exchange_model.specs.declared.outcome.Outcome.{Outcome}
 use Rattle.exchange_model.specs.declared.sent.Sent.{Sent}
 
@@ -26,8 +27,9 @@ abbrev pub HaveRoom : Rooms → List Sent → List Effect → Type 0
 HaveRoom rooms sent [] = Unit {0}
 HaveRoom rooms sent (effect ∷ effects) = HasRoom rooms sent effect
 
--- the plan can be carried out as it is
+-- the plan is what this machine gives to an event, as it stands, and can be carried out
 pub record IsReady (machine : Machine) (plan : Planned) : Type 0 where
+  pub step : (event : Event) × Step machine.modes machine.end event plan.outcome
   pub stands : CanStand machine.end plan.outcome.effects
   pub queues : plan.queues ≡ map (queue_for machine.end.sent) plan.outcome.effects
   pub room : HaveRoom machine.rooms machine.end.sent plan.outcome.effects

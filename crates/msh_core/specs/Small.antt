@@ -22,15 +22,20 @@ StandsFor end (plan.Confirm upto) outcome =
     outcome ≡ record { effects = effect.Confirmed upto ∷ []; reply = reply.Confirmed upto }
 StandsFor end (plan.Rest r) outcome = outcome ≡ record { effects = []; reply = r }
 
--- the plan can be carried out as it is; its record has 16 bytes
-abbrev pub IsSmallReady : End → SmallPlan → Type 0
-IsSmallReady end (plan.Tick moment) =
-    (end.moment < moment) × (moment ≤ 253402300799999) × (end.size + 16 ≤ journal_limit)
-IsSmallReady end (plan.Confirm upto) =
-    (end.confirmed ≤ upto) × (upto < length end.inbox) × (end.size + 16 ≤ journal_limit)
-IsSmallReady end (plan.Rest r) = Unit {0}
-
 -- the plan stands for what the machine gives to an event
 abbrev pub PlansFor : Machine → Event → SmallPlan → Type 0
 PlansFor machine event p =
     (outcome : Outcome) × StandsFor machine.end p outcome × Step machine.modes machine.end event outcome
+
+-- the plan can be carried out; its record has 16 bytes
+abbrev pub CanGo : End → SmallPlan → Type 0
+CanGo end (plan.Tick moment) =
+    (end.moment < moment) × (moment ≤ 253402300799999) × (end.size + 16 ≤ journal_limit)
+CanGo end (plan.Confirm upto) =
+    (end.confirmed ≤ upto) × (upto < length end.inbox) × (end.size + 16 ≤ journal_limit)
+CanGo end (plan.Rest r) = Unit {0}
+
+-- the plan is what this machine gives to an event, as it stands, and can be carried out
+pub record IsSmallReady (machine : Machine) (p : SmallPlan) : Type 0 where
+  pub planned : (event : Event) × PlansFor machine event p
+  pub goes : CanGo machine.end p

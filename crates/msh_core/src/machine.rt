@@ -1,4 +1,4 @@
-ghost use Rattle.std.specs.Prelude.{◌≡◌, ◌≤◌, IfOk, IfSome, None, false, length, option_copied, option_map, true};
+ghost use Rattle.std.specs.Prelude.{◌≡◌, ◌≤◌, IfOk, IfSome, IsOk, None, false, length, option_copied, option_map, true};
 ghost use Rattle.as4_effects.specs.Effects.{effects_limit};
 ghost use Rattle.end_tables.specs.Rooms.{new_tables};
 ghost use Rattle.end_tables.specs.Standing.{CanStand};
@@ -6,6 +6,8 @@ ghost use Rattle.end_tables.specs.Totals.{AreTotals};
 ghost use Rattle.exchange_model.specs.Apply.{applied, record_len};
 ghost use Rattle.exchange_model.specs.Questions.{sent_at};
 ghost use Rattle.exchange_model.specs.Table.{IsLimited, Step, has_room};
+ghost use Rattle.exchange_model.specs.declared.outcome.Outcome.{Outcome as OutcomeValue};
+ghost use Rattle.machine_rows.specs.Free.{IsFree};
 ghost use Rattle.msh_core.specs.Machine.{IsReady};
 
 use crate::applying::{apply_all, room_for};
@@ -16,12 +18,15 @@ use end_tables::{EndTables, Totals};
 use event_code::body_len;
 use exchange_model::{Event, Outcome, Reply};
 use machine_rows::{rests, row_of};
+use outcome_laws::an_event_has_one_outcome;
 use pmodes::Modes;
 use std::alloc::Global;
 use std::marker::Model;
 
 /// How many bytes a journal has at most.
 pub const MAX_JOURNAL: u64 = 1_073_741_824;
+
+const _: () = prove!(MAX_JOURNAL == 1073741824);
 
 /// One end with its processing modes. It asks no clock, disk or peer: what happens comes in as events.
 #[derive(Drop)]
@@ -51,18 +56,25 @@ impl Core {
         }
     }
 
-    /// What the end does with an event, with all the memory that it takes. Nothing changes but room.
+    /// What the end does with an event, with all the memory that it takes. Nothing changes but room. Where nothing is to
+    /// change, and the reply has no text in it, no memory is taken.
     pub fn prepare(&mut self, event: &Event) -> Result<Plan, NoMemory>
         ensures step { IfOk result (λ plan. Step self.old.modes self.old.end event.now plan.outcome) }
         ensures ready { IfOk result (IsReady self.new) }
+        ensures free { (outcome : OutcomeValue) → Step self.old.modes self.old.end event.now outcome → IsFree outcome → IsOk result }
         ensures end { self.new.end ≡ self.old.end }
         ensures modes { self.new.modes ≡ self.old.modes }
     {
         let row = row_of(self.alloc, &self.modes, &self.tables, event)?;
         let outcome = limited(self.alloc, &self.tables, row);
+        if outcome.effects.items().is_empty() {
+            return Ok(Plan::of(outcome, Seq::of(Vec::new(self.alloc))));
+        }
         match room_for(self.alloc, &mut self.tables, &outcome.effects) {
             Ok(queues) => Ok(Plan::of(outcome, queues)),
             Err(error) => {
+                // So no other outcome takes no memory.
+                an_event_has_one_outcome();
                 drop(outcome);
                 Err(error)
             }

@@ -5,7 +5,7 @@ use as4_values::Seq;
 use exchange_model::{Outcome, Reply};
 use std::marker::Model;
 
-/// What an end is about to do: all memory for it is taken.
+/// What an end is about to do: all memory for it is taken. `Core::prepare` alone makes one.
 #[derive(Drop)]
 pub struct Plan {
     outcome: Outcome,
@@ -22,7 +22,7 @@ impl Model for Plan {
 
 impl Plan {
     /// The outcome, with the queue in which each effect moves a submission.
-    pub fn of(outcome: Outcome, queues: Seq<Queue>) -> Plan
+    pub(crate) fn of(outcome: Outcome, queues: Seq<Queue>) -> Plan
         ensures { result ≡ record { outcome = outcome; queues = queues } }
     {
         Plan { outcome, queues }
@@ -41,7 +41,7 @@ impl Plan {
     }
 
     /// Takes the plan apart.
-    pub fn into_parts(self) -> (Seq<Effect>, Seq<Queue>, Reply)
+    pub(crate) fn into_parts(self) -> (Seq<Effect>, Seq<Queue>, Reply)
         ensures effects { result.0 ≡ self.outcome.effects }
         ensures queues { result.1 ≡ self.queues }
         ensures reply { result.2 ≡ self.outcome.reply }

@@ -27,7 +27,7 @@ impl From<NoMemory> for ReplayRefusal {
 }
 
 impl Core {
-    /// Makes the effects of one record again.
+    /// Makes the effects of one record again. An unfit first effect is told whatever memory there is.
     pub fn replay(&mut self, effects: Seq<Effect>) -> Result<(), ReplayRefusal>
         requires some { 1 ≤ length effects }
         requires counted { length effects ≤ effects_limit }
@@ -35,6 +35,7 @@ impl Core {
         ensures ok { OnOk result (self.new.end ≡ applied effects self.old.end) }
         ensures fit { OnOk result (first_unfit effects self.old.end ≡ None) }
         ensures unfit { (index : ℕ) → result ≡ Err (ReplayRefusal.Unfit index) → first_unfit effects self.old.end ≡ Some index }
+        ensures first { first_unfit effects self.old.end ≡ Some 0 → result ≡ Err (ReplayRefusal.Unfit 0) }
         ensures modes { self.new.modes ≡ self.old.modes }
     {
         let len = record_len(&effects);
@@ -50,6 +51,7 @@ fn replay_all(tables: &mut EndTables, effects: Seq<Effect>) -> Result<(), Replay
     ensures ok { OnOk result (tables.new.end ≡ after_all effects tables.old.end) }
     ensures fit { OnOk result (first_unfit effects tables.old.end ≡ None) }
     ensures unfit { (index : ℕ) → result ≡ Err (ReplayRefusal.Unfit index) → first_unfit effects tables.old.end ≡ Some index }
+    ensures first { first_unfit effects tables.old.end ≡ Some 0 → result ≡ Err (ReplayRefusal.Unfit 0) }
 {
     let mut index = 0;
     for effect in effects.into_vec() {

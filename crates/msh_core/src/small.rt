@@ -24,13 +24,13 @@ pub enum SmallPlan {
 }
 
 impl Core {
-    ghost use Rattle.msh_core.specs.Small.{StandsFor, IsSmallReady, PlansFor};
+    ghost use Rattle.msh_core.specs.Small.{CanGo, IsSmallReady, PlansFor, StandsFor};
 
     /// What a tick to this moment does, in milliseconds since 1970-01-01T00:00:00Z.
     pub fn plan_tick(&self, stamp: u64) -> SmallPlan
         requires { stamp ≤ MAX_MOMENT }
         ensures step { (event : EventValue) → event.what ≡ What.Tick → event.stamp ≡ stamp → PlansFor self.now event result }
-        ensures ready { IsSmallReady self.now.end result }
+        ensures ready { IsSmallReady self.now result }
     {
         if stamp <= self.tables.moment() {
             return SmallPlan::Rest(Reply::Ticked { failed: 0 });
@@ -44,7 +44,7 @@ impl Core {
     /// What a confirmation of the messages up to this one does.
     pub fn plan_confirm(&self, upto: u64) -> SmallPlan
         ensures step { (event : EventValue) → event.what ≡ What.Confirm upto → PlansFor self.now event result }
-        ensures ready { IsSmallReady self.now.end result }
+        ensures ready { IsSmallReady self.now result }
     {
         if upto < self.tables.confirmed() {
             return SmallPlan::Rest(Reply::Gone);
@@ -76,7 +76,7 @@ impl Core {
 
     /// Does what was planned on the present state.
     pub fn commit_small(&mut self, plan: SmallPlan) -> Reply
-        requires { IsSmallReady self.old.end plan }
+        requires { IsSmallReady self.old plan }
         ensures step { (outcome : OutcomeValue) → StandsFor self.old.end plan outcome
             → (self.new.end ≡ applied outcome.effects self.old.end) × (result ≡ outcome.reply) }
         ensures modes { self.new.modes ≡ self.old.modes }
@@ -96,7 +96,7 @@ impl Core {
 
     #[tactic(auto, unfolding(exchange_model::specs::Apply::is_fit, end_tables::specs::Rooms::HasRoom, end_tables::specs::Rooms::queue_for), using(crate::proofs::RecordLemmas::size_after))]
     fn commit_tick(&mut self, moment: u64) -> Reply
-        requires { IsSmallReady self.old.end (SmallPlan.Tick moment) }
+        requires { CanGo self.old.end (SmallPlan.Tick moment) }
         ensures step { (outcome : OutcomeValue) → StandsFor self.old.end (SmallPlan.Tick moment) outcome
             → (self.new.end ≡ applied outcome.effects self.old.end) × (result ≡ outcome.reply) }
         ensures modes { self.new.modes ≡ self.old.modes }
@@ -110,7 +110,7 @@ impl Core {
 
     #[tactic(auto, unfolding(exchange_model::specs::Apply::is_fit, end_tables::specs::Rooms::HasRoom, end_tables::specs::Rooms::queue_for), using(crate::proofs::RecordLemmas::size_after))]
     fn commit_confirm(&mut self, upto: u64) -> Reply
-        requires { IsSmallReady self.old.end (SmallPlan.Confirm upto) }
+        requires { CanGo self.old.end (SmallPlan.Confirm upto) }
         ensures step { (outcome : OutcomeValue) → StandsFor self.old.end (SmallPlan.Confirm upto) outcome
             → (self.new.end ≡ applied outcome.effects self.old.end) × (result ≡ outcome.reply) }
         ensures modes { self.new.modes ≡ self.old.modes }

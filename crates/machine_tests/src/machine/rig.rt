@@ -1,89 +1,23 @@
 //! An end with four modes, of which tests ask short questions.
-ghost use Rattle.std.specs.Prelude.{◌≤◌, IfOk, IsSome, IsTrue};
+ghost use Rattle.std.specs.Prelude.{◌≡◌, ◌≤◌, IfOk, IsSome, IsTrue};
 ghost use Rattle.exchange_model.specs.Coming.{may_come};
 ghost use Rattle.exchange_model.specs.ErrorCodes.{error_row};
 ghost use Rattle.msh_core.specs.Machine.{IsReady};
+ghost use Rattle.msh_core.specs.Small.{IsSmallReady};
 
+use super::replayed::replays;
+use super::said::summary;
+use super::steps::{End, Said, Step};
 use as4_codes::error_signal;
-use as4_effects::{delivery_fits, pairs};
+use as4_effects::{Effect, delivery_fits, pairs};
 use as4_values::{
-    ErrorItem, Load, Message, MessageId, NoMemory, Octets, Payload, PlainData, Seq, Signal,
-    SignalBody, Text, UserHeader, stamp_text,
+    Load, MAX_MOMENT, Message, MessageId, NoMemory, Octets, PlainData, Seq, Signal, SignalBody,
+    Text, UserHeader, stamp_text,
 };
 use machine_rows::{pull_request, receipt};
-use msh_core::{Core, Event, Plan, Reply, What};
+use msh_core::{Core, Event, Plan, Reply, SmallPlan, What};
 use pmodes::Modes;
 use std::alloc::Global;
-
-/// What an end said, without its texts.
-#[derive(Clone, Copy, PartialEq, Eq)]
-pub enum Said {
-    Submitted(u64),
-    Ticked(u64),
-    Push,
-    Nothing,
-    /// A pull request goes out.
-    Request,
-    /// A user message, whose identifier begins with this digit.
-    User(u8),
-    Receipt,
-    /// An error signal with this code.
-    Error(u16),
-    Quiet,
-    /// So many bytes in the first payload.
-    Entry(usize),
-    NoEntry,
-    Pending(u32),
-    Receipted,
-    Failed,
-    Refused,
-    /// So many messages in the inbox, submissions with a receipt, or bytes in the journal.
-    Count(u64),
-    Other,
-}
-
-/// What happens at an end.
-#[derive(Clone, Copy)]
-pub enum Step {
-    /// The bytes `hello` are handed in by this mode.
-    Submit(&'static str),
-    Tick(u64),
-    Take,
-    /// A pull request by this mode is asked for.
-    Ask(&'static str),
-    /// The message comes that the other end pushed last.
-    Hear,
-    /// A pull request for this channel comes.
-    Pull(&'static str),
-    /// A receipt comes of the message that it pushed last.
-    Receipt,
-    /// The same, without a copy of the header.
-    BareReceipt,
-    /// The same, with a copy that has another action.
-    OtherReceipt,
-    /// A receipt comes of the message of this identifier.
-    ReceiptOf(&'static str),
-    /// The error 0006, a warning, comes about the message that it pushed last.
-    Warning,
-    /// The error 0301, a failure, comes about it.
-    Failure,
-    Read(u64),
-    /// How the message that it pushed last stands is asked.
-    Status,
-    /// How many messages its inbox has.
-    Inbox,
-    /// How many submissions have their receipts.
-    Receipts,
-    /// How many bytes its journal has.
-    Size,
-}
-
-/// One of two ends.
-#[derive(Clone, Copy)]
-pub enum End {
-    A,
-    B,
-}
 
 const MODES: &[u8] = b"[[mode]]
 name = \"invoice\"
@@ -129,12 +63,14 @@ period = 1000
 
 /// An end, and how many events it has met.
 #[derive(Drop)]
-struct Rig {
-    core: Core,
-    alloc: Global,
+pub struct Rig {
+    pub(super) core: Core,
+    pub(super) alloc: Global,
     nonce: u128,
     /// The message that it pushed last.
-    pushed: Option<Message>,
+    pub(super) pushed: Option<Message>,
+    /// An end that makes the same effects again, from their records.
+    follower: Core,
 }
 
 /// How many steps two new ends answer as they should, up to the first that they don't.
@@ -166,18 +102,34 @@ fn right_steps_of(a: &mut Rig, b: &mut Rig, steps: &[(End, Step, Said)]) -> usiz
             return place;
         }
     }
-    steps.len()
+    if a.has_its_follower() && b.has_its_follower() {
+        steps.len()
+    } else {
+        0
+    }
 }
 
 /// An end to which nothing has happened.
 fn new_end(alloc: Global) -> Option<Rig> {
+    match (new_core(alloc), new_core(alloc)) {
+        (Some(core), Some(follower)) => Some(Rig {
+            core,
+            alloc,
+            nonce: 0,
+            pushed: None,
+            follower,
+        }),
+        (core, follower) => {
+            drop(core);
+            drop(follower);
+            None
+        }
+    }
+}
+
+pub fn new_core(alloc: Global) -> Option<Core> {
     let modes = Modes::read(alloc, MODES).ok()?;
-    Some(Rig {
-        core: Core::new(alloc, modes),
-        alloc,
-        nonce: 0,
-        pushed: None,
-    })
+    Some(Core::new(alloc, modes))
 }
 
 impl Rig {
@@ -185,13 +137,22 @@ impl Rig {
     #[tactic(auto, unfolding(exchange_model::specs::Coming::may_come))]
     fn does(&mut self, step: Step, other: &Rig) -> Option<Said> {
         match step {
-            Step::Submit(mode) => self.submits(mode),
+            Step::Submit(mode) => self.submits(mode, b"hello"),
+            Step::SubmitTooMuch(mode) => self.submits_too_much(mode),
             Step::Tick(moment) => self.ticks(moment),
+            Step::TickLightly(moment) => self.ticks_lightly(moment),
             Step::Take => self.says(What::Take),
             Step::Ask(mode) => self.asks(mode),
             Step::Hear => self.hears(other),
+            Step::HearOfAnotherAction => self.hears_of_another_action(other),
             Step::Read(n) => self.says(What::Read { n }),
+            Step::Confirm(upto) => self.says(What::Confirm { upto }),
+            Step::ConfirmLightly(upto) => {
+                let plan = self.core.plan_confirm(upto);
+                Some(self.makes(plan))
+            }
             Step::Status => self.status(),
+            Step::StatusOf(id) => self.status_of(id),
             Step::Inbox => Some(Said::Count(self.core.totals().inbox)),
             Step::Receipts => Some(Said::Count(self.core.totals().receipted)),
             Step::Size => Some(Said::Count(self.core.size())),
@@ -215,7 +176,7 @@ impl Rig {
     }
 
     /// What it says to an event.
-    fn says(&mut self, what: What) -> Option<Said>
+    pub(super) fn says(&mut self, what: What) -> Option<Said>
         requires { IsTrue (may_come what) }
     {
         let stamp = self.core.moment();
@@ -241,12 +202,32 @@ impl Rig {
         requires { IfOk prepared (IsReady self.old.core) }
     {
         match prepared {
-            Ok(plan) => Some(self.hands_out(plan)),
+            Ok(plan) => {
+                self.is_followed(plan.effects());
+                Some(self.hands_out(plan))
+            }
             Err(_) => {
                 drop(prepared);
                 None
             }
         }
+    }
+
+    /// The follower makes the effects again, where there are any.
+    fn is_followed(&mut self, effects: &Seq<Effect>)
+        ensures { self.new.core ≡ self.old.core }
+    {
+        if let Ok(effects) = effects.try_clone(self.alloc) {
+            let made = replays(&mut self.follower, effects);
+            drop(made);
+        }
+    }
+
+    /// Whether the follower stands where this end does.
+    fn has_its_follower(&self) -> bool {
+        self.core.totals() == self.follower.totals()
+            && self.core.size() == self.follower.size()
+            && self.core.moment() == self.follower.moment()
     }
 
     fn hands_out(&mut self, plan: Plan) -> Said
@@ -283,10 +264,56 @@ impl Rig {
         self.says(What::Ask { mode })
     }
 
-    /// The bytes `hello` are handed in by this mode.
+    fn ticks_lightly(&mut self, moment: u64) -> Option<Said> {
+        if moment > 1_000_000 {
+            return None;
+        }
+        let plan = self.core.plan_tick(moment);
+        Some(self.makes(plan))
+    }
+
+    fn makes(&mut self, plan: SmallPlan) -> Said
+        requires { IsSmallReady self.old.core plan }
+    {
+        self.is_followed_lightly(&plan);
+        let reply = self.core.commit_small(plan);
+        let said = summary(&reply);
+        drop(reply);
+        said
+    }
+
+    /// The follower does lightly what the end is about to do.
+    fn is_followed_lightly(&mut self, plan: &SmallPlan)
+        ensures { self.new.core ≡ self.old.core }
+    {
+        let reply = match plan {
+            SmallPlan::Tick { moment } if *moment <= MAX_MOMENT => {
+                let plan = self.follower.plan_tick(*moment);
+                self.follower.commit_small(plan)
+            }
+            SmallPlan::Confirm { upto } => {
+                let plan = self.follower.plan_confirm(*upto);
+                self.follower.commit_small(plan)
+            }
+            _ => Reply::Quiet,
+        };
+        drop(reply);
+    }
+
+    fn submits_too_much(&mut self, mode: &str) -> Option<Said> {
+        let bytes = vec![in self.alloc; 0; 15_728_641].ok()?;
+        let said = self.submits(mode, bytes.as_slice());
+        drop(bytes);
+        said
+    }
+
+    /// These bytes are handed in by this mode.
     #[tactic(auto, unfolding(exchange_model::specs::Coming::may_come))]
-    fn submits(&mut self, mode: &str) -> Option<Said> {
-        match (Text::read(self.alloc, mode.as_bytes()), hello(self.alloc)) {
+    fn submits(&mut self, mode: &str, bytes: &[u8]) -> Option<Said> {
+        match (
+            Text::read(self.alloc, mode.as_bytes()),
+            loads_of(self.alloc, bytes),
+        ) {
             (Ok(mode), Some(loads)) => self.says(What::Submit {
                 mode,
                 conversation: None,
@@ -312,17 +339,22 @@ impl Rig {
 
     /// The message that the other end pushed last comes.
     fn hears(&mut self, sender: &Rig) -> Option<Said> {
-        let message = sender.pushed.as_ref()?;
-        if !may_come(self.alloc, message) {
-            return None;
-        }
-        match message.try_clone(self.alloc) {
-            Ok(message) => self.says(What::Came(message)),
+        match sender.pushed.as_ref()?.try_clone(self.alloc) {
+            Ok(message) => self.hears_message(message),
             Err(error) => {
                 drop(error);
                 None
             }
         }
+    }
+
+    /// The message comes, where it can.
+    pub(super) fn hears_message(&mut self, message: Message) -> Option<Said> {
+        if may_come(self.alloc, &message) {
+            return self.says(What::Came(message));
+        }
+        drop(message);
+        None
     }
 
     /// The signal comes, where it was made.
@@ -383,11 +415,17 @@ impl Rig {
         let id = self.header()?.id.try_clone(self.alloc).ok()?;
         self.says(What::Status { id })
     }
+
+    #[tactic(auto, unfolding(exchange_model::specs::Coming::may_come))]
+    fn status_of(&mut self, id: &str) -> Option<Said> {
+        let id = MessageId::read(self.alloc, id.as_bytes()).ok()?;
+        self.says(What::Status { id })
+    }
 }
 
-/// The bytes `hello`.
-fn hello(alloc: Global) -> Option<Seq<Load>> {
-    match (octets(alloc, b"text/plain"), octets(alloc, b"hello")) {
+/// A text of these bytes.
+fn loads_of(alloc: Global, bytes: &[u8]) -> Option<Seq<Load>> {
+    match (octets(alloc, b"text/plain"), octets(alloc, bytes)) {
         (Some(media), Some(content)) => {
             Some(Seq::of(vec![in alloc; Load { media, content }].ok()?))
         }
@@ -447,69 +485,5 @@ fn may_come(alloc: Global, message: &Message) -> bool
             matches!(paired, Ok(true)) && delivery_fits(header, payloads)
         }
         Message::Signal(_) => true,
-    }
-}
-
-/// What a reply says, without its texts.
-fn summary(reply: &Reply) -> Said {
-    match reply {
-        Reply::Submitted { number, .. } => Said::Submitted(*number),
-        Reply::Ticked { failed } => Said::Ticked(*failed),
-        Reply::Push { .. } => Said::Push,
-        Reply::Nothing => Said::Nothing,
-        Reply::Request { .. } => Said::Request,
-        Reply::Answer(Message::User { header, .. }) => Said::User(first_digit(header.id.bytes())),
-        Reply::Answer(Message::Signal(signal)) => summary_of(&signal.body),
-        Reply::Quiet => Said::Quiet,
-        Reply::Entry { payloads, .. } => Said::Entry(first_len(payloads.items())),
-        Reply::NoEntry => Said::NoEntry,
-        Reply::Pending { tries } => Said::Pending(*tries),
-        Reply::Receipted => Said::Receipted,
-        Reply::Failed => Said::Failed,
-        Reply::RefusedWith { .. } => Said::Refused,
-        _ => Said::Other,
-    }
-}
-
-fn first_digit(id: &[u8]) -> u8 {
-    match id.first() {
-        Some(digit @ b'0'..=b'9') => *digit - b'0',
-        _ => 255,
-    }
-}
-
-fn first_len(payloads: &[Payload]) -> usize {
-    payloads
-        .first()
-        .map_or(0, |payload| payload.content.bytes().len())
-}
-
-fn summary_of(body: &SignalBody) -> Said {
-    match body {
-        SignalBody::Receipt { .. } => Said::Receipt,
-        SignalBody::Errors { items } => Said::Error(first_code(items.items())),
-        SignalBody::Pull { .. } => Said::Other,
-    }
-}
-
-fn first_code(items: &[ErrorItem]) -> u16 {
-    let Some(item) = items.first() else {
-        return 0;
-    };
-    for code in [1, 3, 6, 10, 302] {
-        if item.code.bytes() == code_bytes(code) {
-            return code;
-        }
-    }
-    0
-}
-
-fn code_bytes(code: u16) -> &'static [u8] {
-    match code {
-        1 => b"EBMS:0001",
-        3 => b"EBMS:0003",
-        6 => b"EBMS:0006",
-        10 => b"EBMS:0010",
-        _ => b"EBMS:0302",
     }
 }

@@ -1,0 +1,8 @@
+use Rattle.machine_rows.proofs.FreeLemmas.{comes}
+use Rattle.machine_rows.proofs.events.row_of_message.Goals as goal
+
+pub returns-in-User-clause-free : goal.returns-in-User-clause-free
+returns-in-User-clause-free c row h free = absurd (comes _ _ _ _ row h free)
+
+pub returns-in-Signal-clause-free : goal.returns-in-Signal-clause-free
+returns-in-Signal-clause-free c row h free = absurd (comes _ _ _ _ row h free)
