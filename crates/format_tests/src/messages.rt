@@ -3,7 +3,9 @@
 ghost use Rattle.std.specs.Prelude.{IfSome};
 ghost use Rattle.message_model.specs.Wire.{HasBoundary};
 
-use as4_message::{MessageRefusal, Wire, read_message, write_message, write_signal_file};
+use as4_message::{
+    MessageRefusal, Wire, read_message, write_message, write_message_file, write_signal_file,
+};
 use as4_values::{
     Message, MessageId, NoMemory, Octets, PlainData, Signal, SignalBody, UserHeader, stamp_text,
 };
@@ -63,6 +65,29 @@ fn are_rewritten(alloc: Global) -> Option<(bool, bool)> {
 fn a_message_is_read_and_written_again(rt: HostRuntime) -> Result<(), Fail> {
     assert_eq!(rt; are_rewritten(rt.alloc()), Some((true, true)));
     Ok(())
+}
+
+/// What stands in the message file behind the field, its media text and the empty line.
+fn body_of(file: &[u8]) -> Option<&[u8]> {
+    file.strip_prefix(b"Content-Type: ")?
+        .strip_prefix(MEDIA)?
+        .strip_prefix(b"\r\n\r\n")
+}
+
+/// Whether the message file of the message that is read has its media text and body.
+fn is_filed(alloc: Global) -> Option<bool> {
+    let message = message(alloc, BODY)?;
+    let file = write_message_file(alloc, &message);
+    drop(message);
+    let file = file.ok()?;
+    let same = body_of(file.bytes()) == Some(BODY.as_bytes());
+    drop(file);
+    Some(same)
+}
+
+#[test]
+fn a_message_is_written_as_its_file(rt: HostRuntime) {
+    assert_eq!(rt; is_filed(rt.alloc()), Some(true));
 }
 
 /// The header of the message that is read.

@@ -1,7 +1,8 @@
 ghost use Rattle.std.specs.Prelude.{◌≡◌};
 
-use as4_effects::{Queue, Tick, is_id_of, is_media_text, is_route, pairs};
-use as4_values::{MessageId, Octets, PartInfo, Payload, PlainData, Route, Seq, Text};
+use as4_effects::{Effect, Queue, Tick, is_id_of, is_media_text, is_route, pairs};
+use as4_values::{Code, MessageId, Octets, PartInfo, Payload, PlainData, Route, Seq, Text};
+use made_messages::{delivery, submission};
 use std::process::Abort;
 
 fn text(rt: &(impl Abort + AllocGlobal), word: &[u8]) -> Text {
@@ -234,4 +235,31 @@ fn a_copy_of_a_queue_is_the_same(rt: HostRuntime) {
     let queues = [Queue::Push, Queue::Channel(one), Queue::Channel(two)];
     assert!(rt; are_told_apart(&rt, &queues));
     drop(queues);
+}
+
+fn submitted(rt: &(impl Abort + AllocGlobal), number: u64) -> Effect {
+    Effect::Submitted(submission(rt.alloc(), number, 3).expect(rt, "memory"))
+}
+
+fn refused(rt: &(impl Abort + AllocGlobal), code: &[u8]) -> Effect {
+    let code = Code::read(rt.alloc(), code).expect(rt, "a code");
+    Effect::Refused { number: 0, code }
+}
+
+#[test]
+fn a_copy_of_an_effect_is_the_same(rt: HostRuntime) {
+    let effects = [
+        submitted(&rt, 0),
+        submitted(&rt, 1),
+        Effect::Ticked(Tick { moment: 1 }),
+        Effect::Tried { number: 0 },
+        Effect::Tried { number: 1 },
+        Effect::Delivered(delivery(rt.alloc()).expect(&rt, "memory")),
+        Effect::Receipted { number: 0 },
+        refused(&rt, b"EBMS:0004"),
+        refused(&rt, b"EBMS:0301"),
+        Effect::Confirmed { upto: 0 },
+    ];
+    assert!(rt; are_told_apart(&rt, &effects));
+    drop(effects);
 }
