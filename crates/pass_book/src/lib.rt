@@ -1,0 +1,11 @@
+//! One history of calls that several callers make, and what each of them has seen of it.
+#![tactic(auto)]
+
+mod crossing;
+mod keeper;
+mod pass;
+mod steps;
+mod view;
+
+pub use keeper::{Keeper, MAX_ENTRIES, Worn};
+pub use pass::Pass;
