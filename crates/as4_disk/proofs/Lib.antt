@@ -1,0 +1,5 @@
+pub mod ByteLemmas
+pub mod RunLemmas
+pub mod ImageLemmas
+pub mod MemoryLemmas
+pub mod CrashLemmas

@@ -1,0 +1,10 @@
+pub mod Bytes
+pub mod ByteLaws
+pub mod Runs
+pub mod Image
+pub mod Files
+pub mod Changes
+pub mod Picks
+pub mod Memory
+pub mod MemoryLaws
+pub mod FileState

@@ -1,0 +1,31 @@
+//! A write that is durable once it has answered.
+ghost use Rattle.std.specs.Prelude.{◌≡◌, ◌≤◌, length, is_some, OnOk};
+ghost use Rattle.as4_flow.specs.Told.{Told};
+ghost use Rattle.as4_disk.specs.Bytes.{IsOverwritten, Torn};
+ghost use Rattle.as4_disk.specs.Runs.{Goes, Follows, LeavesOnly, HasCause};
+ghost use Rattle.as4_disk.specs.Image.{On, IsOnly, TornFrom};
+
+use crate::{Disk, DiskFailed, Part};
+
+/// Writes to a part and syncs it: two device calls. At Ok each crash leaves of the part what a read gives; at any
+/// moment of the call one leaves what it might have left before, after a write that may be cut short.
+pub fn write_durably<D: Disk>(
+    disk: &mut D,
+    part: Part,
+    at: u64,
+    bytes: &[u8],
+) -> Result<(), DiskFailed>
+    requires { Told (D.seen disk.old) (λ b. at ≤ length (b part)) }
+    ensures written { OnOk result
+        (Goes (On part (IsOverwritten at bytes.now)) (D.seen disk.old) (D.seen disk.new)) }
+    ensures durable { OnOk result (Told (D.seen disk.new) (λ b. IsOnly part b (D.may_leave disk.new))) }
+    ensures tells { is_some (D.seen disk.new) ≡ is_some (D.seen disk.old) }
+
+    ensures any_moment { LeavesOnly D.moment D.left_since disk.old disk.new
+        (TornFrom part at (length bytes.now) (D.may_leave disk.old)) }
+    ensures crash { Follows (On part (Torn at (length bytes.now))) (D.may_leave disk.old) (D.may_leave disk.new) }
+    ensures cause { HasCause (D.fault_count disk.old) (D.fault_count disk.new) result }
+{
+    disk.write_at(part, at, bytes)?;
+    disk.sync(part)
+}

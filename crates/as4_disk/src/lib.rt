@@ -1,0 +1,22 @@
+//! A disk of three parts that may crash at any moment: what it is, in memory and on the system's files.
+#![tactic(auto)]
+
+mod bytes;
+mod change;
+mod crash;
+mod disk;
+mod durable;
+mod file;
+mod files;
+mod memory;
+mod part;
+mod reading;
+
+pub use change::Pick;
+pub use disk::{Disk, DiskFailed};
+pub use durable::write_durably;
+pub use file::{FileDisk, Paths};
+pub use files::Files;
+pub use memory::{MemoryDisk, leaves_all_that_may_be};
+pub use part::Part;
+pub use reading::{ReadFault, read_some};
