@@ -1,4 +1,5 @@
 mod arrivals;
+mod filling;
 mod replayed;
 mod rig;
 mod said;
@@ -204,4 +205,34 @@ fn right_tries(alloc: Global) -> Option<usize> {
 #[test]
 fn all_tries_are_spent(rt: HostRuntime) {
     assert_eq!(rt; right_tries(rt.alloc()), Some(3008));
+}
+
+/// In a full journal nothing has room, and all that needs no record is as before.
+const A_FULL_JOURNAL: Steps = &[
+    (End::B, Step::Submit("once"), Said::Submitted(0)),
+    (End::B, Step::Take, Said::Push),
+    (End::A, Step::Submit("invoice"), Said::Submitted(0)),
+    (End::A, Step::Take, Said::Push),
+    (End::B, Step::Fill, Said::Count(1_073_741_814)),
+    (End::B, Step::Tick(5000), Said::Full),
+    (End::B, Step::TickLightly(5000), Said::Full),
+    (End::B, Step::Submit("invoice"), Said::Full),
+    (End::B, Step::Hear, Said::Full),
+    (End::B, Step::Receipt, Said::Full),
+    (End::B, Step::Failure, Said::Full),
+    (End::B, Step::Confirm(70), Said::Full),
+    (End::B, Step::ConfirmLightly(70), Said::Full),
+    (End::B, Step::Confirm(69), Said::Gone),
+    (End::B, Step::Status, Said::Pending(1)),
+    (End::B, Step::Take, Said::Nothing),
+    (End::B, Step::Inbox, Said::Count(71)),
+    (End::B, Step::Size, Said::Count(1_073_741_814)),
+];
+
+#[test]
+fn a_full_journal_changes_nothing(rt: HostRuntime) {
+    assert_eq!(rt;
+        right_steps(rt.alloc(), A_FULL_JOURNAL),
+        A_FULL_JOURNAL.len()
+    );
 }

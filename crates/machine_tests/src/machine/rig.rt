@@ -145,6 +145,7 @@ impl Rig {
             Step::Ask(mode) => self.asks(mode),
             Step::Hear => self.hears(other),
             Step::HearOfAnotherAction => self.hears_of_another_action(other),
+            Step::Fill => self.fills(other),
             Step::Read(n) => self.says(What::Read { n }),
             Step::Confirm(upto) => self.says(What::Confirm { upto }),
             Step::ConfirmLightly(upto) => {

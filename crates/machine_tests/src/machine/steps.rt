@@ -52,6 +52,8 @@ pub enum Step {
     Hear,
     /// The same with another action, for which there is no mode.
     HearOfAnotherAction,
+    /// Messages come until ten bytes are left in the journal, and all but the last are taken over.
+    Fill,
     /// A pull request for this channel comes.
     Pull(&'static str),
     /// A receipt comes of the message that it pushed last.
