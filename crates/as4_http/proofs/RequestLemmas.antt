@@ -1,0 +1,77 @@
+-- Lemmas on requests.
+use Rattle.std.proofs.Common.{◌≡◌, ℕ, Bool, List, Option, refl, sym, ◌∙◌, subst}
+use Rattle.as4_flow.specs.Told.{Told}
+use Rattle.httparse.specs.Grammar.{RequestHead, print_request}
+use Rattle.httparse.proofs.GrammarLemmas.{request_unique}
+use Rattle.as4_http.specs.Bodies.{BeginsBody, HasNoBody, TakesBody}
+use Rattle.as4_http.specs.Methods.{method_text}
+use Rattle.as4_http.specs.RequestStarts.{SaysRequest, HasNoRequestHead, TakesRequestHead}
+use Rattle.as4_http.specs.Requests.{BeginsKept, BeginsRequest, HasNoRequest, start_of}
+use Rattle.as4_http.specs.declared.framing.Framing.{Framing}
+use Rattle.as4_http.specs.declared.framing.Framing.TheVariants.{Empty}
+use Rattle.as4_http.specs.declared.message.Method.{Method}
+use Rattle.as4_http.specs.declared.message.Method.TheVariants.{Get, Post}
+use Rattle.as4_http.specs.declared.message.Request.{Request}
+use Rattle.as4_http.specs.declared.request_start.RequestStart.{RequestStart}
+use Rattle.as4_http.proofs.BodyLemmas.{body_unique, before_some, body_begins}
+use Rattle.as4_http.proofs.FramingLemmas.{one_option, frames_unique}
+
+one_method : (a b : Method) → method_text a ≡ method_text b → a ≡ b
+one_method Get Get same = refl
+one_method Get Post same = absurd (cc)
+one_method Post Get same = absurd (cc)
+one_method Post Post same = refl
+
+-- a head says one thing
+pub says_one : (head : RequestHead) (a b : RequestStart) → SaysRequest head a → SaysRequest head b → a ≡ b
+says_one head a b x y =
+    let method = one_method a.method b.method (sym x.method ∙ y.method) in
+    let target : a.target ≡ b.target = sym x.target ∙ y.target in
+    let media = one_option a.media b.media (sym x.media ∙ y.media) in
+    let framing = frames_unique Empty a.framing b.framing _ x.framing y.framing in
+    let kept : a.kept ≡ b.kept = x.kept ∙ sym y.kept in
+    λ i. record { method = method i; target = target i; media = media i; framing = framing i; kept = kept i }
+
+pub kept_unique : (stream : List ℕ) (a b : Request) (k l : Bool) (r q : List ℕ) → BeginsKept stream a k r → BeginsKept stream b l q → (a ≡ b) × (k ≡ l) × (r ≡ q)
+kept_unique stream a b k l r q x y =
+    let heads = request_unique stream x.head y.head x.behind y.behind x.reads y.reads in
+    let says = subst (λ (h : RequestHead). SaysRequest h (start_of b y.framing l)) (sym heads.0) y.says in
+    let starts = says_one x.head (start_of a x.framing k) (start_of b y.framing l) x.says says in
+    let framing : y.framing ≡ x.framing = λ i. (sym starts i).framing in
+    let body : BeginsBody x.framing x.behind b.body q = subst (λ (s : List ℕ). BeginsBody x.framing s b.body q) (sym heads.1) (subst (λ (f : Framing). BeginsBody f y.behind b.body q) framing y.body) in
+    let bodies = body_unique x.framing x.behind a.body b.body r q x.body body in
+    (λ i. record { method = (starts i).method; target = (starts i).target; media = (starts i).media; body = bodies.0 i }, λ i. (starts i).kept, bodies.1)
+
+pub request_one : (stream : List ℕ) (a b : Request) (r q : List ℕ) → BeginsRequest stream a r → BeginsRequest stream b q → (a ≡ b) × (r ≡ q)
+request_one stream a b r q x y = let same = kept_unique stream a b x.0 y.0 r q x.1 y.1 in (same.0, same.2)
+
+-- no head, hence no request
+pub no_head : (told : Option (List ℕ)) → Told told HasNoRequestHead → Told told HasNoRequest
+no_head told none stream tells request rest begins =
+    none stream tells begins.1.behind (start_of request begins.1.framing begins.0) (record { head = begins.1.head; reads = begins.1.reads; small = begins.1.small; says = begins.1.says })
+
+-- a head, and no body behind it
+pub no_body : (start : RequestStart) (old mid : Option (List ℕ)) → TakesRequestHead old mid start → Told mid (HasNoBody start.framing) → Told old HasNoRequest
+no_body start old mid head none stream told request rest begins =
+    let x = begins.1 in
+    let found = before_some old mid (print_request head.head) stream head.taken told in
+    let heads = request_unique stream head.head x.head found.0 x.behind (head.valid, found.2) x.reads in
+    let says = subst (λ (h : RequestHead). SaysRequest h (start_of request x.framing begins.0)) (sym heads.0) x.says in
+    let starts = says_one head.head start (start_of request x.framing begins.0) head.says says in
+    let framing : x.framing ≡ start.framing = λ i. (sym starts i).framing in
+    none found.0 found.1 request.body rest (subst (λ (s : List ℕ). BeginsBody start.framing s request.body rest) (sym heads.1) (subst (λ (f : Framing). BeginsBody f x.behind request.body rest) framing x.body))
+
+-- a head and a body that have gone are a request, and what is left is the rest
+pub request_begins : (start : RequestStart) (bytes : List ℕ) (old mid new : Option (List ℕ)) → TakesRequestHead old mid start → TakesBody start.framing bytes mid new → Told old (λ stream. Told new (BeginsKept stream (record { method = start.method; target = start.target; media = start.media; body = bytes }) start.kept))
+request_begins start bytes old mid new head body stream told rest left =
+    let found = before_some old mid (print_request head.head) stream head.taken told in
+    let behind = body_begins start.framing bytes found.0 mid new body found.1 in
+    let same : behind.0 ≡ rest = cc (sym behind.1 ∙ left) in record {
+      head = head.head;
+      framing = start.framing;
+      behind = found.0;
+      reads = (head.valid, found.2);
+      small = head.small;
+      says = head.says;
+      body = subst (λ (r : List ℕ). BeginsBody start.framing found.0 bytes r) same behind.2;
+    }

@@ -1,0 +1,63 @@
+-- Lemmas on responses.
+use Rattle.std.proofs.Common.{◌≡◌, ℕ, List, Option, sym, ◌∙◌, ap, subst}
+use Rattle.as4_flow.specs.Told.{Told}
+use Rattle.httparse.specs.Grammar.{ResponseHead, print_response}
+use Rattle.httparse.proofs.GrammarLemmas.{response_unique}
+use Rattle.as4_http.specs.Bodies.{BeginsBody, HasNoBody, TakesBody}
+use Rattle.as4_http.specs.ResponseStarts.{SaysResponse, HasNoResponseHead, TakesResponseHead, framing_at}
+use Rattle.as4_http.specs.Responses.{BeginsResponse, HasNoResponse, start_of}
+use Rattle.as4_http.specs.declared.framing.Framing.{Framing}
+use Rattle.as4_http.specs.declared.framing.Framing.TheVariants.{ToEnd}
+use Rattle.as4_http.specs.declared.message.Response.{Response}
+use Rattle.as4_http.specs.declared.response_start.ResponseStart.{ResponseStart}
+use Rattle.as4_http.proofs.BodyLemmas.{body_unique, before_some, body_begins}
+use Rattle.as4_http.proofs.FramingLemmas.{one_option, frames_unique}
+
+-- a head says one thing
+pub says_one : (head : ResponseHead) (a b : ResponseStart) → SaysResponse head a → SaysResponse head b → a ≡ b
+says_one head a b x y =
+    let status : a.status ≡ b.status = sym x.status ∙ y.status in
+    let media = one_option a.media b.media (sym x.media ∙ y.media) in
+    let said : x.said ≡ y.said = frames_unique ToEnd x.said y.said _ x.says y.says in
+    let framing : a.framing ≡ b.framing = x.framing ∙ ap (λ (s : ℕ). framing_at s x.said) status ∙ ap (λ (f : Framing). framing_at b.status f) said ∙ sym y.framing in
+    λ i. record { status = status i; media = media i; framing = framing i }
+
+pub response_one : (stream : List ℕ) (a b : Response) (r q : List ℕ) → BeginsResponse stream a r → BeginsResponse stream b q → (a ≡ b) × (r ≡ q)
+response_one stream a b r q x y =
+    let heads = response_unique stream x.head y.head x.behind y.behind x.reads y.reads in
+    let says = subst (λ (h : ResponseHead). SaysResponse h (start_of b y.framing)) (sym heads.0) y.says in
+    let starts = says_one x.head (start_of a x.framing) (start_of b y.framing) x.says says in
+    let framing : y.framing ≡ x.framing = λ i. (sym starts i).framing in
+    let body : BeginsBody x.framing x.behind b.body q = subst (λ (s : List ℕ). BeginsBody x.framing s b.body q) (sym heads.1) (subst (λ (f : Framing). BeginsBody f y.behind b.body q) framing y.body) in
+    let bodies = body_unique x.framing x.behind a.body b.body r q x.body body in
+    (λ i. record { status = (starts i).status; media = (starts i).media; body = bodies.0 i }, bodies.1)
+
+-- no head, hence no response
+pub no_head : (told : Option (List ℕ)) → Told told HasNoResponseHead → Told told HasNoResponse
+no_head told none stream tells response rest begins =
+    none stream tells begins.behind (start_of response begins.framing) (record { head = begins.head; reads = begins.reads; small = begins.small; says = begins.says })
+
+-- a head, and no body behind it
+pub no_body : (start : ResponseStart) (old mid : Option (List ℕ)) → TakesResponseHead old mid start → Told mid (HasNoBody start.framing) → Told old HasNoResponse
+no_body start old mid head none stream told response rest x =
+    let found = before_some old mid (print_response head.head) stream head.taken told in
+    let heads = response_unique stream head.head x.head found.0 x.behind (head.valid, found.2) x.reads in
+    let says = subst (λ (h : ResponseHead). SaysResponse h (start_of response x.framing)) (sym heads.0) x.says in
+    let starts = says_one head.head start (start_of response x.framing) head.says says in
+    let framing : x.framing ≡ start.framing = λ i. (sym starts i).framing in
+    none found.0 found.1 response.body rest (subst (λ (s : List ℕ). BeginsBody start.framing s response.body rest) (sym heads.1) (subst (λ (f : Framing). BeginsBody f x.behind response.body rest) framing x.body))
+
+-- a head and a body that have gone are a response, and what is left is the rest
+pub response_begins : (start : ResponseStart) (bytes : List ℕ) (old mid new : Option (List ℕ)) → TakesResponseHead old mid start → TakesBody start.framing bytes mid new → Told old (λ stream. Told new (BeginsResponse stream (record { status = start.status; media = start.media; body = bytes })))
+response_begins start bytes old mid new head body stream told rest left =
+    let found = before_some old mid (print_response head.head) stream head.taken told in
+    let behind = body_begins start.framing bytes found.0 mid new body found.1 in
+    let same : behind.0 ≡ rest = cc (sym behind.1 ∙ left) in record {
+      head = head.head;
+      framing = start.framing;
+      behind = found.0;
+      reads = (head.valid, found.2);
+      small = head.small;
+      says = head.says;
+      body = subst (λ (r : List ℕ). BeginsBody start.framing found.0 bytes r) same behind.2;
+    }

@@ -1,0 +1,15 @@
+use Rattle.std.proofs.Common.{◌≡◌, ◌-◌, ◌≤◌, length, take}
+use Rattle.as4_flow.specs.Told.{before}
+use Rattle.as4_http.specs.Trailers.{HasNoLf}
+use Rattle.as4_http.proofs.trailers.hold_line.Given as goal
+
+abbrev pub invariant-pieces : goal.invariant-pieces
+invariant-pieces g l = record {
+  within : l.scanned ≤ length l.intake;
+  none : HasNoLf (take l.scanned l.intake);
+  whole : before l.fn.intake (g.S.Source.left l.fn.source) ≡ before l.intake (g.S.Source.left l.source);
+  quiet : g.S.Source.faults l.source ≡ g.S.Source.faults l.fn.source;
+}
+
+abbrev pub decreases-pieces : goal.decreases-pieces
+decreases-pieces g l = l.most - length l.intake

@@ -1,0 +1,43 @@
+-- A body in the stream, as its head frames it (RFC 9112, section 6.3).
+use Rattle.std.specs.Prelude.{◌≡◌, ℕ, ◌<◌, ◌≤◌, List, [], ◌++◌, length, Option}
+use Rattle.as4_flow.specs.Told.{Told, before}
+use Rattle.as4_http.specs.Chunks.{ChunkedBody, print_chunked, joined, IsChunked, IsSmallChunked, TakesChunked}
+use Rattle.as4_http.specs.declared.framing.Framing.{Framing}
+use Rattle.as4_http.specs.declared.framing.Framing.TheVariants.{Empty, Counted, Chunked, ToEnd}
+use Rattle.as4_http.specs.declared.limits.TheConstants.{MAX_BODY}
+
+-- the stream is chunks of these bytes within the limits, and then the rest
+pub record BeginsChunked (stream bytes rest : List ℕ) : Type 0 where
+  pub body : ChunkedBody
+  pub valid : IsChunked body
+  pub small : IsSmallChunked body
+  pub joins : bytes ≡ joined body.chunks
+  pub reads : stream ≡ print_chunked body ++ rest
+
+-- the stream is a body of these bytes within the limits, and then the rest
+abbrev pub BeginsBody : Framing → List ℕ → List ℕ → List ℕ → Type 0
+BeginsBody Empty stream bytes rest = (bytes ≡ []) × (stream ≡ rest)
+BeginsBody (Counted n) stream bytes rest = (length bytes ≡ n) × (n ≤ MAX_BODY) × (stream ≡ bytes ++ rest)
+BeginsBody Chunked stream bytes rest = BeginsChunked stream bytes rest
+BeginsBody ToEnd stream bytes rest = (length bytes ≤ MAX_BODY) × (stream ≡ bytes) × (rest ≡ [])
+
+-- the stream doesn't begin with such a body
+abbrev pub HasNoBody : Framing → List ℕ → Type 0
+HasNoBody framing stream = (bytes rest : List ℕ) → ¬ (BeginsBody framing stream bytes rest)
+
+-- all that was told has gone, and it is within the limit
+pub record TakesRest (bytes : List ℕ) (old new : Option (List ℕ)) : Type 0 where
+  pub small : length bytes ≤ MAX_BODY
+  pub taken : old ≡ before bytes new
+  pub ended : Told new (λ rest. rest ≡ [])
+
+-- more bytes than a body has
+abbrev pub IsLong : List ℕ → Type 0
+IsLong bytes = MAX_BODY < length bytes
+
+-- a body within the limits has gone from the front of what was told, and nothing else; these are its bytes
+abbrev pub TakesBody : Framing → List ℕ → Option (List ℕ) → Option (List ℕ) → Type 0
+TakesBody Empty bytes old new = (bytes ≡ []) × (old ≡ new)
+TakesBody (Counted n) bytes old new = (length bytes ≡ n) × (n ≤ MAX_BODY) × (old ≡ before bytes new)
+TakesBody Chunked bytes old new = TakesChunked bytes old new
+TakesBody ToEnd bytes old new = TakesRest bytes old new

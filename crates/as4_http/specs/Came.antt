@@ -1,0 +1,14 @@
+-- Pieces of a source that went behind bytes that were held.
+use Rattle.std.specs.Prelude.{◌≡◌, ℕ, ◌<◌, List, ◌++◌, length, Option}
+use Rattle.as4_flow.specs.Told.{before}
+
+-- a piece of n bytes came from what was left, and is held behind what was held before
+pub record Came (n : ℕ) (old new : List ℕ) (left rest : Option (List ℕ)) : Type 0 where
+  pub piece : List ℕ
+  pub count : length piece ≡ n
+  pub held : new ≡ old ++ piece
+  pub taken : left ≡ before piece rest
+
+-- the bytes are fewer than n
+abbrev pub IsShorter : ℕ → List ℕ → Type 0
+IsShorter n bytes = length bytes < n

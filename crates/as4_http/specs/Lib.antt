@@ -1,0 +1,15 @@
+pub mod Bodies
+pub mod Came
+pub mod ChunkLines
+pub mod Chunks
+pub mod Connection
+pub mod Fields
+pub mod Framing
+pub mod Methods
+pub mod Refused
+pub mod Requests
+pub mod RequestStarts
+pub mod Responses
+pub mod ResponseStarts
+pub mod Trailers
+pub mod Written

@@ -1,0 +1,50 @@
+-- What the head of a response says (RFC 9112, sections 4 and 6).
+use Rattle.std.specs.Prelude.{◌≡◌, ℕ, ◌≤◌, ◌==◌, ◌||◌, List, if◌then◌else◌, length, map, codes, Option}
+use Rattle.std.specs.Option.{option_to_list}
+use Rattle.as4_flow.specs.Told.{before}
+use Rattle.httparse.specs.Grammar.{ResponseHead, IsResponseHead, print_response, ReadsResponse, status_code}
+use Rattle.httparse.specs.Spans.{name_and_value}
+use Rattle.as4_http.specs.Fields.{values_in}
+use Rattle.as4_http.specs.Framing.{FramesAs}
+use Rattle.as4_http.specs.declared.limits.TheConstants.{MAX_HEAD, MAX_FIELDS}
+use Rattle.as4_http.specs.declared.framing.Framing.{Framing}
+use Rattle.as4_http.specs.declared.framing.Framing.TheVariants.{Empty, ToEnd}
+use Rattle.as4_http.specs.declared.response_start.ResponseStart.{ResponseStart}
+
+-- with the statuses 204 and 304 there is no body, whatever the fields say
+abbrev pub framing_at : ℕ → Framing → Framing
+framing_at status said = if (status == 204) || (status == 304) then Empty else said
+
+-- the head says this: what isn't said twice, and in fields that agree
+pub record SaysResponse (head : ResponseHead) (start : ResponseStart) : Type 0 where
+  pub status : status_code head ≡ start.status
+  pub final : 200 ≤ start.status
+  pub media : values_in (codes "content-type") (map name_and_value head.fields) ≡ option_to_list start.media
+  -- where no field says how long the body is, it runs to the end of the stream
+  pub said : Framing
+  pub says : FramesAs ToEnd (map name_and_value head.fields) said
+  pub framing : start.framing ≡ framing_at start.status said
+
+-- the head is within the limits
+pub record IsSmallResponse (head : ResponseHead) : Type 0 where
+  pub bytes : length (print_response head) ≤ MAX_HEAD
+  pub fields : length head.fields ≤ MAX_FIELDS
+
+-- the bytes are a head within the limits that says this, and then the rest
+pub record BeginsResponseHead (bytes rest : List ℕ) (start : ResponseStart) : Type 0 where
+  pub head : ResponseHead
+  pub reads : ReadsResponse bytes head rest
+  pub small : IsSmallResponse head
+  pub says : SaysResponse head start
+
+-- the bytes don't begin with such a head
+abbrev pub HasNoResponseHead : List ℕ → Type 0
+HasNoResponseHead bytes = (rest : List ℕ) (start : ResponseStart) → ¬ (BeginsResponseHead bytes rest start)
+
+-- such a head has gone from the front of what was told, and nothing else
+pub record TakesResponseHead (old new : Option (List ℕ)) (start : ResponseStart) : Type 0 where
+  pub head : ResponseHead
+  pub valid : IsResponseHead head
+  pub small : IsSmallResponse head
+  pub says : SaysResponse head start
+  pub taken : old ≡ before (print_response head) new

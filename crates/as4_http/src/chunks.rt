@@ -1,0 +1,64 @@
+//! A body in chunks (RFC 9112, section 7.1).
+//!
+//!     line   bytes   CRLF     for each chunk; the line says how many bytes there are
+//!     line   trailers         behind the last chunk; the line says 0
+ghost use Rattle.std.specs.Prelude.{◌≡◌, [], ◌≤◌, OnOk, IsErrOf};
+ghost use Rattle.as4_flow.specs.Faults.{Rose};
+ghost use Rattle.as4_flow.specs.Told.{Told, before};
+ghost use Rattle.as4_http.specs.Chunks.{TakesChunk, HasNoChunk, TakesChunked, HasNoChunked};
+ghost use Rattle.as4_http.specs.Refused.{OnRefused};
+
+use crate::chunk_line::{take_crlf, take_line};
+use crate::counted::take_bytes;
+use crate::gathered::Gathered;
+use crate::intake::Intake;
+use crate::trailers::take_trailers;
+use crate::{HttpRefusal, MAX_BODY};
+use as4_flow::Source;
+
+/// Takes a body in chunks off the stream, and joins its chunks.
+pub(crate) fn take_chunks<S: Source>(
+    intake: &mut Intake,
+    source: &mut S,
+    body: &mut Gathered,
+) -> Result<(), HttpRefusal>
+    requires { body.old ≡ [] }
+    ensures ok { OnOk result (TakesChunked body.new
+        (before intake.old (S.left source.old)) (before intake.new (S.left source.new))) }
+    ensures none { OnRefused result (Told (before intake.old (S.left source.old)) HasNoChunked) }
+    ensures cut { IsErrOf result HttpRefusal.Cut → Told (S.left source.new) (λ bytes. bytes ≡ []) }
+    ensures fault { IsErrOf result HttpRefusal.ReadFault → Rose (S.faults source.old) (S.faults source.new) }
+    ensures quiet { ¬ IsErrOf result HttpRefusal.ReadFault → S.faults source.new ≡ S.faults source.old }
+    ensures counted { S.faults source.old ≤ S.faults source.new }
+{
+    'chunks: loop {
+        let room = MAX_BODY - body.len();
+        let size = take_line(intake, source, room)?;
+        if size == 0 {
+            return take_trailers(intake, source);
+        }
+        if size > room as u64 {
+            return Err(HttpRefusal::TooLong);
+        }
+        take_chunk(intake, source, body, size as usize)?;
+    }
+}
+
+// Takes the bytes of a chunk and the CRLF behind them.
+fn take_chunk<S: Source>(
+    intake: &mut Intake,
+    source: &mut S,
+    body: &mut Gathered,
+    size: usize,
+) -> Result<(), HttpRefusal>
+    ensures ok { OnOk result (TakesChunk size body.old body.new
+        (before intake.old (S.left source.old)) (before intake.new (S.left source.new))) }
+    ensures none { OnRefused result (Told (before intake.old (S.left source.old)) (HasNoChunk size)) }
+    ensures cut { IsErrOf result HttpRefusal.Cut → Told (S.left source.new) (λ bytes. bytes ≡ []) }
+    ensures fault { IsErrOf result HttpRefusal.ReadFault → Rose (S.faults source.old) (S.faults source.new) }
+    ensures quiet { ¬ IsErrOf result HttpRefusal.ReadFault → S.faults source.new ≡ S.faults source.old }
+    ensures counted { S.faults source.old ≤ S.faults source.new }
+{
+    take_bytes(intake, source, body, size)?;
+    take_crlf(intake, source)
+}

@@ -1,0 +1,73 @@
+//! The head of a request, read from a source.
+ghost use Rattle.std.specs.Prelude.{◌≡◌, [], ◌≤◌, ◌<◌, length, drop, IfOk, OnErr, IfErr, IsErrOf};
+ghost use Rattle.as4_flow.specs.Faults.{Rose};
+ghost use Rattle.as4_flow.specs.Told.{Told, before};
+ghost use Rattle.httparse.specs.Grammar.{RequestHead};
+ghost use Rattle.httparse.specs.Spans.{IsRequestAt, IsRequestWithin, IsRequestOf};
+ghost use Rattle.as4_http.specs.Refused.{OnRefused};
+ghost use Rattle.as4_http.specs.RequestStarts.{SaysRequest, TakesRequestHead, BeginsRequestHead, HasNoRequestHead, IsSmallRequest};
+
+use crate::intake::Intake;
+use crate::request_start::{RequestStart, request_start};
+use crate::{HttpRefusal, MAX_FIELDS, MAX_HEAD};
+use as4_flow::Source;
+use httparse::spans::{EMPTY_HEADER_SPAN, HeaderSpan, RequestSpans, parse_request};
+use httparse::{Error, Status};
+
+/// Takes the head of a request off the stream.
+pub(crate) fn read_request_head<S: Source>(
+    intake: &mut Intake,
+    source: &mut S,
+) -> Result<RequestStart, HttpRefusal>
+    ensures ok { IfOk result (TakesRequestHead
+        (before intake.old (S.left source.old)) (before intake.new (S.left source.new))) }
+    ensures none { OnRefused result (Told (before intake.old (S.left source.old)) HasNoRequestHead) }
+    ensures cut { IsErrOf result HttpRefusal.Cut → Told (S.left source.new) (λ bytes. bytes ≡ []) }
+    ensures fault { IsErrOf result HttpRefusal.ReadFault → Rose (S.faults source.old) (S.faults source.new) }
+    ensures quiet { ¬ IsErrOf result HttpRefusal.ReadFault → S.faults source.new ≡ S.faults source.old }
+    ensures counted { S.faults source.old ≤ S.faults source.new }
+{
+    let mut headers = [EMPTY_HEADER_SPAN; MAX_FIELDS];
+    'pieces: loop {
+        match parse_request(intake.bytes(), &mut headers) {
+            Ok(Status::Complete(spans)) => return take_head(intake, &headers, &spans),
+            Ok(Status::Partial) => {}
+            Err(error) => return Err(refusal_of(error)),
+        }
+        if intake.len() > MAX_HEAD {
+            return Err(HttpRefusal::TooLong);
+        }
+        intake.fill(source)?;
+    }
+}
+
+// Takes the head that stands at the front, where these are its parts.
+fn take_head(
+    intake: &mut Intake,
+    headers: &[HeaderSpan],
+    spans: &RequestSpans,
+) -> Result<RequestStart, HttpRefusal>
+    requires within { IsRequestWithin intake.old headers.now spans.now }
+    requires head { IsRequestOf intake.old headers.now spans.now }
+    requires fields { length headers.now ≤ MAX_FIELDS }
+    ensures ok { IfOk result (BeginsRequestHead intake.old intake.new) }
+    ensures none { OnRefused result (HasNoRequestHead intake.old) }
+    ensures cause { ¬ IsErrOf result HttpRefusal.ReadFault × ¬ IsErrOf result HttpRefusal.Cut }
+{
+    if spans.len > MAX_HEAD {
+        return Err(HttpRefusal::TooLong);
+    }
+    let start = request_start(intake.alloc(), intake.bytes(), headers, spans)?;
+    intake.skip(spans.len);
+    Ok(start)
+}
+
+/// What an error of the parser says of the bytes.
+pub(crate) fn refusal_of(error: Error) -> HttpRefusal
+    ensures { ¬ (result ≡ HttpRefusal.ReadFault) × ¬ (result ≡ HttpRefusal.Cut) }
+{
+    match error {
+        Error::TooManyHeaders => HttpRefusal::TooLong,
+        _ => HttpRefusal::Bad,
+    }
+}

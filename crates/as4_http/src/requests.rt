@@ -1,0 +1,90 @@
+//! Requests, read from a source one after another.
+ghost use Rattle.std.specs.Prelude.{◌≡◌, ◌<◌, ◌≤◌, ◌⊎◌, ℕ, List, [], true, false, length, IfOk, IsOkAnd, IfErr, IsErrOf};
+ghost use Rattle.as4_flow.specs.Faults.{Rose};
+ghost use Rattle.as4_flow.specs.Told.{Told, before};
+ghost use Rattle.as4_http.specs.Refused.{OnRefused};
+ghost use Rattle.as4_http.specs.Requests.{BeginsKept, BeginsRequest, HasNoRequest};
+
+use crate::body::take_body;
+use crate::request_head::read_request_head;
+use crate::{HttpRefusal, Intake, Request};
+use as4_flow::Source;
+
+impl Intake {
+    /// Reads a request, and gives the intake back with what was read past it. A refusal drops the intake.
+    pub fn read_request<S: Source>(self, source: &mut S) -> Result<(Request, Intake), HttpRefusal>
+        // The stream, that is what the intake held and then what the source had left, is this request, then what
+        // the new intake holds, and then what the source has left.
+        ensures found { IfOk result (λ r. Told (before self (S.left source.old)) (λ stream.
+            Told (before r.1 (S.left source.new)) (BeginsRequest stream r.0))) }
+        // Where the stream begins with a request, it isn't refused.
+        ensures only { OnRefused result (Told (before self (S.left source.old)) HasNoRequest) }
+
+        ensures cut { IsErrOf result HttpRefusal.Cut → Told (S.left source.new) (λ bytes. bytes ≡ []) }
+        ensures fault { IsErrOf result HttpRefusal.ReadFault → Rose (S.faults source.old) (S.faults source.new) }
+        ensures quiet { ¬ IsErrOf result HttpRefusal.ReadFault → S.faults source.new ≡ S.faults source.old }
+        ensures counted { S.faults source.old ≤ S.faults source.new }
+    {
+        let (request, _, intake) = self.read_kept(source)?;
+        Ok((request, intake))
+    }
+
+    /// Reads a request as `read_request` does, and says whether a further one may come behind it on its
+    /// connection (RFC 9112, section 9.3).
+    pub fn read_kept<S: Source>(
+        self,
+        source: &mut S,
+    ) -> Result<(Request, bool, Intake), HttpRefusal>
+        ensures found { IfOk result (λ r. Told (before self (S.left source.old)) (λ stream.
+            Told (before r.2 (S.left source.new)) (BeginsKept stream r.0 r.1))) }
+        ensures only { OnRefused result (Told (before self (S.left source.old)) HasNoRequest) }
+
+        ensures cut { IsErrOf result HttpRefusal.Cut → Told (S.left source.new) (λ bytes. bytes ≡ []) }
+        ensures fault { IsErrOf result HttpRefusal.ReadFault → Rose (S.faults source.old) (S.faults source.new) }
+        ensures quiet { ¬ IsErrOf result HttpRefusal.ReadFault → S.faults source.new ≡ S.faults source.old }
+        ensures counted { S.faults source.old ≤ S.faults source.new }
+    {
+        let mut intake = self;
+        let start = read_request_head(&mut intake, source)?;
+        let body = take_body(&mut intake, source, start.framing)?;
+        let request = Request {
+            method: start.method,
+            target: start.target,
+            media: start.media,
+            body,
+        };
+        Ok((request, start.kept, intake))
+    }
+
+    /// Whether a further message begins. Where the intake holds bytes it reads nothing, and else it asks the
+    /// source once.
+    pub fn begin<S: Source>(self, source: &mut S) -> Result<(bool, Intake), HttpRefusal>
+        // Nothing is lost, and where a message begins there is a byte of it.
+        ensures whole { IfOk result (λ r. before r.1 (S.left source.new) ≡ before self (S.left source.old)) }
+        ensures begins { IfOk result (λ r. r.0 ≡ true → 0 < length r.1) }
+        ensures ended { IfOk result (λ r. r.0 ≡ false
+            → (self ≡ []) × (r.1 ≡ []) × Told (S.left source.old) (λ bytes. bytes ≡ [])) }
+        ensures held { 0 < length self → IsOkAnd result (λ r. r.0 ≡ true) × (source.new ≡ source.old) }
+
+        ensures refusals { IfErr result (λ refusal.
+            (refusal ≡ HttpRefusal.ReadFault) ⊎ (refusal ≡ HttpRefusal.NoMemory)) }
+        ensures fault { IsErrOf result HttpRefusal.ReadFault → Rose (S.faults source.old) (S.faults source.new) }
+        ensures quiet { ¬ IsErrOf result HttpRefusal.ReadFault → S.faults source.new ≡ S.faults source.old }
+        ensures counted { S.faults source.old ≤ S.faults source.new }
+    {
+        let mut intake = self;
+        if intake.len() > 0 {
+            return Ok((true, intake));
+        }
+        match intake.fill(source) {
+            Ok(_) => Ok((true, intake)),
+            Err(HttpRefusal::Cut) => Ok((false, intake)),
+            Err(refusal) => Err(refusal),
+        }
+    }
+}
+
+/// A stream begins with one request at most.
+pub fn one_request()
+    ensures { (stream : List ℕ) (a b : Request) (r q : List ℕ) → BeginsRequest stream a r → BeginsRequest stream b q → (a ≡ b) × (r ≡ q) }
+{}

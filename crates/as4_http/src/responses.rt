@@ -1,0 +1,43 @@
+//! Responses, read from a source one after another.
+ghost use Rattle.std.specs.Prelude.{◌≡◌, [], ◌≤◌, ℕ, List, IfOk, IsErrOf};
+ghost use Rattle.as4_flow.specs.Faults.{Rose};
+ghost use Rattle.as4_flow.specs.Told.{Told, before};
+ghost use Rattle.as4_http.specs.Refused.{OnRefused};
+ghost use Rattle.as4_http.specs.Responses.{BeginsResponse, HasNoResponse};
+
+use crate::body::take_body;
+use crate::response_head::read_response_head;
+use crate::{HttpRefusal, Intake, Response};
+use as4_flow::Source;
+
+impl Intake {
+    /// Reads a response, and gives the intake back with what was read past it. A refusal drops the intake.
+    pub fn read_response<S: Source>(self, source: &mut S) -> Result<(Response, Intake), HttpRefusal>
+        // The stream, that is what the intake held and then what the source had left, is this response, then what
+        // the new intake holds, and then what the source has left.
+        ensures found { IfOk result (λ r. Told (before self (S.left source.old)) (λ stream.
+            Told (before r.1 (S.left source.new)) (BeginsResponse stream r.0))) }
+        // Where the stream begins with a response, it isn't refused.
+        ensures only { OnRefused result (Told (before self (S.left source.old)) HasNoResponse) }
+
+        ensures cut { IsErrOf result HttpRefusal.Cut → Told (S.left source.new) (λ bytes. bytes ≡ []) }
+        ensures fault { IsErrOf result HttpRefusal.ReadFault → Rose (S.faults source.old) (S.faults source.new) }
+        ensures quiet { ¬ IsErrOf result HttpRefusal.ReadFault → S.faults source.new ≡ S.faults source.old }
+        ensures counted { S.faults source.old ≤ S.faults source.new }
+    {
+        let mut intake = self;
+        let start = read_response_head(&mut intake, source)?;
+        let body = take_body(&mut intake, source, start.framing)?;
+        let response = Response {
+            status: start.status,
+            media: start.media,
+            body,
+        };
+        Ok((response, intake))
+    }
+}
+
+/// A stream begins with one response at most.
+pub fn one_response()
+    ensures { (stream : List ℕ) (a b : Response) (r q : List ℕ) → BeginsResponse stream a r → BeginsResponse stream b q → (a ≡ b) × (r ≡ q) }
+{}
