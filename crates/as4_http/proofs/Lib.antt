@@ -8,6 +8,7 @@ pub mod FramingLemmas
 pub mod GatheredLemmas
 pub mod LengthLemmas
 pub mod LineLemmas
+pub mod ReadBackLemmas
 pub mod RefusedLemmas
 pub mod RequestHeadLemmas
 pub mod RequestLemmas

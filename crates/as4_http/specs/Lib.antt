@@ -6,6 +6,7 @@ pub mod Connection
 pub mod Fields
 pub mod Framing
 pub mod Methods
+pub mod ReadBack
 pub mod Refused
 pub mod Requests
 pub mod RequestStarts

@@ -58,10 +58,14 @@ slash_or (b ∷ bytes) = b ∷ bytes
 abbrev pub target : List ℕ → List ℕ
 target address = slash_or (drop (position_or_len (λ b. b == 47) (behind_scheme address)) (behind_scheme address))
 
--- GET where nothing is sent and the target asks for an entry or for a standing, and else POST
+-- whether nothing is sent, and the target asks for an entry or for a standing
+abbrev pub asks : List ℕ → Option (List ℕ) → List ℕ → Bool
+asks target media body =
+    is_none media && ((length body == 0) && (starts_with nat_eq target (codes "/inbox/") || starts_with nat_eq target (codes "/status/")))
+
+-- GET where it asks, and else POST
 abbrev pub method : List ℕ → Option (List ℕ) → List ℕ → List ℕ
-method target media body =
-    if is_none media && ((length body == 0) && (starts_with nat_eq target (codes "/inbox/") || starts_with nat_eq target (codes "/status/"))) then codes "GET" else codes "POST"
+method target media body = if asks target media body then codes "GET" else codes "POST"
 
 abbrev pub request_line : List ℕ → List ℕ → List ℕ
 request_line method target = method ++ codes " " ++ line (target ++ codes " HTTP/1.1")

@@ -1,9 +1,12 @@
 //! Requests, read from a source one after another.
-ghost use Rattle.std.specs.Prelude.{◌≡◌, ◌<◌, ◌≤◌, ◌⊎◌, ℕ, List, [], true, false, length, IfOk, IsOkAnd, IfErr, IsErrOf};
+ghost use Rattle.std.specs.Prelude.{◌≡◌, ◌<◌, ◌≤◌, ◌⊎◌, ◌++◌, ℕ, List, [], Option, true, false, IsTrue, length, IfSome, IfOk, IsOkAnd, IfErr, IsErrOf};
 ghost use Rattle.as4_flow.specs.Faults.{Rose};
 ghost use Rattle.as4_flow.specs.Told.{Told, before};
+ghost use Rattle.as4_values.specs.Address.{has_address_form};
+ghost use Rattle.as4_http.specs.ReadBack.{IsMedia, IsWithinLimits, request_to};
 ghost use Rattle.as4_http.specs.Refused.{OnRefused};
 ghost use Rattle.as4_http.specs.Requests.{BeginsKept, BeginsRequest, HasNoRequest};
+ghost use Rattle.as4_http.specs.Written.{request_text};
 
 use crate::body::take_body;
 use crate::request_head::read_request_head;
@@ -87,4 +90,11 @@ impl Intake {
 /// A stream begins with one request at most.
 pub fn one_request()
     ensures { (stream : List ℕ) (a b : Request) (r q : List ℕ) → BeginsRequest stream a r → BeginsRequest stream b q → (a ≡ b) × (r ≡ q) }
+{}
+
+/// The request that is written to an address is read back, whatever stands behind it, and no further one comes
+/// behind it on its connection.
+pub fn request_read_back()
+    ensures { (address : List ℕ) (media : Option (List ℕ)) (body rest : List ℕ) → IsTrue (has_address_form address) → IfSome media IsMedia → IsWithinLimits (request_text address media body) body →
+        BeginsKept (request_text address media body ++ rest) (request_to address media body) false rest }
 {}

@@ -1,9 +1,11 @@
 //! Responses, read from a source one after another.
-ghost use Rattle.std.specs.Prelude.{◌≡◌, [], ◌≤◌, ℕ, List, IfOk, IsErrOf};
+ghost use Rattle.std.specs.Prelude.{◌≡◌, [], ◌≤◌, ◌++◌, ℕ, List, Option, IsTrue, codes, IfSome, IfOk, IsErrOf};
 ghost use Rattle.as4_flow.specs.Faults.{Rose};
 ghost use Rattle.as4_flow.specs.Told.{Told, before};
+ghost use Rattle.as4_http.specs.ReadBack.{IsMedia, IsWithinLimits, response_with};
 ghost use Rattle.as4_http.specs.Refused.{OnRefused};
 ghost use Rattle.as4_http.specs.Responses.{BeginsResponse, HasNoResponse};
+ghost use Rattle.as4_http.specs.Written.{is_status, response_text};
 
 use crate::body::take_body;
 use crate::response_head::read_response_head;
@@ -40,4 +42,13 @@ impl Intake {
 /// A stream begins with one response at most.
 pub fn one_response()
     ensures { (stream : List ℕ) (a b : Response) (r q : List ℕ) → BeginsResponse stream a r → BeginsResponse stream b q → (a ≡ b) × (r ≡ q) }
+{}
+
+/// The response that is written with a status is read back, whatever stands behind it, where its connection closes
+/// and where it goes on.
+pub fn response_read_back()
+    ensures closed { (status : ℕ) (media : Option (List ℕ)) (body rest : List ℕ) → IsTrue (is_status status) → IfSome media IsMedia → IsWithinLimits (response_text status media (codes "close") body) body →
+        BeginsResponse (response_text status media (codes "close") body ++ rest) (response_with status media body) rest }
+    ensures kept { (status : ℕ) (media : Option (List ℕ)) (body rest : List ℕ) → IsTrue (is_status status) → IfSome media IsMedia → IsWithinLimits (response_text status media (codes "keep-alive") body) body →
+        BeginsResponse (response_text status media (codes "keep-alive") body ++ rest) (response_with status media body) rest }
 {}

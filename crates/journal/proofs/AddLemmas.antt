@@ -1,0 +1,56 @@
+-- A record that is being appended.
+use Rattle.std.proofs.Common.{◌≡◌, inl, ℕ, ◌+◌, ◌<◌, List, [], ◌∷◌, ◌++◌, length, drop, refl, sym, ◌∙◌, ap, subst, arith, append_assoc, length-append}
+use Rattle.as4_disk.specs.Bytes.{Torn}
+use Rattle.as4_disk.specs.Image.{Image}
+use Rattle.as4_disk.proofs.ByteLemmas.{torn_behind, torn_byte}
+use Rattle.journal.specs.declared.version.Version.TheVariants.{Two}
+use Rattle.journal.specs.Leaf.{limit_of, length_bytes, record_of, front_of, frame_of}
+use Rattle.journal.specs.Store.{picked_leaf, OpensToOneOf}
+use Rattle.journal.proofs.LeafLemmas.{length-front_more}
+use Rattle.journal.proofs.StoreLemmas.{opened, closed_opens, gate_opens}
+
+-- all of a record but its gate
+pub tail_of : List ℕ → List ℕ
+tail_of body = length_bytes Two (length body) ++ body ++ 0 ∷ []
+
+pub frame_tail : (body : List ℕ) → drop 1 (frame_of body) ≡ tail_of body
+unfolding tail_of record_of
+frame_tail body = refl
+
+tail_behind : (body after : List ℕ) → tail_of body ++ after ≡ length_bytes Two (length body) ++ body ++ 0 ∷ after
+unfolding tail_of
+tail_behind body after = append_assoc (length_bytes Two (length body) ++ body) (0 ∷ []) after
+
+module _ (bodies : List (List ℕ)) (body rest : List ℕ) where
+  front : List ℕ
+  front = front_of Two bodies
+
+  less : length (front_of Two (bodies ++ body ∷ [])) < limit_of Two → length (front_of Two bodies) < limit_of Two
+  less within = omega (arith, within, length-front_more Two bodies body)
+
+  -- behind the closed gate any bytes are ignored
+  pub torn_tail : (gate n : ℕ) (c : Image) → gate ≡ length (front_of Two bodies) → length (front_of Two (bodies ++ body ∷ [])) < limit_of Two → Torn (gate + 1) n (front_of Two bodies ++ 0 ∷ rest) (picked_leaf c) → OpensToOneOf bodies body c
+  torn_tail gate n c place within torn =
+      let closed = front_of Two bodies ++ 0 ∷ [] in
+      let at_end : gate + 1 ≡ length closed = omega (arith, place, length-append (front_of Two bodies) (0 ∷ [])) in
+      let P : ℕ → Type 0 = λ k. Torn k n (front_of Two bodies ++ 0 ∷ rest) (picked_leaf c) in
+      let Q : List ℕ → Type 0 = λ l. Torn (length closed) n l (picked_leaf c) in
+      let behind = torn_behind closed rest n (picked_leaf c) (subst Q (sym (append_assoc (front_of Two bodies) (0 ∷ []) rest)) (subst P at_end torn)) in
+      inl (closed_opens Two bodies behind.0 c (less within) (behind.1 ∙ append_assoc (front_of Two bodies) (0 ∷ []) behind.0))
+
+  -- the gate is being opened, and the rest of the record is on the disk
+  pub torn_open : (gate : ℕ) (after : List ℕ) (c : Image) → gate ≡ length (front_of Two bodies) → length (front_of Two (bodies ++ body ∷ [])) < limit_of Two → Torn gate 1 (front_of Two bodies ++ 0 ∷ (tail_of body ++ after)) (picked_leaf c) → OpensToOneOf bodies body c
+  torn_open gate after c place within torn =
+      let P : ℕ → Type 0 = λ k. Torn k 1 (front_of Two bodies ++ 0 ∷ (tail_of body ++ after)) (picked_leaf c) in
+      let any = torn_byte (front_of Two bodies) 0 (tail_of body ++ after) (picked_leaf c) (subst P place torn) in
+      gate_opens Two bodies body after any.0 c (less within) within (any.1 ∙ ap (λ (l : List ℕ). front_of Two bodies ++ any.0 ∷ l) (tail_behind body after))
+
+  -- after the first write, and after the second
+  pub after_tail : (after : List ℕ) → (front_of Two bodies ++ 0 ∷ []) ++ tail_of body ++ after ≡ front_of Two bodies ++ 0 ∷ (tail_of body ++ after)
+  after_tail after = append_assoc (front_of Two bodies ++ 0 ∷ []) (tail_of body) after ∙ append_assoc (front_of Two bodies) (0 ∷ []) (tail_of body ++ after)
+
+  pub after_gate : (after : List ℕ) → front_of Two bodies ++ 1 ∷ [] ++ (tail_of body ++ after) ≡ front_of Two (bodies ++ body ∷ []) ++ 0 ∷ after
+  after_gate after =
+      append_assoc (front_of Two bodies) (1 ∷ []) (tail_of body ++ after)
+      ∙ ap (λ (l : List ℕ). front_of Two bodies ++ 1 ∷ l) (tail_behind body after)
+      ∙ opened Two bodies body after 0

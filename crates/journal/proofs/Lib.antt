@@ -1,0 +1,12 @@
+pub mod LeafLemmas
+pub mod StoreLemmas
+pub mod ReadingLemmas
+pub mod StartLemmas
+pub mod FrameLemmas
+pub mod PassLemmas
+pub mod AddLemmas
+pub mod FetchLemmas
+pub mod OtherLemmas
+pub mod JournalLaws
+pub mod LoopLemmas
+pub mod BrokenLemmas

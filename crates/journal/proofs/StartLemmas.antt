@@ -1,0 +1,54 @@
+-- How a journal begins: a leaf that is new, and one that has a magic.
+use Rattle.std.proofs.Common.{◌≡◌, ℕ, ◌<◌, ◌≤◌, Bool, List, [], ◌∷◌, ◌++◌, Option, length, take, drop, sym, ◌∙◌, ap, subst, arith, length-append, length-drop, take-append-drop}
+use Rattle.as4_disk.specs.Image.{Image}
+use Rattle.journal.specs.declared.version.Version.{Version}
+use Rattle.journal.specs.declared.version.Version.TheVariants.{Two}
+use Rattle.journal.specs.Leaf.{magic_of, length_bytes, front_of, IsNew}
+use Rattle.journal.specs.Store.{picked_leaf, HasPending, Continues}
+use Rattle.journal.specs.Settled.{IsSettled, IsStart}
+use Rattle.journal.proofs.LeafLemmas.{front_none, length-front}
+use Rattle.journal.proofs.StoreLemmas.{new_opens}
+
+-- the bytes of a new leaf
+pub new_leaf : 65 ∷ 83 ∷ 52 ∷ 74 ∷ 78 ∷ 76 ∷ 50 ∷ 10 ∷ 0 ∷ [] ≡ front_of Two [] ++ 0 ∷ []
+unfolding magic_of
+new_leaf = ap (λ (l : List ℕ). l ++ 0 ∷ []) (sym (front_none Two))
+
+-- nothing is pending in a leaf of nine bytes
+pub none_pending : (bodies : List (List ℕ)) (body : List ℕ) (image : Image) → length (picked_leaf image) ≤ 9 → HasPending bodies body image → ⊥
+none_pending bodies body image short (version, gate, rest, is, pending) =
+    omega (arith, short, ap length is.bytes, length-append (front_of version bodies) (gate ∷ rest), length-front version bodies, ap length pending.bytes, length-append (length_bytes version (length body) ++ body) (0 ∷ pending.after))
+
+-- a leaf that was made new goes on from what was there
+pub new_continues : (before after : Image) → IsNew (picked_leaf before) → IsNew (picked_leaf after) → Continues before after
+new_continues before after old new = record {
+  opens = λ bodies opens. new_opens bodies before after old new opens;
+  pending = λ bodies body opens has. absurd (none_pending bodies body after new has);
+}
+
+-- and so does one that is the same
+pub same_continues : (before after : Image) → before ≡ after → Continues before after
+same_continues before after same =
+    let P : Image → Type 0 = Continues before in
+    subst P same (record { opens = λ bodies opens. opens; pending = λ bodies body opens has. has })
+
+-- a leaf of more than nine bytes that begins with a magic
+pub has_gate : (version : Version) (leaf : List ℕ) → take 8 leaf ≡ magic_of version → 9 < length leaf → (next : ℕ) × (rest : List ℕ) × (leaf ≡ front_of version [] ++ next ∷ rest)
+has_gate version leaf magic long =
+    split (drop 8 leaf) (omega (arith, length-drop 8 leaf)) (sym (take-append-drop 8 leaf) ∙ ap (λ (l : List ℕ). l ++ drop 8 leaf) (magic ∙ sym (front_none version)))
+  where
+    split : (l : List ℕ) → 0 < length l → leaf ≡ front_of version [] ++ l → (next : ℕ) × (rest : List ℕ) × (leaf ≡ front_of version [] ++ next ∷ rest)
+    split [] none is = absurd (omega arith)
+    split (next ∷ rest) some is = (next, rest, is)
+
+module _ {D : Type 0} (seen : D → Option Image) (may_leave : D → Image → Type 0) where
+  pub starts : (disk : D) (is_second : Bool) (version : Version) (leaf : List ℕ) → take 8 leaf ≡ magic_of version → 9 < length leaf → IsSettled seen may_leave disk is_second leaf → IsStart seen may_leave disk is_second version
+  starts disk is_second version leaf magic long is =
+      let gate = has_gate version leaf magic long in
+      let P : List ℕ → Type 0 = IsSettled seen may_leave disk is_second in
+      record { next = gate.0; rest = gate.1; settled = subst P gate.2 is; made = λ is_open. omega (arith, long, ap length gate.2) }
+
+  pub starts_new : (disk : D) (is_second : Bool) (bytes : List ℕ) → bytes ≡ front_of Two [] ++ 0 ∷ [] → IsSettled seen may_leave disk is_second bytes → IsStart seen may_leave disk is_second Two
+  starts_new disk is_second bytes are is =
+      let P : List ℕ → Type 0 = IsSettled seen may_leave disk is_second in
+      record { next = 0; rest = []; settled = subst P are is; made = λ is_open. absurd (omega (arith, is_open)) }

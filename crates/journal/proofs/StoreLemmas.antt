@@ -1,0 +1,209 @@
+-- Disks of a journal: what is settled of the picked leaf, and what the images of a crash open to.
+use Rattle.std.proofs.Common.{◌≡◌, ◌≢◌, ◌⊎◌, inl, inr, ⊎_elim, ℕ, ◌<◌, Bool, true, false, is_some, List, [], ◌∷◌, ◌++◌, Option, Some, None, length, drop, get_or, refl, sym, ◌∙◌, ap, subst, arith, append_assoc, length-append}
+use Rattle.std.specs.Prelude.{flat_map}
+use Rattle.std.proofs.lemmas.Bool.{cases_eq}
+use Rattle.as4_disk.specs.declared.part.Part.{Part}
+use Rattle.as4_disk.specs.declared.part.Part.TheVariants.{Selector}
+use Rattle.as4_disk.specs.Bytes.{IsOverwritten, Torn}
+use Rattle.as4_disk.specs.Image.{Image, On, IsOnly, TornFrom}
+use Rattle.as4_disk.specs.Runs.{Goes, Follows, Within}
+use Rattle.as4_flow.specs.Told.{Told}
+use Rattle.as4_disk.proofs.ByteLemmas.{overwritten_behind}
+use Rattle.as4_disk.proofs.ImageLemmas.{only_elsewhere, only_within}
+use Rattle.journal.specs.declared.version.Version.{Version}
+use Rattle.journal.specs.Leaf.{limit_of, length_bytes, record_of, front_of, IsLeaf, IsPending, IsNew, Lists, IsWholeLeaf}
+use Rattle.journal.specs.Store.{picks, leaf_of, is_second_of, picked_leaf, OpensTo, HasPending, OpensToOneOf, Reopens, KeepsLeaf}
+use Rattle.journal.specs.Settled.{IsSettled}
+use Rattle.journal.proofs.LeafLemmas.{length-front, front_more, record_at, reached}
+
+-- ---- leaves
+
+-- a new leaf has no records, also where it has a magic
+pub new_none : (version : Version) (bodies : List (List ℕ)) (gate : ℕ) (rest leaf : List ℕ) → IsLeaf version bodies gate rest leaf → IsNew leaf → bodies ≡ []
+new_none version [] gate rest leaf is new = refl
+new_none version (body ∷ bodies) gate rest leaf is new =
+    absurd (omega (
+      arith,
+      new,
+      ap length is.bytes,
+      length-append (front_of version (body ∷ bodies)) (gate ∷ rest),
+      length-front version (body ∷ bodies),
+      length-append (record_of version body) (flat_map (record_of version) bodies),
+      ap length (record_at version body []),
+      length-append (record_of version body) [],
+    ))
+
+nothing : (bodies : List (List ℕ)) → bodies ++ [] ≡ bodies
+nothing [] = refl
+nothing (body ∷ bodies) = ap (λ (l : List (List ℕ)). body ∷ l) (nothing bodies)
+
+-- of one leaf
+pub one_leaf : (v w : Version) (read all : List (List ℕ)) (g h : ℕ) (x y leaf : List ℕ) → IsLeaf v read g x leaf → IsLeaf w all h y leaf → (v ≡ w) × (read ≡ all) × (g ≡ h) × (x ≡ y)
+one_leaf v w read all g h x y leaf first other =
+    let found = reached v w read all (g ∷ x) h y first.within other.within other.closed (sym first.bytes ∙ other.bytes) in
+    none found.1 found.0 found.2 found.3
+  where
+    none : (more : List (List ℕ)) → v ≡ w → all ≡ read ++ more → g ∷ x ≡ flat_map (record_of v) more ++ h ∷ y → (v ≡ w) × (read ≡ all) × (g ≡ h) × (x ≡ y)
+    none [] versions bodies same = (versions, sym (bodies ∙ nothing read), ap (λ (l : List ℕ). get_or l 0 0) same, ap (λ (l : List ℕ). drop 1 l) same)
+    none (body ∷ more) versions bodies same =
+        absurd (first.closed (ap (λ (l : List ℕ). get_or l 0 0) (same ∙ append_assoc (record_of v body) (flat_map (record_of v) more) (h ∷ y) ∙ record_at v body (flat_map (record_of v) more ++ h ∷ y))))
+
+pub whole_lists : (bodies : List (List ℕ)) (leaf : List ℕ) → IsWholeLeaf bodies leaf → Lists bodies leaf
+whole_lists bodies leaf (inl new) = inl new
+whole_lists bodies leaf (inr w) = inr (w.0, w.1, w.2, w.3)
+
+-- a leaf has one list of records
+pub lists_once : (xs ys : List (List ℕ)) (leaf : List ℕ) → Lists xs leaf → Lists ys leaf → xs ≡ ys
+lists_once xs ys leaf (inl a) (inl b) = a.1 ∙ sym b.1
+lists_once xs ys leaf (inl a) (inr b) = a.1 ∙ sym (new_none b.0 ys b.1 b.2 leaf b.3 a.0)
+lists_once xs ys leaf (inr a) (inl b) = new_none a.0 xs a.1 a.2 leaf a.3 b.0 ∙ sym b.1
+lists_once xs ys leaf (inr a) (inr b) = (one_leaf a.0 b.0 xs ys a.1 b.1 a.2 b.2 leaf a.3 b.3).1
+
+-- an image opens to one list of records
+pub opens_once : (xs ys : List (List ℕ)) (image : Image) → OpensTo xs image → OpensTo ys image → xs ≡ ys
+opens_once xs ys image a b = lists_once xs ys (picked_leaf image) (whole_lists xs _ a) (whole_lists ys _ b)
+
+-- an open gate with a whole record behind it
+pub opened : (version : Version) (bodies : List (List ℕ)) (body after : List ℕ) (gate : ℕ) → front_of version bodies ++ 1 ∷ (length_bytes version (length body) ++ body ++ gate ∷ after) ≡ front_of version (bodies ++ body ∷ []) ++ gate ∷ after
+opened version bodies body after gate =
+    ap (λ (l : List ℕ). front_of version bodies ++ l) (sym (record_at version body (gate ∷ after)))
+    ∙ sym (append_assoc (front_of version bodies) (record_of version body) (gate ∷ after))
+    ∙ ap (λ (l : List ℕ). l ++ gate ∷ after) (sym (front_more version bodies body))
+
+-- a gate 0 ends the records
+pub closed_opens : (version : Version) (bodies : List (List ℕ)) (rest : List ℕ) (image : Image) → length (front_of version bodies) < limit_of version → picked_leaf image ≡ front_of version bodies ++ 0 ∷ rest → OpensTo bodies image
+closed_opens version bodies rest image within bytes =
+    inr (version, 0, rest, record { bytes = bytes; closed = λ zero_is. absurd (omega (arith, zero_is)); within = within }, inl refl)
+
+-- whatever the gate of a whole record is, it counts or is pending
+pub gate_opens : (version : Version) (bodies : List (List ℕ)) (body after : List ℕ) (gate : ℕ) (image : Image) → length (front_of version bodies) < limit_of version → length (front_of version (bodies ++ body ∷ [])) < limit_of version
+    → picked_leaf image ≡ front_of version bodies ++ gate ∷ (length_bytes version (length body) ++ body ++ 0 ∷ after) → OpensToOneOf bodies body image
+gate_opens version bodies body after gate image within within_more bytes =
+    ⊎_elim
+    (λ (is_open : gate ≡ 1).
+    inr (closed_opens version (bodies ++ body ∷ []) after image within_more
+    (bytes ∙ ap (λ (g : ℕ). front_of version bodies ++ g ∷ (length_bytes version (length body) ++ body ++ 0 ∷ after)) is_open ∙ opened version bodies body after 0)))
+    (λ (closed : gate ≡ 1 → ⊥).
+    inl (inr (version, gate, length_bytes version (length body) ++ body ++ 0 ∷ after, record { bytes = bytes; closed = closed; within = within }, inr (body, record { within = within_more; after = after; bytes = refl }))))
+    (cases_eq gate 1)
+
+-- ---- images
+
+-- the picked leaf is the same
+pub same_opens : (before after : Image) → picked_leaf after ≡ picked_leaf before → (bodies : List (List ℕ)) → OpensTo bodies before → OpensTo bodies after
+same_opens before after same bodies opens =
+    let P : List ℕ → Type 0 = IsWholeLeaf bodies in
+    subst P (sym same) opens
+
+pub same_reopens : (before after : Image) → picked_leaf after ≡ picked_leaf before → Reopens before after
+same_reopens before after same bodies opens = inl (same_opens before after same bodies opens)
+
+pub new_opens : (bodies : List (List ℕ)) (before after : Image) → IsNew (picked_leaf before) → IsNew (picked_leaf after) → OpensTo bodies before → OpensTo bodies after
+new_opens bodies before after old new (inl none) = inl (new, none.1)
+new_opens bodies before after old new (inr w) = inl (new, new_none w.0 bodies w.1 w.2 (picked_leaf before) w.3 old)
+
+-- what keeps the leaf keeps the records
+pub keeps_records : (before after : Image) → KeepsLeaf before after → (bodies : List (List ℕ)) → OpensTo bodies before → OpensTo bodies after
+keeps_records before after (inl same) bodies opens = same_opens before after same bodies opens
+keeps_records before after (inr new) bodies opens = new_opens bodies before after new.0 new.1 opens
+
+-- The gate that was met last is being closed: behind what was read, and over a whole disk, any byte there opens again.
+pub closing_reopens : (version : Version) (read : List (List ℕ)) (gate other : ℕ) (rest : List ℕ) (before after : Image) → length (front_of version read) < limit_of version → gate ≢ 1 → gate ≢ 0
+    → picked_leaf before ≡ front_of version read ++ gate ∷ rest → picked_leaf after ≡ front_of version read ++ other ∷ rest → Reopens before after
+closing_reopens version read gate other rest before after within closed not_zero bytes bytes_after bodies (inl none) =
+    inl (inl (omega (arith, none.0, ap length bytes, ap length bytes_after, length-append (front_of version read) (gate ∷ rest), length-append (front_of version read) (other ∷ rest)), none.1))
+closing_reopens version read gate other rest before after within closed not_zero bytes bytes_after bodies (inr w) =
+    let here : IsLeaf version read gate rest (picked_leaf before) = record { bytes = bytes; closed = closed; within = within } in
+    let same = one_leaf version w.0 read bodies gate w.1 rest w.2 (picked_leaf before) here w.3 in
+    ⊎_elim (λ (zero_is : w.1 ≡ 0). absurd (not_zero (same.2 ∙ zero_is))) (λ found. pending found.0 w.0 w.2 same.0 same.1 same.3 found.1) w.4
+  where
+    pending : (body : List ℕ) (v : Version) (x : List ℕ) → version ≡ v → read ≡ bodies → rest ≡ x → IsPending v bodies body x → OpensTo bodies after ⊎ ((body : List ℕ) × HasPending bodies body before × OpensTo (bodies ++ body ∷ []) after)
+    pending body v x versions same_bodies same_rest is =
+        let P : Version → Type 0 = λ u. IsPending u bodies body x in
+        let here = subst P (sym versions) is in
+        let F : List (List ℕ) → List ℕ = λ l. front_of version l in
+        let within_bodies : length (front_of version bodies) < limit_of version = let Q : List (List ℕ) → Type 0 = λ l. length (front_of version l) < limit_of version in subst Q same_bodies within in
+        let old : picked_leaf before ≡ front_of version bodies ++ gate ∷ rest = bytes ∙ ap (λ (l : List (List ℕ)). front_of version l ++ gate ∷ rest) same_bodies in
+        let new : picked_leaf after ≡ front_of version bodies ++ other ∷ (length_bytes version (length body) ++ body ++ 0 ∷ here.after) =
+        bytes_after ∙ ap (λ (l : List (List ℕ)). front_of version l ++ other ∷ rest) same_bodies ∙ ap (λ (l : List ℕ). front_of version bodies ++ other ∷ l) (same_rest ∙ here.bytes) in
+        let R : List ℕ → Type 0 = λ l. IsPending version bodies body l in
+        ⊎_elim
+        (λ without. inl without)
+        (λ opens. inr (body, (version, gate, rest, record { bytes = old; closed = closed; within = within_bodies }, subst R (sym same_rest) here), opens))
+        (gate_opens version bodies body here.after other after within_bodies here.within new)
+
+-- ---- what is settled
+
+leaf_not_selector : (is_second : Bool) → Selector ≢ leaf_of is_second
+leaf_not_selector true same = cc
+leaf_not_selector false same = cc
+
+pub picked_at : (image : Image) (is_second : Bool) → is_second_of image ≡ is_second → picked_leaf image ≡ image (leaf_of is_second)
+unfolding picked_leaf
+picked_at image is_second is = ap (λ (b : Bool). image (leaf_of b)) is
+
+pub told_same : {X : Type 0} {told : Option X} (v w : X) → told ≡ Some v → told ≡ Some w → v ≡ w
+told_same v w first next = cc
+
+pub tells_some : (o : Option Image) → is_some o ≡ true → (image : Image) × (o ≡ Some image)
+tells_some (Some image) is = (image, refl)
+tells_some None is = absurd cc
+
+module _ {D : Type 0} (seen : D → Option Image) (may_leave : D → Image → Type 0) where
+  -- what a read gives is what is settled
+  pub settled_told : (disk : D) (is_second : Bool) (leaf : List ℕ) (image : Image) → IsSettled seen may_leave disk is_second leaf → seen disk ≡ Some image → (is_second_of image ≡ is_second) × (image (leaf_of is_second) ≡ leaf) × (picked_leaf image ≡ leaf)
+  settled_told disk is_second leaf image is told =
+      let same = told_same is.image image is.told told in
+      let P : Image → Type 0 = λ i. (is_second_of i ≡ is_second) × (i (leaf_of is_second) ≡ leaf) × (picked_leaf i ≡ leaf) in
+      subst P same (is.picked, is.bytes, picked_at is.image is_second is.picked ∙ is.bytes)
+
+  -- and so is what a crash leaves
+  pub settled_left : (disk : D) (is_second : Bool) (leaf : List ℕ) (c : Image) → IsSettled seen may_leave disk is_second leaf → may_leave disk c → (is_second_of c ≡ is_second) × (c (leaf_of is_second) ≡ leaf) × (picked_leaf c ≡ leaf)
+  settled_left disk is_second leaf c is left =
+      let picked : is_second_of c ≡ is_second = ap picks (is.selector_only c left) ∙ is.picked in
+      let bytes : c (leaf_of is_second) ≡ leaf = is.leaf_only c left ∙ is.bytes in
+      (picked, bytes, picked_at c is_second picked ∙ bytes)
+
+  -- it stays where nothing is written
+  pub settled_within : (old new : D) (is_second : Bool) (leaf : List ℕ) → seen new ≡ seen old → Within (may_leave old) (may_leave new) → IsSettled seen may_leave old is_second leaf → IsSettled seen may_leave new is_second leaf
+  settled_within old new is_second leaf same within is = record {
+    image = is.image;
+    told = same ∙ is.told;
+    picked = is.picked;
+    bytes = is.bytes;
+    selector_only = only_within Selector is.image (may_leave old) (may_leave new) within is.selector_only;
+    leaf_only = only_within (leaf_of is_second) is.image (may_leave old) (may_leave new) within is.leaf_only;
+  }
+
+  -- a durable write to the picked leaf
+  pub settled_written : (old new : D) (part : Part) (is_second : Bool) (front rest bytes : List ℕ) → part ≡ leaf_of is_second
+      → Goes (On part (IsOverwritten (length front) bytes)) (seen old) (seen new) → is_some (seen new) ≡ is_some (seen old)
+      → Follows (On part (Torn (length front) (length bytes))) (may_leave old) (may_leave new) → Told (seen new) (λ b. IsOnly part b (may_leave new))
+      → IsSettled seen may_leave old is_second (front ++ rest) → IsSettled seen may_leave new is_second (front ++ bytes ++ drop (length bytes) rest)
+  settled_written old new part is_second front rest bytes is_part goes tells crash durable is =
+      let P : Part → Type 0 = λ p. Selector ≢ p in
+      let other : Selector ≢ part = subst P (sym is_part) (leaf_not_selector is_second) in
+      let told = tells_some (seen new) (tells ∙ ap (λ (o : Option Image). is_some o) is.told) in
+      let step = goes is.image told.0 is.told told.1 in
+      let here : told.0 (leaf_of is_second) ≡ front ++ bytes ++ drop (length bytes) rest =
+      ap told.0 (sym is_part) ∙ overwritten_behind front rest bytes (told.0 part) (let Q : List ℕ → Type 0 = λ l. IsOverwritten (length front) bytes l (told.0 part) in subst Q (ap is.image is_part ∙ is.bytes) step.there) in
+      record {
+        image = told.0;
+        told = told.1;
+        picked = ap picks (step.elsewhere Selector other) ∙ is.picked;
+        bytes = here;
+        selector_only = λ c left. only_elsewhere Selector part (Torn (length front) (length bytes)) is.image (may_leave old) (may_leave new) other crash is.selector_only c left ∙ sym (step.elsewhere Selector other);
+        leaf_only = λ c left. ap c (sym is_part) ∙ durable told.0 told.1 c left ∙ ap told.0 is_part;
+      }
+
+  -- and what a crash leaves in the middle of it
+  pub torn_picked : (old : D) (part : Part) (is_second : Bool) (at n : ℕ) (leaf : List ℕ) (c : Image) → part ≡ leaf_of is_second → IsSettled seen may_leave old is_second leaf → TornFrom part at n (may_leave old) c → Torn at n leaf (picked_leaf c)
+  torn_picked old part is_second at n leaf c is_part is from =
+      let P : Part → Type 0 = λ p. Selector ≢ p in
+      let other : Selector ≢ part = subst P (sym is_part) (leaf_not_selector is_second) in
+      let was = settled_left old is_second leaf from.0 is from.1 in
+      let picked : is_second_of c ≡ is_second = ap picks (from.2.elsewhere Selector other) ∙ was.0 in
+      let there : c part ≡ picked_leaf c = ap c is_part ∙ sym (picked_at c is_second picked) in
+      let Q : List ℕ → Type 0 = λ l. Torn at n l (c part) in
+      let R : List ℕ → Type 0 = λ l. Torn at n leaf l in
+      subst R there (subst Q (ap from.0 is_part ∙ was.1) from.2.there)

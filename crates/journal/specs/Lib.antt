@@ -1,0 +1,6 @@
+pub mod Leaf
+pub mod Reading
+pub mod Store
+pub mod Settled
+pub mod State
+pub mod Passing

@@ -1,0 +1,54 @@
+-- What stands of a journal while it is read, and once it has been read.
+use Rattle.std.specs.Prelude.{◌≡◌, ℕ, ◌<◌, List, ◌∷◌, ◌++◌, Option, Some, length}
+use Rattle.as4_flow.specs.Faults.{Rose}
+use Rattle.as4_disk.specs.Image.{Image}
+use Rattle.journal.specs.declared.version.Version.TheVariants.{Two}
+use Rattle.journal.specs.declared.journal.Journal.{Journal}
+use Rattle.journal.specs.Leaf.{limit_of, front_of}
+use Rattle.journal.specs.Settled.{IsSettled, Reads}
+use Rattle.journal.specs.declared.fault.JournalFault.{JournalFault}
+use Rattle.journal.specs.declared.fault.JournalFault.TheVariants.{Disk, NotJournal, Full, NoMemory}
+
+-- where the fault is that the disk failed, its counts are those before and after, and the count rose
+abbrev pub IsDisk : ℕ → ℕ → JournalFault → Type 0
+IsDisk before after fault = (x y : ℕ) → fault ≡ Disk x y → (x ≡ before) × (y ≡ after) × Rose before after
+
+-- it is that the disk failed, or that there was no memory
+abbrev pub IsReadFault : JournalFault → Type 0
+IsReadFault (Disk before after) = Unit {0}
+IsReadFault NoMemory = Unit {0}
+IsReadFault (NotJournal at) = ⊥
+IsReadFault (Full size need) = ⊥
+
+-- it is that the disk failed
+abbrev pub IsDiskFault : JournalFault → Type 0
+IsDiskFault (Disk before after) = Unit {0}
+IsDiskFault NoMemory = ⊥
+IsDiskFault (NotJournal at) = ⊥
+IsDiskFault (Full size need) = ⊥
+
+-- These records were read so far, and the journal stands at the next gate. Where that is open, the leaf isn't new.
+pub record HasRead {D : Type 0} (seen : D → Option Image) (may_leave : D → Image → Type 0) (journal : Journal D) (bodies : List (List ℕ)) : Type 0 where
+  pub next : ℕ
+  pub rest : List ℕ
+  pub settled : IsSettled seen may_leave journal.disk journal.is_second (front_of journal.version bodies ++ next ∷ rest)
+  pub place : journal.gate ≡ length (front_of journal.version bodies)
+  pub within : length (front_of journal.version bodies) < limit_of journal.version
+  pub made : next ≡ 1 → 9 < length (front_of journal.version bodies ++ next ∷ rest)
+
+-- All records were read, and these are they: each crash leaves them, with a closed gate 0 behind.
+pub record HasRecords {D : Type 0} (seen : D → Option Image) (may_leave : D → Image → Type 0) (journal : Journal D) (bodies : List (List ℕ)) : Type 0 where
+  pub rest : List ℕ
+  pub settled : IsSettled seen may_leave journal.disk journal.is_second (front_of journal.version bodies ++ 0 ∷ rest)
+  pub place : journal.gate ≡ length (front_of journal.version bodies)
+  pub within : length (front_of journal.version bodies) < limit_of journal.version
+
+-- These are the journal's records, and a fold is open: what a read gives of the other leaf is a front with these.
+pub record HasFold {D : Type 0} (seen : D → Option Image) (may_leave : D → Image → Type 0) (journal : Journal D) (bodies folded : List (List ℕ)) : Type 0 where
+  pub rest : List ℕ
+  pub settled : IsSettled seen may_leave journal.disk journal.is_second (front_of journal.version bodies ++ 0 ∷ rest)
+  pub place : journal.gate ≡ length (front_of journal.version bodies)
+  pub within : length (front_of journal.version bodies) < limit_of journal.version
+  pub other : Reads seen journal.disk journal.is_second (front_of Two folded)
+  pub fold_place : journal.fold ≡ Some (length (front_of Two folded))
+  pub fold_within : length (front_of Two folded) < limit_of Two

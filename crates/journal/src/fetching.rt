@@ -1,0 +1,48 @@
+//! One record of a journal, by the place of its gate.
+ghost use Rattle.std.specs.Prelude.{◌≡◌, ◌≢◌, ◌++◌, ◌∷◌, ◌<◌, ◌≤◌, IfOk, IfErr, IsErrOf, List, ℕ, length};
+ghost use Rattle.as4_disk.specs.Runs.{Quiet};
+
+use crate::reading::read_body;
+use crate::store::leaf_part;
+use crate::{Journal, JournalFault};
+use as4_disk::{Disk, ReadFault};
+use as4_values::Octets;
+use std::alloc::Global;
+
+impl<D: Disk> Journal<D> {
+    ghost use Rattle.journal.specs.Leaf.{front_of};
+    ghost use Rattle.journal.specs.State.{HasRecords, IsDisk, IsReadFault};
+
+    /// The body of the record whose gate stands at that place, as `next_record` or `append` gave it. Over a disk that
+    /// doesn't tell, where no record stands there, an empty body.
+    pub fn fetch(&mut self, alloc: Global, gate: u64) -> Result<Octets, JournalFault>
+        ensures found { IfOk result (λ got. (before : _) (body : _) (after : _)
+            → HasRecords D.seen D.may_leave self.old (before ++ body ∷ after)
+            → gate ≡ length (front_of self.old.version before) → got ≡ body) }
+        ensures kept { (bodies : _)
+            → HasRecords D.seen D.may_leave self.old bodies → HasRecords D.seen D.may_leave self.new bodies }
+        ensures same { (self.new.gate ≡ self.old.gate) × (self.new.version ≡ self.old.version)
+            × (self.new.fold ≡ self.old.fold) }
+        ensures quiet { Quiet D.moment D.left_since D.seen D.may_leave self.old.disk self.new.disk }
+
+        ensures faults { IfErr result IsReadFault }
+        ensures cause { IfErr result
+            (λ e. IsDisk (D.fault_count self.old.disk) (D.fault_count self.new.disk) e) }
+    {
+        let nothing = Octets::of(Vec::new(alloc));
+        if gate >= self.version.limit() {
+            return Ok(nothing);
+        }
+        let before = self.disk.faults();
+        let part = leaf_part(self.is_second);
+        match read_body(alloc, &mut self.disk, part, self.version, gate) {
+            Ok(Some(body)) => Ok(body),
+            Ok(None) => Ok(nothing),
+            Err(ReadFault::NoMemory) => Err(JournalFault::NoMemory),
+            Err(ReadFault::Disk) => {
+                let after = self.disk.faults();
+                Err(JournalFault::Disk { before, after })
+            }
+        }
+    }
+}

@@ -1,0 +1,118 @@
+//! How a journal is folded: other records that stand for its own are written to the other leaf, which is then picked.
+ghost use Rattle.std.specs.Prelude.{◌≡◌, ◌+◌, ◌<◌, ◌≤◌, ◌^◌, ◌++◌, [], ◌∷◌, List, ℕ, Some, IfOk, IfErr, OnOk, IsNone, IsSome, IsSomeAnd, length};
+ghost use Rattle.as4_flow.specs.Told.{Told};
+ghost use Rattle.as4_disk.specs.Runs.{LeavesOnly, FirstThen};
+
+use crate::other::{empty_other, finish_other, write_other};
+use crate::version::Version;
+use crate::{Frame, Journal, JournalFault};
+use as4_disk::{Disk, DiskFailed};
+
+impl<D: Disk> Journal<D> {
+    ghost use Rattle.journal.specs.Store.{OpensTo, OpensToEither};
+    ghost use Rattle.journal.specs.State.{HasRecords, HasFold, IsDisk, IsDiskFault};
+
+    /// Opens a fold, which has no records yet. All records have been read, and no call has answered Disk. It takes no
+    /// memory.
+    pub fn fold_start(&mut self) -> Result<(), JournalFault>
+        requires no_fold { IsNone self.old.fold }
+        ensures open { OnOk result ((bodies : _) → HasRecords D.seen D.may_leave self.old bodies
+            → HasFold D.seen D.may_leave self.new bodies []) }
+        ensures place { OnOk result (self.new.fold ≡ Some 8) }
+        ensures any_moment { (bodies : _) → HasRecords D.seen D.may_leave self.old bodies
+            → LeavesOnly D.moment D.left_since self.old.disk self.new.disk (OpensTo bodies) }
+
+        ensures faults { IfErr result IsDiskFault }
+        ensures cause { IfErr result
+            (λ e. IsDisk (D.fault_count self.old.disk) (D.fault_count self.new.disk) e) }
+    {
+        let before = self.disk.faults();
+        match empty_other(&mut self.disk, self.is_second) {
+            Ok(()) => {
+                self.fold = Some(8);
+                Ok(())
+            }
+            Err(DiskFailed) => {
+                let after = self.disk.faults();
+                Err(JournalFault::Disk { before, after })
+            }
+        }
+    }
+
+    /// Adds a record to the open fold, and answers the place of its gate in the other leaf. The fold stays below
+    /// 4,294,967,296 bytes with it. It takes no memory.
+    pub fn fold_add(&mut self, frame: &Frame) -> Result<u64, JournalFault>
+        requires room { IsSomeAnd self.old.fold (λ place. place + length frame.now + 10 < 2 ^ 32) }
+        requires settled { Told (D.seen self.old.disk) (λ _. (bodies : List (List ℕ)) × (folded : List (List ℕ))
+            × HasFold D.seen D.may_leave self.old bodies folded) }
+        ensures added { OnOk result ((bodies : _) (folded : _) → HasFold D.seen D.may_leave self.old bodies folded
+            → HasFold D.seen D.may_leave self.new bodies (folded ++ frame.now ∷ [])) }
+        ensures any_moment { (bodies : _) (folded : _) → HasFold D.seen D.may_leave self.old bodies folded
+            → LeavesOnly D.moment D.left_since self.old.disk self.new.disk (OpensTo bodies) }
+        ensures gate { IfOk result (λ gate. self.old.fold ≡ Some gate) }
+        ensures place { IfOk result (λ gate. self.new.fold ≡ Some (gate + 9 + length frame.now)) }
+
+        ensures faults { IfErr result IsDiskFault }
+        ensures cause { IfErr result
+            (λ e. IsDisk (D.fault_count self.old.disk) (D.fault_count self.new.disk) e) }
+    {
+        let gate = self.fold.unwrap();
+        let before = self.disk.faults();
+        match write_other(&mut self.disk, self.is_second, gate, frame.head()) {
+            Ok(()) => {
+                self.fold = Some(gate + 9 + frame.body_len());
+                Ok(gate)
+            }
+            Err(DiskFailed) => {
+                let after = self.disk.faults();
+                Err(JournalFault::Disk { before, after })
+            }
+        }
+    }
+
+    /// Ends the open fold: its records are then the journal's, in a leaf of version 2. It takes no memory.
+    pub fn fold_finish(&mut self) -> Result<(), JournalFault>
+        requires open { IsSome self.old.fold }
+        requires settled { Told (D.seen self.old.disk) (λ _. (bodies : List (List ℕ)) × (folded : List (List ℕ))
+            × HasFold D.seen D.may_leave self.old bodies folded) }
+        ensures folded { OnOk result ((bodies : _) (folded : _) → HasFold D.seen D.may_leave self.old bodies folded
+            → HasRecords D.seen D.may_leave self.new folded) }
+        ensures version { OnOk result (self.new.version ≡ Version.Two) }
+        ensures closed { OnOk result (IsNone self.new.fold) }
+
+        // Until the other leaf has been settled a crash leaves the old records, and from then on the old or the new.
+        ensures any_moment { (bodies : _) (folded : _) → HasFold D.seen D.may_leave self.old bodies folded
+            → FirstThen D.moment D.left_since self.old.disk self.new.disk
+            (OpensTo bodies) (OpensToEither bodies folded) }
+
+        ensures faults { IfErr result IsDiskFault }
+        ensures cause { IfErr result
+            (λ e. IsDisk (D.fault_count self.old.disk) (D.fault_count self.new.disk) e) }
+    {
+        let gate = self.fold.unwrap();
+        let before = self.disk.faults();
+        match finish_other(&mut self.disk, self.is_second, gate) {
+            Ok(()) => {
+                self.is_second = !self.is_second;
+                self.version = Version::Two;
+                self.gate = gate;
+                self.fold = None;
+                Ok(())
+            }
+            Err(DiskFailed) => {
+                let after = self.disk.faults();
+                Err(JournalFault::Disk { before, after })
+            }
+        }
+    }
+
+    /// Closes the open fold without a device call. The journal's records stay.
+    pub fn fold_drop(&mut self)
+        ensures records { (bodies : _) (folded : _) → HasFold D.seen D.may_leave self.old bodies folded
+            → HasRecords D.seen D.may_leave self.new bodies }
+        ensures closed { IsNone self.new.fold }
+        ensures disk { self.new.disk ≡ self.old.disk }
+    {
+        self.fold = None;
+    }
+}

@@ -1,0 +1,73 @@
+//! The records of a leaf as bytes in memory.
+ghost use Rattle.std.specs.Prelude.{ℕ, List, ◌≡◌, ◌<◌, ◌^◌, ◌++◌, ◌∷◌, [], IfOk, IfErr, IfSome, IfNone, OnOk};
+ghost use Rattle.journal.specs.Leaf.{Lists, IsBroken};
+ghost use Rattle.journal.specs.Reading.{IsBodyAt, HasNoBody};
+
+use crate::LeafRefusal;
+use crate::reading::length_in;
+use crate::starting::version_in;
+use crate::version::Version;
+use as4_values::{Octets, Seq};
+use std::alloc::{AllocError, Global};
+
+/// The records of a leaf of either version, in order.
+pub fn leaf_records(alloc: Global, leaf: &[u8]) -> Result<Seq<Octets>, LeafRefusal>
+    ensures records { IfOk result (λ bodies. Lists bodies leaf.now) }
+    ensures not_journal { IfErr result (λ e. (at : _) → e ≡ LeafRefusal.NotJournal at → IsBroken at leaf.now) }
+{
+    let mut bodies = Vec::new(alloc);
+    if leaf.len() < 10 {
+        return Ok(Seq::of(bodies));
+    }
+    let Some(version) = version_in(&leaf[..8]) else {
+        drop(bodies);
+        return Err(LeafRefusal::NotJournal { at: 0 });
+    };
+    let mut gate = 8;
+    'records: while leaf[gate] == 1 {
+        let Some(body) = body_in(version, gate as u64, &leaf[gate + 1..]) else {
+            drop(bodies);
+            return Err(LeafRefusal::NotJournal { at: gate as u64 });
+        };
+        if push_body(alloc, &mut bodies, body).is_err() {
+            drop(bodies);
+            return Err(LeafRefusal::NoMemory);
+        }
+        gate += 1 + version.width() as usize + body.len();
+    }
+    Ok(Seq::of(bodies))
+}
+
+/// A leaf with a list of records is broken at no place: the two answers of `leaf_records` exclude each other.
+pub fn no_listed_leaf_is_broken()
+    ensures { (leaf : List ℕ) (at : ℕ) (bodies : List (List ℕ)) → IsBroken at leaf → Lists bodies leaf → ⊥ }
+{}
+
+fn push_body(alloc: Global, bodies: &mut Vec<Octets>, body: &[u8]) -> Result<(), AllocError>
+    ensures { OnOk result (bodies.new.items ≡ bodies.old.items ++ body.now ∷ []) }
+{
+    bodies.reserve(1)?;
+    bodies.push(Octets::of(Vec::from_slice(alloc, body)?))?;
+    Ok(())
+}
+
+/// The body of the record at an open gate, where a whole record stands there.
+fn body_in(version: Version, gate: u64, behind: &[u8]) -> Option<&[u8]>
+    requires { gate < 2 ^ 32 }
+    ensures some { IfSome result (λ body. IsBodyAt version gate behind.now body.now) }
+    ensures none { IfNone result (HasNoBody version gate behind.now) }
+{
+    let width = version.width() as usize;
+    if behind.len() < width {
+        return None;
+    }
+    let len = length_in(version, &behind[..width]);
+    if version.limit().saturating_sub(gate + 1 + version.width()) <= len {
+        return None;
+    }
+    let rest = &behind[width..];
+    if rest.len() as u64 <= len {
+        return None;
+    }
+    Some(&rest[..len as usize])
+}

@@ -1,0 +1,53 @@
+//! How a gate is passed: the record behind an open one is read, and a closed one that isn't 0 is closed to 0.
+ghost use Rattle.std.specs.Prelude.{◌≡◌, ◌++◌, ◌∷◌, ◌<◌, ◌≤◌, ◌^◌, length, IfOk, IsErrOf};
+ghost use Rattle.as4_flow.specs.Told.{Told};
+ghost use Rattle.as4_flow.specs.Faults.{Rose};
+ghost use Rattle.as4_disk.specs.Runs.{LeavesOnly, Quiet};
+ghost use Rattle.journal.specs.Leaf.{front_of, limit_of};
+ghost use Rattle.journal.specs.Reading.{IsWithin};
+ghost use Rattle.journal.specs.Store.{Reopens};
+ghost use Rattle.journal.specs.Settled.{IsSettled};
+ghost use Rattle.journal.specs.Passing.{Passes, IsQuiet};
+
+use crate::reading::{Next, read_next};
+use crate::store::{leaf_part, write_picked};
+use crate::version::Version;
+use as4_disk::{Disk, ReadFault};
+use std::alloc::Global;
+
+/// Reads what stands at a gate of the picked leaf, and closes a gate there that is neither 0 nor 1.
+pub(crate) fn pass<D: Disk>(
+    alloc: Global,
+    disk: &mut D,
+    is_second: bool,
+    version: Version,
+    gate: u64,
+) -> Result<Next, ReadFault>
+    requires { gate < 2 ^ 32 }
+    ensures passes { IfOk result (λ next. (bodies : _) (byte : _) (rest : _) → gate ≡ length (front_of version bodies)
+        → length (front_of version bodies) < limit_of version
+        → IsSettled D.seen D.may_leave disk.old is_second (front_of version bodies ++ byte ∷ rest)
+        → Passes D.seen D.may_leave disk.new is_second version bodies byte rest next) }
+    ensures within { IfOk result (λ next. IsWithin version gate next) }
+    ensures quiet { IfOk result (λ next. IsQuiet next
+        (Quiet D.moment D.left_since D.seen D.may_leave disk.old disk.new)) }
+    ensures starved { IsErrOf result ReadFault.NoMemory
+        → Quiet D.moment D.left_since D.seen D.may_leave disk.old disk.new }
+
+    ensures any_moment { (bodies : _) (byte : _) (rest : _) → gate ≡ length (front_of version bodies)
+        → length (front_of version bodies) < limit_of version
+        → IsSettled D.seen D.may_leave disk.old is_second (front_of version bodies ++ byte ∷ rest)
+        → Told (D.seen disk.old) (λ b. LeavesOnly D.moment D.left_since disk.old disk.new (Reopens b)) }
+    ensures cause { IsErrOf result ReadFault.Disk → Rose (D.fault_count disk.old) (D.fault_count disk.new) }
+    ensures counted { D.fault_count disk.old ≤ D.fault_count disk.new }
+{
+    match read_next(alloc, disk, leaf_part(is_second), version, gate)? {
+        Next::Record(body) => Ok(Next::Record(body)),
+        Next::Closed(0) => Ok(Next::Closed(0)),
+        Next::Closed(byte) => {
+            write_picked(disk, is_second, gate, &[0])?;
+            Ok(Next::Closed(byte))
+        }
+        Next::Broken => Ok(Next::Broken),
+    }
+}
