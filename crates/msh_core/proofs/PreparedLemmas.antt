@@ -8,7 +8,7 @@ use Rattle.as4_values.specs.declared.mode.Mode.{Mode}
 use Rattle.end_tables.specs.Standing.{CanStand}
 use Rattle.exchange_model.specs.End.{End}
 use Rattle.exchange_model.specs.Apply.{record_len}
-use Rattle.exchange_model.specs.Table.{Rests, RowOf, Step, has_room}
+use Rattle.exchange_model.specs.Table.{IsLimited, Rests, RowOf, Step, has_room}
 use Rattle.exchange_model.specs.declared.event.Event.{Event}
 use Rattle.exchange_model.specs.declared.outcome.Outcome.{Outcome}
 use Rattle.exchange_model.specs.declared.reply.Reply.{Reply}
@@ -26,6 +26,11 @@ pub free_row : (modes : List Mode) (end : End) (event : Event) (outcome : Outcom
     → RowOf modes end event event.what outcome
 free_row modes end event outcome step free =
     subst (λ o. RowOf modes end event event.what o) (sym (row_is _ end step.row outcome step.limited free)) step.decided
+
+-- a row, where the journal has room for it, is a step
+pub limited_step : (modes : List Mode) (end : End) (event : Event) (row outcome : Outcome) → RowOf modes end event event.what row
+    → IsLimited end row outcome → Step modes end event outcome
+limited_step modes end event row outcome decided limited = record { row = row; decided = decided; limited = limited }
 
 -- a plan without effects is ready
 pub nothing_ready : (machine : Machine) (event : Event) (effects : List Effect) (r : Reply) (queues : List Queue)
