@@ -27,7 +27,7 @@ pub use code::Code;
 pub use header::{Agreement, PartInfo, Party, Property, Service, Side, UserHeader};
 pub use lists::{Octets, Seq};
 pub use memory::NoMemory;
-pub use message::{Message, Unit};
+pub use message::{Message, Pair, Unit};
 pub use message_id::{MessageId, submission_ids_differ};
 pub use mode::Mode;
 pub use moment::{MAX_MOMENT, is_moment_stamp, one_stamp, stamp_text};

@@ -1,3 +1,6 @@
+ghost use Rattle.std.specs.Prelude.{IsTrue};
+ghost use Rattle.as4_values.specs.SignalParts.{is_receipt, is_pull};
+
 use crate::header::UserHeader;
 use crate::lists::Seq;
 use crate::memory::NoMemory;
@@ -6,11 +9,23 @@ use crate::plain_data::{PlainData, try_clone_two};
 use crate::signal::Signal;
 use std::alloc::Global;
 
-/// What an envelope holds: the one message unit of its `eb:Messaging` (ebMS 3.0 Core, section 5.2.1).
+/// A receipt, bundled with the next pull request (ebMS 3.0 Core, section 5.2.1, on several units in one message).
+#[derive(Drop)]
+pub struct Pair {
+    /// Its body is a receipt.
+    pub receipt: Signal,
+    /// Its body is a pull request.
+    pub pull: Signal,
+    pub ghost receipted: { IsTrue (is_receipt receipt.body) },
+    pub ghost asked: { IsTrue (is_pull pull.body) },
+}
+
+/// What an envelope holds: the message units of its `eb:Messaging` (ebMS 3.0 Core, section 5.2.1).
 #[derive(Drop)]
 pub enum Unit {
     User(UserHeader),
     Signal(Signal),
+    Pair(Pair),
 }
 
 /// A message, with its payloads.
@@ -22,6 +37,24 @@ pub enum Message {
         payloads: Seq<Payload>,
     },
     Signal(Signal),
+    Pair(Pair),
+}
+
+impl PlainData for Pair {
+    fn try_clone(&self, alloc: Global) -> Result<Pair, NoMemory> {
+        match (self.receipt.try_clone(alloc), self.pull.try_clone(alloc)) {
+            (Ok(receipt), Ok(pull)) => Ok(Pair { receipt, pull }),
+            (receipt, pull) => {
+                drop(receipt);
+                drop(pull);
+                Err(NoMemory)
+            }
+        }
+    }
+
+    fn same(&self, other: &Pair) -> bool {
+        self.receipt.same(&other.receipt) && self.pull.same(&other.pull)
+    }
 }
 
 impl PlainData for Unit {
@@ -29,6 +62,7 @@ impl PlainData for Unit {
         match self {
             Unit::User(header) => Ok(Unit::User(header.try_clone(alloc)?)),
             Unit::Signal(signal) => Ok(Unit::Signal(signal.try_clone(alloc)?)),
+            Unit::Pair(pair) => Ok(Unit::Pair(pair.try_clone(alloc)?)),
         }
     }
 
@@ -36,6 +70,7 @@ impl PlainData for Unit {
         match (self, other) {
             (Unit::User(header), Unit::User(other)) => header.same(other),
             (Unit::Signal(signal), Unit::Signal(other)) => signal.same(other),
+            (Unit::Pair(pair), Unit::Pair(other)) => pair.same(other),
             _ => false,
         }
     }
@@ -49,6 +84,7 @@ impl PlainData for Message {
                 Ok(Message::User { header, payloads })
             }
             Message::Signal(signal) => Ok(Message::Signal(signal.try_clone(alloc)?)),
+            Message::Pair(pair) => Ok(Message::Pair(pair.try_clone(alloc)?)),
         }
     }
 
@@ -62,6 +98,7 @@ impl PlainData for Message {
                 },
             ) => header.same(other_header) && payloads.same(other_payloads),
             (Message::Signal(signal), Message::Signal(other)) => signal.same(other),
+            (Message::Pair(pair), Message::Pair(other)) => pair.same(other),
             _ => false,
         }
     }
