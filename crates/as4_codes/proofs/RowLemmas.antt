@@ -11,7 +11,7 @@ use Rattle.as4_values.specs.Moment.{digits}
 use Rattle.as4_values.specs.PlainTexts.{IsPlainText, allows_at}
 use Rattle.as4_values.specs.Word.{IsWord, allows}
 use Rattle.as4_values.specs.declared.word.Word.TheVariants.{ErrorCode}
-use Rattle.exchange_model.specs.ErrorCodes.{ErrorRow, error_row, error_table, code_text}
+use Rattle.as4_codes.specs.ErrorCodes.{ErrorRow, error_row, error_table, code_text}
 use Rattle.as4_codes.specs.declared.rows.Row.{Row}
 use Rattle.as4_codes.specs.Rows.{row_of}
 

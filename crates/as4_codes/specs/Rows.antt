@@ -1,6 +1,6 @@
 -- What a row of the table says.
 use Rattle.as4_codes.specs.declared.rows.Row.{Row}
-use Rattle.exchange_model.specs.ErrorCodes.{ErrorRow}
+use Rattle.as4_codes.specs.ErrorCodes.{ErrorRow}
 
 abbrev pub row_of : Row → ErrorRow
 row_of row = record { code = row.code; short = row.short.now; severity = row.severity; category = row.category.now }

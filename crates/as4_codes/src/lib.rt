@@ -1,8 +1,13 @@
-//! The errors that a handler tells its partner: a row for each code, and the error signals that are made of them.
+//! The errors that a handler tells its partner, a row for each code, and the signals that it makes: error signals,
+//! receipts and pull requests.
 #![tactic(auto)]
 
+mod errors;
+mod pulls;
+mod receipts;
 mod rows;
-mod signals;
 
+pub use errors::error_signal;
+pub use pulls::{pull_request, receipt_with_pull};
+pub use receipts::receipt;
 pub use rows::{Row, TABLE, codes_differ, find, table};
-pub use signals::error_signal;

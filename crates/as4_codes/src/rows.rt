@@ -1,7 +1,7 @@
 ghost use Rattle.std.specs.Prelude.{◌≡◌, ◌≢◌, ◌==◌, find, map, All, AllPairs};
 ghost use Rattle.std.specs.Option.{option_copied};
 ghost use Rattle.as4_codes.specs.Rows.{row_of};
-ghost use Rattle.exchange_model.specs.ErrorCodes.{error_row, error_table};
+ghost use Rattle.as4_codes.specs.ErrorCodes.{error_row, error_table};
 
 use as4_values::Severity;
 
@@ -79,7 +79,7 @@ pub const TABLE: [Row; 10] = [
 ];
 
 /// `TABLE`, lent for good.
-#[tactic(auto, unfolding(exchange_model::specs::ErrorCodes::error_table))]
+#[tactic(auto, unfolding(crate::specs::ErrorCodes::error_table))]
 pub fn table() -> &'static [Row; 10]
     ensures { map row_of result.now ≡ error_table }
 {

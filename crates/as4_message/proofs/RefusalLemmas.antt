@@ -1,7 +1,7 @@
 -- What is refused has a code of the table.
 use Rattle.std.proofs.Common.{ℕ, List, refl, sym, subst}
 use Rattle.std.specs.Prelude.{IsSome}
-use Rattle.exchange_model.specs.ErrorCodes.{error_row, error_table}
+use Rattle.as4_codes.specs.ErrorCodes.{error_row, error_table}
 use Rattle.as4_message.specs.declared.refusal.Refusal.{Refusal}
 use Rattle.as4_message.specs.Refused.{IsRefused}
 

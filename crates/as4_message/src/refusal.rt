@@ -1,6 +1,6 @@
 ghost use Rattle.std.specs.Prelude.{◌≤◌, IfOk, IsSome};
-ghost use Rattle.exchange_model.specs.ErrorCodes.{error_row};
-ghost use Rattle.exchange_model.specs.Signals.{IsErrorSignalOf};
+ghost use Rattle.as4_codes.specs.ErrorCodes.{error_row};
+ghost use Rattle.as4_codes.specs.Signals.{IsErrorSignalOf};
 
 use as4_codes::error_signal;
 use as4_values::{MAX_MOMENT, MessageId, NoMemory, Signal};

@@ -4,7 +4,7 @@ use Rattle.as4_values.specs.declared.payload.Payload.{Payload}
 use Rattle.as4_values.specs.declared.signal.Signal.{Signal}
 use Rattle.as4_values.specs.declared.message.Message.TheVariants as message
 use Rattle.message_model.specs.Wire.{file_of}
-use Rattle.exchange_model.specs.Signals.{IsReceiptOf, IsErrorSignalOf}
+use Rattle.as4_codes.specs.Signals.{IsReceiptOf, IsErrorSignalOf}
 use Rattle.as4_message.specs.Plain.{PlainHeader, IsPlain, header_of, plain_message}
 use Rattle.as4_message.specs.declared.refusal.Refusal.{Refusal}
 use Rattle.as4_message.specs.Refused.{IsRefusedFile}

@@ -2,14 +2,14 @@
 ghost use Rattle.std.specs.Prelude.{◌≡◌, ◌≤◌, List, IfOk, IsErrOf, IsSome, MatchResult};
 ghost use Rattle.as4_values.specs.declared.payload.Payload.{Payload as PayloadValue};
 ghost use Rattle.message_model.specs.Wire.{file_of};
-ghost use Rattle.exchange_model.specs.ErrorCodes.{error_row};
-ghost use Rattle.exchange_model.specs.Signals.{IsReceiptOf, IsErrorSignalOf};
+ghost use Rattle.as4_codes.specs.ErrorCodes.{error_row};
+ghost use Rattle.as4_codes.specs.Signals.{IsReceiptOf, IsErrorSignalOf};
 ghost use Rattle.as4_tool.specs.Answer.{IsReply, IsAnswer, IsUnbuilt};
 ghost use Rattle.as4_tool.specs.declared.answers.Unanswered.TheVariants as unanswered;
 
+use as4_codes::receipt;
 use as4_message::{MessageRefusal, Refusal, read_message_file, refusal_signal, write_signal_file};
 use as4_values::{MAX_MOMENT, Message, NoMemory, Octets, Signal, UserHeader};
-use msh_core::receipt;
 use std::alloc::Global;
 
 /// Why a message file has no answer.

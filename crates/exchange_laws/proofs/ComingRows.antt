@@ -18,7 +18,7 @@ use Rattle.as4_values.specs.declared.signal_body.SignalBody.{SignalBody}
 use Rattle.as4_values.specs.declared.signal_body.SignalBody.TheVariants as body
 use Rattle.exchange_model.specs.Apply.{after, after_all, changed, marked}
 use Rattle.exchange_model.specs.End.{End}
-use Rattle.exchange_model.specs.ErrorCodes.{ErrorRow, error_row, error_item}
+use Rattle.as4_codes.specs.ErrorCodes.{ErrorRow, error_row, error_item}
 use Rattle.exchange_model.specs.Numbered.{AreNumberedFrom}
 use Rattle.exchange_model.specs.Questions.{head_of, is_known, is_pending, sent_of}
 use Rattle.exchange_model.specs.Refusing.{Refusal, refusal_of, refusals_of, once}

@@ -4,7 +4,6 @@ pub mod Causes
 pub mod Coming
 pub mod DeliveredOnce
 pub mod End
-pub mod ErrorCodes
 pub mod HandingOut
 pub mod Least
 pub mod LosslessRound
@@ -12,7 +11,6 @@ pub mod Numbered
 pub mod Questions
 pub mod Refusing
 pub mod Room
-pub mod Signals
 pub mod Staying
 pub mod Submitting
 pub mod Table

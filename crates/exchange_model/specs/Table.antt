@@ -62,7 +62,7 @@ use Rattle.exchange_model.specs.Apply.{record_len}
 use Rattle.exchange_model.specs.End.{End}
 use Rattle.exchange_model.specs.Questions.{is_pending, is_spent, is_known, head_of, sent_of}
 use Rattle.exchange_model.specs.Refusing.{refusals_of}
-use Rattle.exchange_model.specs.Signals.{IsReceiptOf, IsErrorSignalOf, IsPullOf}
+use Rattle.as4_codes.specs.Signals.{IsReceiptOf, IsErrorSignalOf, IsPullOf}
 use Rattle.exchange_model.specs.Submitting.{IsSubmissionOf, are_too_large, address_of}
 use Rattle.exchange_model.specs.declared.event.Event.{Event}
 use Rattle.exchange_model.specs.declared.inbox_entry.InboxEntry.{InboxEntry}

@@ -124,7 +124,7 @@ fn is_signal(signal: &Signal, about: Option<&[u8]>) -> bool {
 }
 
 /// The error signal with the code 7 about this message.
-#[tactic(auto, unfolding(exchange_model::specs::ErrorCodes::error_row, exchange_model::specs::ErrorCodes::error_table))]
+#[tactic(auto, unfolding(as4_codes::specs::ErrorCodes::error_row, as4_codes::specs::ErrorCodes::error_table))]
 fn signal_about(alloc: Global, id: Option<&MessageId>) -> Result<Signal, NoMemory> {
     error_signal(alloc, 7, id, 0, 1)
 }

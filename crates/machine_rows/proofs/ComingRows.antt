@@ -12,9 +12,9 @@ use Rattle.as4_values.specs.declared.signal.Signal.{Signal}
 use Rattle.end_tables.specs.Standing.{CanStand}
 use Rattle.exchange_model.specs.Apply.{is_fit, is_one}
 use Rattle.exchange_model.specs.End.{End}
-use Rattle.exchange_model.specs.ErrorCodes.{error_row, error_table}
+use Rattle.as4_codes.specs.ErrorCodes.{error_row, error_table}
 use Rattle.exchange_model.specs.Questions.{head_of, is_known, is_pending, sent_at}
-use Rattle.exchange_model.specs.Signals.{IsReceiptOf}
+use Rattle.as4_codes.specs.Signals.{IsReceiptOf}
 use Rattle.exchange_model.specs.Table.{Delivers, Gives, Settles, message_of}
 use Rattle.exchange_model.specs.declared.event.Event.{Event}
 use Rattle.exchange_model.specs.declared.outcome.Outcome.{Outcome}

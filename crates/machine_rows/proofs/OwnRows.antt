@@ -19,7 +19,7 @@ use Rattle.as4_values.specs.declared.route.Route.TheVariants as route
 use Rattle.as4_values.specs.declared.signal.Signal.{Signal}
 use Rattle.exchange_model.specs.End.{End}
 use Rattle.exchange_model.specs.Questions.{head_of, is_spent, sent_at, standing_of}
-use Rattle.exchange_model.specs.Signals.{IsPullOf}
+use Rattle.as4_codes.specs.Signals.{IsPullOf}
 use Rattle.exchange_model.specs.Submitting.{IsSubmissionOf, address_of}
 use Rattle.exchange_model.specs.Table.{AsksBy, Gives, Rests, Takes, TakesIn, Ticks, message_of, standing_reply, mark_reply}
 use Rattle.exchange_model.specs.declared.event.Event.{Event}

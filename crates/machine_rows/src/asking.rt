@@ -7,7 +7,7 @@ ghost use Rattle.end_tables.specs.Standing.{CanStand};
 ghost use Rattle.machine_rows.specs.Free.{IsFree};
 
 use crate::rows::{gives, rests, room_for_one};
-use crate::signals::pull_request;
+use as4_codes::pull_request;
 use as4_effects::{Effect, Queue, Submission};
 use as4_values::{Message, NoMemory, PlainData, Route, Text, try_clone_two};
 use end_tables::EndTables;

@@ -7,8 +7,8 @@ ghost use Rattle.end_tables.specs.Standing.{CanStand};
 ghost use Rattle.machine_rows.specs.Naming.{referred};
 
 use crate::asking::message_of;
-use crate::receipts::receipt;
 use crate::rows::{errs, gives, receipts, rests, room_for_one};
+use as4_codes::receipt;
 use as4_effects::{Delivery, Effect, Queue};
 use as4_values::{
     Message, MessageId, NoMemory, Payload, PlainData, Seq, Signal, SignalBody, Text, UserHeader,

@@ -5,12 +5,8 @@ mod asking;
 mod coming;
 mod consuming;
 mod events;
-mod receipts;
 mod rows;
-mod signals;
 mod submitting;
 
 pub use events::row_of;
-pub use receipts::receipt;
 pub use rows::rests;
-pub use signals::pull_request;

@@ -1,10 +1,9 @@
 //! Outcomes of one row: no effect, or one.
 ghost use Rattle.std.specs.Prelude.{◌≡◌, ◌<◌, [], IfOk, IsSome, vec_capacity, vec_len};
-ghost use Rattle.exchange_model.specs.ErrorCodes.{error_row};
+ghost use Rattle.as4_codes.specs.ErrorCodes.{error_row};
 ghost use Rattle.exchange_model.specs.Table.{Rests, Gives, Errs, Receipts};
 
-use crate::receipts::receipt;
-use as4_codes::error_signal;
+use as4_codes::{error_signal, receipt};
 use as4_effects::Effect;
 use as4_values::{Message, MessageId, NoMemory, Seq, UserHeader};
 use exchange_model::{Event, Outcome, Reply};

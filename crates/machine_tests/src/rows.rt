@@ -1,5 +1,5 @@
 use as4_values::{PlainData, Signal, SignalBody, Text, UserHeader};
-use machine_rows::{pull_request, receipt};
+use as4_codes::{pull_request, receipt};
 use made_messages::{header_of, text};
 use std::alloc::Global;
 

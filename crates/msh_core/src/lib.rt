@@ -10,7 +10,6 @@ mod small;
 pub use end_tables::Totals;
 pub use exchange_model::{Event, Outcome, Reply, What};
 pub use machine::{Core, MAX_JOURNAL};
-pub use machine_rows::{pull_request, receipt};
 pub use plan::Plan;
 pub use replaying::ReplayRefusal;
 pub use small::SmallPlan;

@@ -10,8 +10,8 @@ use Rattle.as4_values.specs.declared.header.UserHeader.{UserHeader}
 use Rattle.as4_values.specs.declared.signal.Signal.{Signal}
 use Rattle.as4_values.specs.declared.signal_body.SignalBody.{SignalBody}
 use Rattle.as4_values.specs.declared.signal_body.SignalBody.TheVariants as body
-use Rattle.exchange_model.specs.ErrorCodes.{ErrorRow, error_row, error_item}
-use Rattle.exchange_model.specs.Signals.{IsReceiptOf, IsErrorSignalOf, IsPullOf}
+use Rattle.as4_codes.specs.ErrorCodes.{ErrorRow, error_row, error_item}
+use Rattle.as4_codes.specs.Signals.{IsReceiptOf, IsErrorSignalOf, IsPullOf}
 use Rattle.outcome_laws.proofs.SomeStamp.{some_stamp}
 
 -- what a signal says

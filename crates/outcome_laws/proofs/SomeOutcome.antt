@@ -27,7 +27,7 @@ use Rattle.exchange_model.specs.Alone.{end_after}
 use Rattle.exchange_model.specs.Apply.{after, after_all, applied}
 use Rattle.exchange_model.specs.Coming.{is_deliverable, may_come}
 use Rattle.exchange_model.specs.End.{End}
-use Rattle.exchange_model.specs.ErrorCodes.{ErrorRow, error_row, error_table}
+use Rattle.as4_codes.specs.ErrorCodes.{ErrorRow, error_row, error_table}
 use Rattle.exchange_model.specs.Typed.{IsTyped, HasTexts}
 use Rattle.exchange_model.specs.Questions.{head_of, is_known, is_pending, is_spent, sent_of}
 use Rattle.exchange_model.specs.Submitting.{are_too_large}

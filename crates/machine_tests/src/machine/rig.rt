@@ -1,7 +1,7 @@
 //! An end with four modes, of which tests ask short questions.
 ghost use Rattle.std.specs.Prelude.{◌≡◌, ◌≤◌, IfOk, IsSome, IsTrue};
 ghost use Rattle.exchange_model.specs.Coming.{may_come};
-ghost use Rattle.exchange_model.specs.ErrorCodes.{error_row};
+ghost use Rattle.as4_codes.specs.ErrorCodes.{error_row};
 ghost use Rattle.msh_core.specs.Machine.{IsReady};
 ghost use Rattle.msh_core.specs.Small.{IsSmallReady};
 
@@ -14,7 +14,7 @@ use as4_values::{
     Load, MAX_MOMENT, Message, MessageId, NoMemory, Octets, PlainData, Seq, Signal, SignalBody,
     Text, UserHeader, stamp_text,
 };
-use machine_rows::{pull_request, receipt};
+use as4_codes::{pull_request, receipt};
 use msh_core::{Core, Event, Plan, Reply, SmallPlan, What};
 use pmodes::Modes;
 use std::alloc::Global;
@@ -162,7 +162,7 @@ impl Rig {
     }
 
     /// What it says to a signal that comes.
-    #[tactic(auto, unfolding(exchange_model::specs::ErrorCodes::error_row, exchange_model::specs::ErrorCodes::error_table))]
+    #[tactic(auto, unfolding(as4_codes::specs::ErrorCodes::error_row, as4_codes::specs::ErrorCodes::error_table))]
     fn hears_of(&mut self, signal: Step) -> Option<Said> {
         match signal {
             Step::Pull(channel) => self.is_pulled(channel),

@@ -1,5 +1,5 @@
 ghost use Rattle.std.specs.Prelude.{◌≤◌, IfOk};
-ghost use Rattle.exchange_model.specs.Signals.{IsReceiptOf};
+ghost use Rattle.as4_codes.specs.Signals.{IsReceiptOf};
 
 use as4_values::{
     MAX_MOMENT, MessageId, NoMemory, PlainData, Signal, SignalBody, UserHeader, stamp_text,

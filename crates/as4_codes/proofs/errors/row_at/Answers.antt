@@ -1,7 +1,7 @@
 use Rattle.std.proofs.Common.{rules}
 use Rattle.as4_codes.proofs.RowLemmas.{found_row, row_is_sound}
 use Rattle.as4_codes.specs.Rows.{row_of}
-use Rattle.as4_codes.proofs.signals.row_at.Goals as goal
+use Rattle.as4_codes.proofs.errors.row_at.Goals as goal
 
 pub unreachable-requires : goal.unreachable-requires
 unreachable-requires c =

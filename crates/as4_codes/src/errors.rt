@@ -1,8 +1,8 @@
 ghost use Rattle.std.specs.Prelude.{◌≡◌, ◌<◌, ◌≤◌, ◌∷◌, [], IfOk, IsSome};
 ghost use Rattle.std.specs.Option.{option_copied};
 ghost use Rattle.as4_values.specs.PlainTexts.{IsPlainText};
-ghost use Rattle.exchange_model.specs.ErrorCodes.{code_text, error_item, error_row};
-ghost use Rattle.exchange_model.specs.Signals.{IsErrorSignalOf};
+ghost use Rattle.as4_codes.specs.ErrorCodes.{code_text, error_item, error_row};
+ghost use Rattle.as4_codes.specs.Signals.{IsErrorSignalOf};
 ghost use Rattle.as4_codes.specs.Rows.{row_of};
 
 use crate::rows::{Row, find, table};

@@ -1,7 +1,7 @@
 use Rattle.as4_values.specs.Word.{IsWord}
 use Rattle.as4_values.specs.declared.word.Word.TheVariants.{ErrorCode}
 use Rattle.as4_codes.proofs.RowLemmas.{code_is_word}
-use Rattle.as4_codes.proofs.signals.code_of.Goals as goal
+use Rattle.as4_codes.proofs.errors.code_of.Goals as goal
 
 pub unreachable-requires : goal.unreachable-requires
 unreachable-requires c =

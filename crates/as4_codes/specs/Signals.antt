@@ -1,12 +1,13 @@
 -- The signals that an end makes: receipts, error signals and pull requests (ebMS 3.0 Core, section 5.2.3; AS4
 -- Profile, section 5.1.8).
-use Rattle.std.specs.Prelude.{◌≡◌, ℕ, List, [], ◌∷◌, Option, Some, None, option_map}
+use Rattle.std.specs.Prelude.{◌≡◌, ℕ, ◌+◌, ◌%◌, ◌^◌, List, [], ◌∷◌, Option, Some, None, option_map}
 use Rattle.as4_values.specs.Moment.{IsStampOf}
 use Rattle.as4_values.specs.Identifiers.{signal_id}
 use Rattle.as4_values.specs.declared.header.UserHeader.{UserHeader}
+use Rattle.as4_values.specs.declared.message.Pair.{Pair}
 use Rattle.as4_values.specs.declared.signal.Signal.{Signal}
 use Rattle.as4_values.specs.declared.signal_body.SignalBody.TheVariants as body
-use Rattle.exchange_model.specs.ErrorCodes.{error_row, error_item}
+use Rattle.as4_codes.specs.ErrorCodes.{error_row, error_item}
 
 -- the receipt of a user message, made at the moment `ms` with this nonce: it refers to the message and holds
 -- a copy of its header
@@ -30,3 +31,13 @@ pub record IsPullOf (mpc : List ℕ) (ms nonce : ℕ) (signal : Signal) : Type 0
   pub named : signal.id ≡ signal_id nonce
   pub refers : signal.ref_to ≡ None
   pub asks : signal.body ≡ body.Pull mpc
+
+-- the nonce behind a nonce; both have 128 bits
+abbrev pub next_nonce : ℕ → ℕ
+next_nonce nonce = (nonce + 1) % 2 ^ 128
+
+-- the receipt of a user message, bundled with the next pull request for a channel: the pull request is named by the
+-- nonce, the receipt by the next one
+pub record IsPairOf (header : UserHeader) (mpc : List ℕ) (ms nonce : ℕ) (pair : Pair) : Type 0 where
+  pub receipt : IsReceiptOf header ms (next_nonce nonce) pair.receipt
+  pub pull : IsPullOf mpc ms nonce pair.pull
