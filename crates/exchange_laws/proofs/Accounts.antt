@@ -1,6 +1,6 @@
 -- What an end holds, accounted for by the acts that led to it.
 use Rattle.std.proofs.Common.{◌≡◌, ℕ, zero, suc, ◌+◌, ◌<◌, ◌≤◌, ◌⊎◌, inl, inr, List, [], ◌∷◌, ◌++◌, Bool, true, false, Some, length, length-append, append_assoc, refl, sym, ap, ◌∙◌, subst, arith}
-use Rattle.std.specs.Prelude.{nat_le, slice_get}
+use Rattle.std.specs.Prelude.{IsTrue, nat_le, slice_get}
 use Rattle.std.specs.List.{count_by, sum_by}
 use Rattle.std.proofs.lemmas.Bool.{cases_lt}
 use Rattle.std.proofs.lemmas.Bool.Decides.{nat_tests}
@@ -11,6 +11,7 @@ use Rattle.as4_effects.specs.declared.effect.Effect.TheVariants as effect
 use Rattle.as4_effects.specs.declared.submission.Submission.{Submission}
 use Rattle.as4_values.specs.declared.header.UserHeader.{UserHeader}
 use Rattle.as4_values.specs.declared.message.Message.TheVariants as message
+use Rattle.as4_values.specs.declared.message.Pair.{Pair}
 use Rattle.as4_values.specs.declared.mode.Mode.{Mode}
 use Rattle.as4_values.specs.declared.payload.Payload.{Payload}
 use Rattle.exchange_model.specs.Alone.{MayHappenTo, end_after, is_submitted, written}
@@ -20,7 +21,7 @@ use Rattle.exchange_model.specs.End.{End, empty_end}
 use Rattle.exchange_model.specs.HandingOut.{times_handed_out}
 use Rattle.exchange_model.specs.LosslessRound.{IsFull}
 use Rattle.exchange_model.specs.Numbered.{AreNumberedFrom}
-use Rattle.exchange_model.specs.Table.{Ticks, Step}
+use Rattle.exchange_model.specs.Table.{Ticks, Step, names_channel}
 use Rattle.exchange_model.specs.World.{Act, sends}
 use Rattle.exchange_model.specs.declared.event.Event.{Event}
 use Rattle.exchange_model.specs.declared.inbox_entry.InboxEntry.{InboxEntry}
@@ -36,7 +37,7 @@ use Rattle.exchange_model.proofs.NumberedLemmas.{none_numbered, place}
 use Rattle.exchange_laws.proofs.ListLemmas.{has_either, had_left, got_last}
 use Rattle.exchange_laws.proofs.InboxLemmas.{ids, Apart}
 use Rattle.exchange_laws.proofs.SentSteps.{Receipts, Fails, AllKeepTries, receipted_by, refused_by}
-use Rattle.exchange_laws.proofs.SettleLemmas.{settled_or_stood}
+use Rattle.exchange_laws.proofs.SettleLemmas.{receipted_applied, step_named}
 use Rattle.exchange_laws.proofs.EndSteps.{EndGoes, by_bool}
 use Rattle.exchange_laws.proofs.RoundLemmas.{row_at}
 use Rattle.exchange_laws.proofs.StepLemmas.{step_goes}
@@ -49,9 +50,11 @@ use Rattle.exchange_laws.proofs.TimesLemmas.{IsOwn, never, number_below, times_p
 abbrev pub SomeAct : List Act → (Act → Type 0) → Type 0
 SomeAct done P = (act : Act) × Has done act × P act
 
--- in the act a receipt of the submission came, and settled it
-abbrev pub IsSettledBy : Submission → Act → Type 0
-IsSettledBy u act = Receipts act.event.what u × (act.outcome.effects ≡ effect.Receipted u.number ∷ [])
+-- in the act a receipt of the submission came, alone or in a pair for a channel of the modes, and settled it
+pub record IsSettledBy (u : Submission) (act : Act) : Type 0 where
+  pub brings : Receipts act.event.what u
+  pub named : (pair : Pair) → act.event.what ≡ what.Came (message.Pair pair) → IsTrue (names_channel act.modes pair.pull.body)
+  pub settles : Has act.outcome.effects (effect.Receipted u.number)
 
 -- of what was handed in
 pub record AreCounted (done : List Act) (end : End) : Type 0 where
@@ -151,11 +154,15 @@ settled_act done act end numbered settled step goes = record {
 
     brought : (t : Sent) → Has (applied act.outcome.effects end).sent t → t.mark ≡ mark.Receipted
         → Receipts act.event.what t.submission → SomeAct (done ++ act ∷ []) (IsSettledBy t.submission)
-    brought t there m r =
-        elim (settled_or_stood act.modes end act.event act.outcome r.signal r.copy t numbered step r.came r.receipt r.names there) [
-          | inl stood ↦ still done act (IsSettledBy t.submission) (settled.receipted t stood m)
-          | inr settles ↦ (act, now_done done act, (r, settles))
-        ]
+    brought t there m r = elim (receipted_applied act.outcome.effects end t there m) [
+      | inl s ↦ still done act (IsSettledBy t.submission)
+          (subst (λ (u : Submission). SomeAct done (IsSettledBy u)) s.same (settled.receipted s.one s.there s.mark))
+      | inr has ↦ (
+        act,
+        now_done done act,
+        record { brings = r; named = step_named act.modes end act.event act.outcome _ step has; settles = has },
+      )
+    ]
 
 -- an inbox doesn't get shorter
 got_below : {X : Type 0} (xs : List X) (n : ℕ) → n < length xs → (x : X) × (slice_get xs n ≡ Some x)

@@ -8,6 +8,7 @@ use Rattle.as4_effects.specs.declared.queue.Queue.TheVariants as queue
 use Rattle.as4_effects.specs.declared.submission.Submission.{Submission}
 use Rattle.as4_values.specs.ModeMatch.{mode_of, channel_mode}
 use Rattle.as4_values.specs.declared.header.UserHeader.{UserHeader}
+use Rattle.as4_values.specs.declared.message.Pair.{Pair}
 use Rattle.as4_values.specs.declared.message.Message.{Message}
 use Rattle.as4_values.specs.declared.message.Message.TheVariants as message
 use Rattle.as4_values.specs.declared.mode.Mode.{Mode}
@@ -19,13 +20,16 @@ use Rattle.as4_values.specs.declared.signal_body.SignalBody.TheVariants as body
 use Rattle.exchange_model.specs.Apply.{after, after_all, changed, marked}
 use Rattle.exchange_model.specs.End.{End}
 use Rattle.as4_codes.specs.ErrorCodes.{ErrorRow, error_row, error_item}
+use Rattle.exchange_model.specs.LosslessRound.{IsReceiptAt}
 use Rattle.exchange_model.specs.Numbered.{AreNumberedFrom}
 use Rattle.exchange_model.specs.Questions.{head_of, is_known, is_pending, sent_of}
 use Rattle.exchange_model.specs.Refusing.{Refusal, refusal_of, refusals_of, once}
-use Rattle.exchange_model.specs.Table.{Errs, Receipts as Answers, Delivers, UserComes, PullComes, Settles, IsOther, ReceiptComes, SignalComes, Comes}
+use Rattle.exchange_model.specs.Table.{Errs, Receipts as Answers, Delivers, UserComes, PullComes, Settles, IsOther, ReceiptComes, SignalComes, PairComes, Comes}
 use Rattle.exchange_model.specs.declared.event.Event.{Event}
 use Rattle.exchange_model.specs.declared.inbox_entry.InboxEntry.{InboxEntry}
 use Rattle.exchange_model.specs.declared.outcome.Outcome.{Outcome}
+use Rattle.exchange_model.specs.World.{sends}
+use Rattle.exchange_model.specs.declared.reply.Reply.{Reply}
 use Rattle.exchange_model.specs.declared.reply.Reply.TheVariants as reply
 use Rattle.exchange_model.specs.declared.sent.Mark.TheVariants as mark
 use Rattle.exchange_model.specs.declared.sent.Sent.{Sent}
@@ -34,15 +38,15 @@ use Rattle.exchange_model.specs.declared.what.What.TheVariants.{Came}
 use Rattle.exchange_model.proofs.FoundLemmas.{sent_of_has}
 use Rattle.exchange_model.proofs.ListLemmas.{Has}
 use Rattle.exchange_laws.proofs.ListLemmas.{had_mapped, had_right}
-use Rattle.exchange_laws.proofs.SentSteps.{Receipts, sent_stays, sent_then}
-use Rattle.exchange_laws.proofs.SentSteps.{Fails}
+use Rattle.exchange_laws.proofs.SentSteps.{Receipts, Fails, SentGoes, sent_stays, sent_then}
 use Rattle.exchange_laws.proofs.SentChanges.{IsPendingNumber, pending_behind, sent_receipted, sent_refused}
 use Rattle.exchange_laws.proofs.RefusalLemmas.{AreApart, once_apart, refusals_pend, refusals_fail}
 use Rattle.exchange_laws.proofs.InboxLemmas.{ids, id_of, known_has}
 use Rattle.exchange_laws.proofs.InboxSteps.{inbox_stays, inbox_push}
-use Rattle.exchange_laws.proofs.TriesSteps.{TriesStay, tries_quiet, stay_same, stay_marked, stay_then}
-use Rattle.exchange_laws.proofs.EndSteps.{BacksSignal, EndGoes, goes_by, rests, rests_silent, by_option, by_bool}
+use Rattle.exchange_laws.proofs.TriesSteps.{TriesStay, tries_quiet, tries_behind, stay_same, stay_marked, stay_then}
+use Rattle.exchange_laws.proofs.EndSteps.{BacksSignal, EndGoes, goes_by, unapplied, receipt_backs, rests, rests_silent, by_option, by_bool}
 use Rattle.exchange_laws.proofs.OwnRows.{Goes, says_one, hands_out}
+use Rattle.exchange_laws.proofs.PairRows.{IsBehind, pair_cases, receipt_names}
 
 -- an error signal is no receipt
 errors_back : (inbox : List InboxEntry) (ref_to about : Option (List ℕ)) (b : SignalBody) (o : Option ErrorRow)
@@ -58,13 +62,6 @@ errs : (what : What) (code : ℕ) (about : List ℕ) (end : End) (event : Event)
 errs what code about end event outcome numbered h =
     rests what _ end outcome numbered h.2 (λ id. refl)
     (says_one end.sent end.inbox (message.Signal h.0) (errors_back end.inbox h.0.ref_to (Some about) h.0.body (error_row code) h.1.tells))
-
--- a receipt stands by the message that came
-receipt_backs : (inbox : List InboxEntry) (header : UserHeader) (signal : Signal) → signal.ref_to ≡ Some header.id
-    → signal.body ≡ body.Receipt (Some header)
-    → Has (ids inbox) header.id → BacksSignal inbox signal.ref_to signal.body
-receipt_backs inbox header signal refers copies h =
-    subst (BacksSignal inbox signal.ref_to) (sym copies) (λ id e. let same : header.id ≡ id = cc in subst (Has (ids inbox)) same h)
 
 -- a user message
 user_comes : (modes : List Mode) (end : End) (event : Event) (header : UserHeader) (payloads : List Payload) (outcome : Outcome)
@@ -102,7 +99,7 @@ user_comes modes end event header payloads outcome numbered h =
         })
 
 -- a pull request
-pull_comes : (what : What) (modes : List Mode) (end : End) (event : Event) (id mpc : List ℕ) (outcome : Outcome)
+pub pull_comes : (what : What) (modes : List Mode) (end : End) (event : Event) (id mpc : List ℕ) (outcome : Outcome)
     → AreNumberedFrom 0 end.sent
     → PullComes modes end event id mpc outcome → Goes what end outcome
 unfolding PullComes
@@ -219,8 +216,62 @@ signal_comes modes end event signal (body.Receipt copy) outcome e numbered h = r
 signal_comes modes end event signal (body.Errors items) outcome e numbered h =
     errors_come signal items end outcome e numbered h
 
+-- the receipt of a pair settles a submission first
+goes_behind : (what : What) (r : Reply) (number : ℕ) (end new : End)
+    → SentGoes what end.sent (changed number (marked mark.Receipted) end.sent)
+    → EndGoes what r (after (effect.Receipted number) end) new → EndGoes what r end new
+unfolding after
+goes_behind what r number end new first rest = record {
+  sent = sent_then what _ _ _ first rest.sent;
+  inbox = rest.inbox;
+  says = rest.says;
+  tries = tries_behind (sends r) end.sent number mark.Receipted new.sent rest.tries;
+}
+
+-- the row of its pull request at the end behind
+pub pulls_behind : (modes : List Mode) (end : End) (event : Event) (pair : Pair) (mpc : List ℕ) (s : Sent) (outcome : Outcome)
+    → AreNumberedFrom 0 end.sent → IsReceiptAt s pair.receipt end → (b : IsBehind modes end event pair.pull mpc s outcome)
+    → SentGoes (Came (message.Pair pair)) end.sent (changed s.submission.number (marked mark.Receipted) end.sent)
+    × EndGoes (Came (message.Pair pair)) b.pulled.reply (after (effect.Receipted s.submission.number) end)
+    (after_all b.pulled.effects (after (effect.Receipted s.submission.number) end))
+unfolding after
+pulls_behind modes end event pair mpc s outcome numbered of b = (
+  first,
+  unapplied _ _ b.pulled.effects _ (pull_comes _ modes _ event pair.pull.id mpc b.pulled first.numbered b.row),
+)
+  where
+    brought : Receipts (Came (message.Pair pair)) s.submission
+    brought = record {
+      signal = pair.receipt;
+      copy = of.copy;
+      came = refl;
+      receipt = of.receipt;
+      names = (receipt_names s pair.receipt end of).0;
+      same = of.own;
+    }
+
+    first : SentGoes (Came (message.Pair pair)) end.sent (changed s.submission.number (marked mark.Receipted) end.sent)
+    first = sent_receipted _ end.sent s numbered (receipt_names s pair.receipt end of).1 b.pending brought
+
+-- a pair
+pair_comes : (modes : List Mode) (end : End) (event : Event) (pair : Pair) (outcome : Outcome) → AreNumberedFrom 0 end.sent
+    → PairComes modes end event pair.receipt pair.pull outcome → Goes (Came (message.Pair pair)) end outcome
+pair_comes modes end event pair outcome numbered h = elim (pair_cases modes end event pair outcome h) [
+  | inl r ↦ errs what r.code r.about end event outcome numbered r.errs
+  | inr s ↦ elim s.row [
+    | inl a ↦ pull_comes what modes end event pair.pull.id s.mpc outcome numbered a.row
+    | inr b ↦ (let g = pulls_behind modes end event pair s.mpc s.one outcome numbered s.of b in
+        goes_by what b.pulled.reply (effect.Receipted s.one.submission.number ∷ b.pulled.effects) end outcome b.is
+        (goes_behind what b.pulled.reply s.one.submission.number end _ g.0 g.1))
+  ]
+]
+  where
+    what : What
+    what = Came (message.Pair pair)
+
 -- what comes
 pub comes : (modes : List Mode) (end : End) (event : Event) (m : Message) (outcome : Outcome) → AreNumberedFrom 0 end.sent
     → Comes modes end event m outcome → Goes (Came m) end outcome
 comes modes end event (message.User header payloads) outcome numbered h = user_comes modes end event header payloads outcome numbered h
 comes modes end event (message.Signal signal) outcome numbered h = signal_comes modes end event signal signal.body outcome refl numbered h
+comes modes end event (message.Pair pair) outcome numbered h = pair_comes modes end event pair outcome numbered h

@@ -3,8 +3,10 @@ use Rattle.std.proofs.Common.{◌≡◌, ℕ, List, [], ◌∷◌, Bool, true, f
 use Rattle.std.specs.Prelude.{MatchOption}
 use Rattle.std.specs.Bool.{MatchBool}
 use Rattle.as4_effects.specs.declared.effect.Effect.{Effect}
+use Rattle.as4_values.specs.declared.header.UserHeader.{UserHeader}
 use Rattle.as4_values.specs.declared.message.Message.{Message}
 use Rattle.as4_values.specs.declared.message.Message.TheVariants as message
+use Rattle.as4_values.specs.declared.signal.Signal.{Signal}
 use Rattle.as4_values.specs.declared.signal_body.SignalBody.{SignalBody}
 use Rattle.as4_values.specs.declared.signal_body.SignalBody.TheVariants as body
 use Rattle.exchange_model.specs.Apply.{after_all, applied}
@@ -34,6 +36,7 @@ abbrev pub Backs : List Sent → List InboxEntry → Message → Type 0
 Backs sent inbox (message.User header payloads) =
     (s : Sent) × Has sent s × (s.submission.header ≡ header) × (s.submission.payloads ≡ payloads)
 Backs sent inbox (message.Signal signal) = BacksSignal inbox signal.ref_to signal.body
+Backs sent inbox (message.Pair pair) = BacksSignal inbox pair.receipt.ref_to pair.receipt.body
 
 -- from before an event to after it: what was sent, what came, and what is said to the other end
 pub record EndGoes (what : What) (reply : Reply) (old new : End) : Type 0 where
@@ -49,12 +52,26 @@ unfolding applied
 goes_applied what r [] end g = g
 goes_applied what r (e ∷ effects) end g = record { sent = g.sent; inbox = g.inbox; says = g.says; tries = g.tries }
 
+-- the other way round
+pub unapplied : (what : What) (r : Reply) (effects : List Effect) (end : End) → EndGoes what r end (applied effects end)
+    → EndGoes what r end (after_all effects end)
+unfolding applied
+unapplied what r [] end g = g
+unapplied what r (e ∷ effects) end g = record { sent = g.sent; inbox = g.inbox; says = g.says; tries = g.tries }
+
 -- by what the outcome is
 pub goes_by : (what : What) (r : Reply) (effects : List Effect) (end : End) (outcome : Outcome)
     → outcome ≡ record { effects = effects; reply = r }
     → EndGoes what r end (after_all effects end) → EndGoes what outcome.reply end (applied outcome.effects end)
 goes_by what r effects end outcome e g =
     subst (λ (o : Outcome). EndGoes what o.reply end (applied o.effects end)) (sym e) (goes_applied what r effects end g)
+
+-- a receipt stands by the message that came
+pub receipt_backs : (inbox : List InboxEntry) (header : UserHeader) (signal : Signal) → signal.ref_to ≡ Some header.id
+    → signal.body ≡ body.Receipt (Some header)
+    → Has (ids inbox) header.id → BacksSignal inbox signal.ref_to signal.body
+receipt_backs inbox header signal refers copies h =
+    subst (BacksSignal inbox signal.ref_to) (sym copies) (λ id e. let same : header.id ≡ id = cc in subst (Has (ids inbox)) same h)
 
 -- nothing changes
 pub rests : (what : What) (r : Reply) (end : End) (outcome : Outcome) → AreNumberedFrom 0 end.sent → Rests r outcome

@@ -9,6 +9,7 @@ pub mod InboxSteps
 pub mod OutcomeKinds
 pub mod ListLemmas
 pub mod OwnRows
+pub mod PairRows
 pub mod RefusalLemmas
 pub mod RoomLemmas
 pub mod RoundLemmas

@@ -12,6 +12,7 @@ use Rattle.as4_effects.specs.declared.submission.Submission.{Submission}
 use Rattle.as4_values.specs.ModeFields.{side_fields}
 use Rattle.as4_values.specs.ModeMatch.{Agreed, Matches, agreed_of, mode_named, mode_of, channel_mode}
 use Rattle.as4_values.specs.declared.header.UserHeader.{UserHeader}
+use Rattle.as4_values.specs.declared.message.Pair.{Pair}
 use Rattle.as4_values.specs.declared.message.Message.{Message}
 use Rattle.as4_values.specs.declared.message.Message.TheVariants as message
 use Rattle.as4_values.specs.declared.mode.Mode.{Mode}
@@ -25,7 +26,7 @@ use Rattle.exchange_model.specs.End.{End}
 use Rattle.exchange_model.specs.Questions.{head_of, is_known, is_pending, sent_of}
 use Rattle.exchange_model.specs.Refusing.{Refusal, refusal_of, refusals_of, once}
 use Rattle.exchange_model.specs.Submitting.{IsHeaderOf, are_too_large}
-use Rattle.exchange_model.specs.Table.{Rests, Gives, Errs, Receipts, Submits, TakesIn, Ticks, Takes, Asks, AsksBy, UserComes, PullComes, Settles, IsOther, ReceiptComes, SignalComes, Comes, Confirms, RowOf, IsLimited, Step, has_room, read_reply, entry_reply, standing_reply, mark_reply}
+use Rattle.exchange_model.specs.Table.{Rests, Gives, Errs, Receipts, Submits, TakesIn, Ticks, Takes, Asks, AsksBy, AsksWith, AsksWithBy, AsksWithEntry, UserComes, PullComes, Settles, IsOther, ReceiptComes, SignalComes, PairComes, Comes, Confirms, RowOf, IsLimited, Step, has_room, read_reply, entry_reply, standing_reply, mark_reply}
 use Rattle.exchange_model.specs.declared.event.Event.{Event}
 use Rattle.exchange_model.specs.declared.inbox_entry.InboxEntry.{InboxEntry}
 use Rattle.exchange_model.specs.declared.outcome.Outcome.{Outcome}
@@ -37,6 +38,7 @@ use Rattle.exchange_model.specs.declared.sent.Sent.{Sent}
 use Rattle.exchange_model.specs.declared.what.What.{What}
 use Rattle.exchange_model.specs.declared.what.What.TheVariants as what
 use Rattle.exchange_laws.proofs.EndSteps.{by_option, by_bool}
+use Rattle.exchange_laws.proofs.PairRows.{pair_cases}
 
 -- effects that take in no submission, set no clock and confirm nothing, and replies that tell of none
 abbrev pub IsPlainEffect : Effect → Type 0
@@ -169,6 +171,22 @@ asks modes event name outcome h =
     asked (route.Push address) k = plain_rest reply.NoMode outcome tt k
     asked (route.Pull mpc address) k = plain_rest (reply.Request address (message.Signal k.0)) outcome tt k.2
 
+-- AskWith
+asks_with : (modes : List Mode) (end : End) (event : Event) (name : List ℕ) (n : ℕ) (outcome : Outcome) → AsksWith modes end event name n outcome
+    → IsPlain outcome
+unfolding AsksWith
+asks_with modes end event name n outcome h =
+    by_option _ _ _ (mode_named modes name) h (plain_rest reply.NoMode outcome tt) (λ mode _ k. asked mode.route k)
+  where
+    paired : (mpc address : List ℕ) (o : Option InboxEntry) → AsksWithEntry mpc address event o outcome → IsPlain outcome
+    paired mpc address None k = plain_rest reply.NoEntry outcome tt k
+    paired mpc address (Some entry) k = plain_rest (reply.Request address (message.Pair k.0)) outcome tt k.2
+
+    asked : (r : Route) → AsksWithBy r end event n outcome → IsPlain outcome
+    asked (route.Push address) k = plain_rest reply.NoMode outcome tt k
+    asked (route.Pull mpc address) k =
+        by_bool _ _ _ (nat_lt n end.confirmed) k (λ _. plain_rest reply.Gone outcome tt) (λ _. paired mpc address (slice_get end.inbox n))
+
 -- Came
 errs : (code : ℕ) (about : List ℕ) (event : Event) (outcome : Outcome) → Errs code about event outcome → IsPlain outcome
 errs code about event outcome h = plain_rest (reply.Answer (message.Signal h.0)) outcome tt h.2
@@ -214,9 +232,21 @@ signal_comes modes end event id ref_to (body.Receipt copy) outcome h = receipt_c
 signal_comes modes end event id ref_to (body.Errors items) outcome h =
     plain_of (refusals_of ref_to end.sent items) reply.Quiet outcome (refusals_plain (once (filter_map (refusal_of ref_to end.sent) items))) tt h
 
+pair_comes : (modes : List Mode) (end : End) (event : Event) (pair : Pair) (outcome : Outcome)
+    → PairComes modes end event pair.receipt pair.pull outcome → IsPlain outcome
+pair_comes modes end event pair outcome h = elim (pair_cases modes end event pair outcome h) [
+  | inl r ↦ errs r.code r.about event outcome r.errs
+  | inr s ↦ elim s.row [
+    | inl a ↦ pull_comes modes end event pair.pull.id s.mpc outcome a.row
+    | inr b ↦ (let p = pull_comes modes _ event pair.pull.id s.mpc b.pulled b.row in
+        plain_of (effect.Receipted s.one.submission.number ∷ b.pulled.effects) b.pulled.reply outcome (tt, p.effects) p.reply b.is)
+  ]
+]
+
 comes : (modes : List Mode) (end : End) (event : Event) (m : Message) (outcome : Outcome) → Comes modes end event m outcome → IsPlain outcome
 comes modes end event (message.User header payloads) outcome h = user_comes modes end event header payloads outcome h
 comes modes end event (message.Signal signal) outcome h = signal_comes modes end event signal.id signal.ref_to signal.body outcome h
+comes modes end event (message.Pair pair) outcome h = pair_comes modes end event pair outcome h
 
 -- Read
 reads : (end : End) (n : ℕ) → IsPlainReply (read_reply end n)
@@ -261,6 +291,7 @@ row_kind modes end event (what.Submit mode conversation loads) outcome h = submi
 row_kind modes end event what.Tick outcome h = ticks modes end event outcome h
 row_kind modes end event what.Take outcome h = inl (takes end outcome h)
 row_kind modes end event (what.Ask mode) outcome h = inl (asks modes event mode outcome h)
+row_kind modes end event (what.AskWith mode n) outcome h = inl (asks_with modes end event mode n outcome h)
 row_kind modes end event (what.Came m) outcome h = inl (comes modes end event m outcome h)
 row_kind modes end event (what.Read n) outcome h = inl (plain_rest (read_reply end n) outcome (reads end n) h)
 row_kind modes end event (what.Confirm upto) outcome h = confirms modes end event upto outcome h

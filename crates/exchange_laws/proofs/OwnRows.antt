@@ -17,7 +17,7 @@ use Rattle.exchange_model.specs.End.{End}
 use Rattle.exchange_model.specs.Numbered.{AreNumberedFrom}
 use Rattle.exchange_model.specs.Questions.{head_of}
 use Rattle.exchange_model.specs.Submitting.{are_too_large}
-use Rattle.exchange_model.specs.Table.{Rests, Gives, Submits, TakesIn, Ticks, Takes, Asks, AsksBy, Confirms, message_of, read_reply, entry_reply, standing_reply, mark_reply}
+use Rattle.exchange_model.specs.Table.{Rests, Gives, Submits, TakesIn, Ticks, Takes, Asks, AsksBy, AsksWith, AsksWithBy, AsksWithEntry, Confirms, message_of, read_reply, entry_reply, standing_reply, mark_reply}
 use Rattle.exchange_model.specs.World.{sends}
 use Rattle.exchange_model.specs.declared.event.Event.{Event}
 use Rattle.exchange_model.specs.declared.inbox_entry.InboxEntry.{InboxEntry}
@@ -31,11 +31,13 @@ use Rattle.exchange_model.specs.declared.what.What.{What}
 use Rattle.exchange_model.specs.declared.what.What.TheVariants.{Tick}
 use Rattle.exchange_model.proofs.FoundLemmas.{head_has}
 use Rattle.exchange_model.proofs.ListLemmas.{Has}
+use Rattle.exchange_laws.proofs.InboxLemmas.{id_of}
+use Rattle.exchange_laws.proofs.ListLemmas.{has_got, had_mapped}
 use Rattle.exchange_laws.proofs.SentSteps.{sent_stays, sent_push}
 use Rattle.exchange_laws.proofs.SentChanges.{sent_ticked, sent_tried}
 use Rattle.exchange_laws.proofs.InboxSteps.{inbox_stays, inbox_emptied}
 use Rattle.exchange_laws.proofs.TriesSteps.{tries_quiet, stay_same, stay_ticked, tries_push, tries_tried}
-use Rattle.exchange_laws.proofs.EndSteps.{Backs, BacksSignal, EndGoes, goes_by, rests, rests_silent, by_option, by_bool}
+use Rattle.exchange_laws.proofs.EndSteps.{Backs, BacksSignal, EndGoes, goes_by, receipt_backs, rests, rests_silent, by_option, by_bool}
 
 -- what the event leads to
 abbrev pub Goes : What → End → Outcome → Type 0
@@ -118,6 +120,27 @@ asks what modes end event name outcome numbered h =
     asked (route.Pull mpc address) k =
         rests what (reply.Request address (message.Signal k.0)) end outcome numbered k.2 (λ id. refl)
         (says_one end.sent end.inbox (message.Signal k.0) (subst (BacksSignal end.inbox k.0.ref_to) (sym k.1.asks) tt))
+
+-- AskWith
+pub asks_with : (what : What) (modes : List Mode) (end : End) (event : Event) (name : List ℕ) (n : ℕ) (outcome : Outcome) → AreNumberedFrom 0 end.sent
+    → AsksWith modes end event name n outcome → Goes what end outcome
+unfolding AsksWith
+asks_with what modes end event name n outcome numbered h =
+    by_option _ _ _ (mode_named modes name) h (rests_silent what reply.NoMode end outcome refl numbered) (λ mode _ k. asked mode.route k)
+  where
+    paired : (mpc address : List ℕ) (o : Option InboxEntry) → slice_get end.inbox n ≡ o → AsksWithEntry mpc address event o outcome → Goes what end outcome
+    paired mpc address None at k = rests_silent what reply.NoEntry end outcome refl numbered k
+    paired mpc address (Some entry) at k =
+        rests what (reply.Request address (message.Pair k.0)) end outcome numbered k.2 (λ id. refl)
+        (says_one end.sent end.inbox (message.Pair k.0)
+        (receipt_backs end.inbox entry.header k.0.receipt k.1.receipt.refers k.1.receipt.copies
+        (had_mapped id_of end.inbox entry (has_got end.inbox n entry at))))
+
+    asked : (r : Route) → AsksWithBy r end event n outcome → Goes what end outcome
+    asked (route.Push address) k = rests_silent what reply.NoMode end outcome refl numbered k
+    asked (route.Pull mpc address) k =
+        by_bool _ _ _ (nat_lt n end.confirmed) k (λ _. rests_silent what reply.Gone end outcome refl numbered)
+        (λ _. paired mpc address (slice_get end.inbox n) refl)
 
 -- the answer to a question about an entry sends nothing
 pub read_silent : (end : End) (n : ℕ) → sends (read_reply end n) ≡ []

@@ -13,6 +13,7 @@ use Rattle.as4_effects.specs.declared.effect.Effect.TheVariants as effect
 use Rattle.as4_effects.specs.declared.queue.Queue.TheVariants as queue
 use Rattle.as4_values.specs.ModeMatch.{mode_named, mode_of, channel_mode}
 use Rattle.as4_values.specs.declared.header.UserHeader.{UserHeader}
+use Rattle.as4_values.specs.declared.message.Pair.{Pair}
 use Rattle.as4_values.specs.declared.mode.Mode.{Mode}
 use Rattle.as4_values.specs.declared.payload.Load.{Load}
 use Rattle.as4_values.specs.declared.payload.Payload.{Payload}
@@ -22,19 +23,21 @@ use Rattle.exchange_model.specs.LosslessRound.{IsFull}
 use Rattle.exchange_model.specs.Questions.{head_of, is_known, is_pending, sent_of}
 use Rattle.exchange_model.specs.Room.{HasRoomForOne}
 use Rattle.exchange_model.specs.Submitting.{are_too_large}
-use Rattle.exchange_model.specs.Table.{Errs, Receipts, Rests, Submits, Takes, UserComes, PullComes, Settles, IsOther, ReceiptComes, RowOf, IsLimited, Step, has_room, journal_limit}
+use Rattle.exchange_model.specs.Table.{Errs, Receipts, Rests, Submits, Takes, UserComes, PullComes, Settles, IsOther, ReceiptComes, PairComes, RowOf, IsLimited, Step, has_room, journal_limit}
 use Rattle.exchange_model.specs.declared.event.Event.{Event}
 use Rattle.exchange_model.specs.declared.outcome.Outcome.{Outcome}
 use Rattle.exchange_model.specs.declared.reply.Reply.{Reply}
 use Rattle.exchange_model.specs.declared.sent.Sent.{Sent}
 use Rattle.exchange_model.specs.declared.what.What.{What}
 use Rattle.exchange_laws.proofs.EndSteps.{by_option, by_bool}
+use Rattle.exchange_laws.proofs.PairRows.{pair_cases}
 
--- one effect at most, within its limit
+-- one effect at most, within its limit, or two that have but a number
 abbrev pub IsSmall : List Effect → Type 0
 IsSmall [] = Unit {0}
 IsSmall (e ∷ []) = length (effect_body e) ≤ effect_limit
-IsSmall (e ∷ f ∷ effects) = ⊥
+IsSmall (e ∷ f ∷ []) = (length (effect_body e) ≡ 9) × (length (effect_body f) ≡ 9)
+IsSmall (e ∷ f ∷ g ∷ effects) = ⊥
 
 fitting : (body : List ℕ) → fits_an_effect body ≡ true → length body ≤ effect_limit
 unfolding fits_an_effect
@@ -43,11 +46,25 @@ fitting body fits = grind (arith, nat_tests)
 numbered : (kind number : ℕ) → length (kind ∷ number_body 8 number) ≤ effect_limit
 numbered kind number = omega (arith, number_length 8 number)
 
--- the record of one is seven bytes longer
-one_record : (e : Effect) → record_len (e ∷ []) ≡ length (effect_body e) + 7
+-- the record of one is eleven bytes longer
+one_record : (e : Effect) → record_len (e ∷ []) ≡ length (effect_body e) + 11
 unfolding record_len effects_body
 one_record e =
     simp length-append (omega (arith, number_length 2 1, length-append (effect_body e) []))
+
+two_records : (e f : Effect) → record_len (e ∷ f ∷ []) ≡ length (effect_body e) + length (effect_body f) + 11
+unfolding record_len effects_body
+two_records e f =
+    simp length-append (omega (arith, number_length 2 2, length-append (effect_body e) (effect_body f ++ []), length-append (effect_body f) []))
+
+room_for_two : (end : End) (e f : Effect) → HasRoomForOne end → (length (effect_body e) ≡ 9) × (length (effect_body f) ≡ 9)
+    → nat_le (end.size + record_len (e ∷ f ∷ [])) journal_limit ≡ true
+room_for_two end e f room short =
+    let len : record_len (e ∷ f ∷ []) ≡ 29 = two_records e f ∙ omega (arith, short.0, short.1) in
+    at_most_limit (end.size + record_len (e ∷ f ∷ [])) (omega (arith, room, len))
+  where
+    at_most_limit : (n : ℕ) → n ≤ journal_limit → nat_le n journal_limit ≡ true
+    at_most_limit n h = grind (arith, nat_tests)
 
 room_for_one : (end : End) (e : Effect) → HasRoomForOne end → length (effect_body e) ≤ effect_limit → nat_le (end.size + record_len (e ∷ [])) journal_limit ≡ true
 room_for_one end e room short = let len = one_record e in grind (arith, nat_tests)
@@ -56,7 +73,8 @@ has_room_for : (end : End) (effects : List Effect) → HasRoomForOne end → IsS
 unfolding has_room
 has_room_for end [] room small = refl
 has_room_for end (e ∷ []) room small = room_for_one end e room small
-has_room_for end (e ∷ f ∷ effects) room small = absurd small
+has_room_for end (e ∷ f ∷ []) room small = room_for_two end e f room small
+has_room_for end (e ∷ f ∷ g ∷ effects) room small = absurd small
 
 -- the journal isn't full, or has room for what the row writes
 abbrev pub CanWrite : End → Outcome → Outcome → Type 0
@@ -105,6 +123,37 @@ pull_small modes end event id mpc row h =
     by_option _ _ _ (channel_mode modes mpc) h (errs 1 id event row) (λ mode _ k.
     by_option _ _ _ (head_of (queue.Channel mpc) end) k (errs 6 id event row)
     (λ s _ g. subst (λ (o : Outcome). IsSmall o.effects) (sym g) (numbered 3 s.submission.number)))
+
+-- a pull request hands out a head, or nothing
+pub pull_few : (modes : List Mode) (end : End) (event : Event) (id mpc : List ℕ) (row : Outcome) → PullComes modes end event id mpc row
+    → (row.effects ≡ []) ⊎ ((number : ℕ) × (row.effects ≡ effect.Tried number ∷ []))
+unfolding PullComes
+pull_few modes end event id mpc row h =
+    by_option _ _ _ (channel_mode modes mpc) h (λ e. inl (ap (λ (o : Outcome). o.effects) e.2)) (λ mode _ k.
+    by_option _ _ _ (head_of (queue.Channel mpc) end) k (λ e. inl (ap (λ (o : Outcome). o.effects) e.2))
+    (λ s _ g. inr (s.submission.number, ap (λ (o : Outcome). o.effects) g)))
+
+pub pair_small : (modes : List Mode) (end : End) (event : Event) (pair : Pair) (row : Outcome)
+    → PairComes modes end event pair.receipt pair.pull row → IsSmall row.effects
+unfolding effect_body
+pair_small modes end event pair row h = elim (pair_cases modes end event pair row h) [
+  | inl r ↦ errs r.code r.about event row r.errs
+  | inr s ↦ elim s.row [
+    | inl a ↦ pull_small modes end event pair.pull.id s.mpc row a.row
+    | inr b ↦ both s.one.submission.number b.pulled b.is (pull_few modes _ event pair.pull.id s.mpc b.pulled b.row)
+  ]
+]
+  where
+    nine : (kind number : ℕ) → length (kind ∷ number_body 8 number) ≡ 9
+    nine kind number = omega (arith, number_length 8 number)
+
+    both : (number : ℕ) (pulled : Outcome) → row ≡ record { effects = effect.Receipted number ∷ pulled.effects; reply = pulled.reply }
+        → (pulled.effects ≡ []) ⊎ ((n : ℕ) × (pulled.effects ≡ effect.Tried n ∷ [])) → IsSmall row.effects
+    both number pulled is (inl none) =
+        subst IsSmall (sym (ap (λ (o : Outcome). o.effects) is ∙ ap (λ (es : List Effect). effect.Receipted number ∷ es) none)) (numbered 5 number)
+    both number pulled is (inr one) =
+        subst IsSmall (sym (ap (λ (o : Outcome). o.effects) is ∙ ap (λ (es : List Effect). effect.Receipted number ∷ es) one.1))
+        (nine 5 number, nine 3 one.0)
 
 pub user_small : (modes : List Mode) (end : End) (event : Event) (header : UserHeader) (payloads : List Payload) (row : Outcome)
     → UserComes modes end event header payloads row → IsSmall row.effects

@@ -8,6 +8,7 @@ use Rattle.as4_values.specs.declared.message.Message.{Message}
 use Rattle.as4_values.specs.declared.message.Message.TheVariants as message
 use Rattle.as4_values.specs.declared.signal.Signal.{Signal}
 use Rattle.as4_values.specs.declared.signal_body.SignalBody.TheVariants as body
+use Rattle.exchange_model.specs.Causes.{BringsSignal}
 use Rattle.exchange_model.specs.End.{End}
 use Rattle.exchange_model.specs.LosslessRound.{IsNext, IsAskedFor, IsBroughtOver, IsSettled, SendsOne, StandsIn, ThirdSettles, SecondSettles, ARoundSettles, behind_act}
 use Rattle.exchange_model.specs.Numbered.{AreNumberedFrom}
@@ -17,6 +18,7 @@ use Rattle.exchange_model.specs.World.{Act, Party, World, Side, Left, Right, sen
 use Rattle.exchange_model.specs.declared.inbox_entry.InboxEntry.{InboxEntry}
 use Rattle.exchange_model.specs.declared.sent.Mark.TheVariants as mark
 use Rattle.exchange_model.specs.declared.sent.Sent.{Sent}
+use Rattle.exchange_model.specs.declared.what.What.{What}
 use Rattle.exchange_model.proofs.ListLemmas.{Has}
 use Rattle.exchange_model.proofs.NumberedLemmas.{one_number}
 use Rattle.exchange_laws.proofs.ListLemmas.{contains_had, had_right}
@@ -139,7 +141,8 @@ third side s world signal holds pending stands refers copies back next came =
 
     there : Has last.end.sent settled
     there =
-        back_settles back party.end pending.0 signal (Some s.submission.header) may.step next.roomy came
+        back_settles back party.end pending.0 signal (Some s.submission.header) may.step next.roomy
+        (subst (λ (w : What). BringsSignal back.modes w signal) (sym came) refl)
         (refers ∙ ap (λ (u : Submission). Some u.header.id) (sym pending.2)) copies own_copy
         (party_holds side world holds).numbered pending.1 pending.3
 

@@ -1,10 +1,11 @@
 -- What an end sends, the other end can take.
-use Rattle.std.proofs.Common.{◌≡◌, ℕ, ◌≤◌, ◌⊎◌, inl, inr, List, [], ◌∷◌, Bool, true, false, Option, length, length-append, refl, sym, subst, arith}
-use Rattle.std.specs.Prelude.{IsTrue, nat_le, nat_lt, ◌&&◌}
+use Rattle.std.proofs.Common.{◌≡◌, ℕ, ◌≤◌, ◌⊎◌, inl, inr, List, [], ◌∷◌, Bool, true, false, Option, Some, None, length, length-append, refl, sym, subst, arith}
+use Rattle.std.specs.Prelude.{IsTrue, nat_le, nat_lt, ◌&&◌, slice_get}
 use Rattle.std.specs.Option.{option_and_then}
 use Rattle.std.proofs.lemmas.Bool.Decides.{nat_tests}
 use Rattle.as4_values.specs.ModeMatch.{mode_named, mode_of, channel_mode}
 use Rattle.as4_values.specs.declared.header.UserHeader.{UserHeader}
+use Rattle.as4_values.specs.declared.message.Pair.{Pair}
 use Rattle.as4_values.specs.declared.message.Message.{Message}
 use Rattle.as4_values.specs.declared.message.Message.TheVariants as message
 use Rattle.as4_values.specs.declared.mode.Mode.{Mode}
@@ -23,9 +24,10 @@ use Rattle.exchange_model.specs.Coming.{is_deliverable, may_come}
 use Rattle.exchange_model.specs.End.{End}
 use Rattle.exchange_model.specs.Questions.{head_of, is_known, is_pending, sent_of}
 use Rattle.exchange_model.specs.Submitting.{are_too_large}
-use Rattle.exchange_model.specs.Table.{Errs, Receipts, Submits, Ticks, Takes, Asks, AsksBy, UserComes, PullComes, Settles, IsOther, ReceiptComes, SignalComes, Comes, Confirms, RowOf, IsLimited, Step, has_room, message_of, read_reply, standing_reply}
+use Rattle.exchange_model.specs.Table.{Errs, Receipts, Submits, Ticks, Takes, Asks, AsksBy, AsksWith, AsksWithBy, AsksWithEntry, UserComes, PullComes, Settles, IsOther, ReceiptComes, SignalComes, PairComes, Comes, Confirms, RowOf, IsLimited, Step, has_room, message_of, read_reply, standing_reply}
 use Rattle.exchange_model.specs.World.{sends}
 use Rattle.exchange_model.specs.declared.event.Event.{Event}
+use Rattle.exchange_model.specs.declared.inbox_entry.InboxEntry.{InboxEntry}
 use Rattle.exchange_model.specs.declared.outcome.Outcome.{Outcome}
 use Rattle.exchange_model.specs.declared.reply.Reply.{Reply}
 use Rattle.exchange_model.specs.declared.reply.Reply.TheVariants as reply
@@ -34,6 +36,7 @@ use Rattle.exchange_model.specs.declared.what.What.{What}
 use Rattle.exchange_model.specs.declared.what.What.TheVariants as what
 use Rattle.exchange_model.proofs.ListLemmas.{Has}
 use Rattle.exchange_laws.proofs.EndSteps.{by_option, by_bool}
+use Rattle.exchange_laws.proofs.PairRows.{pair_cases}
 use Rattle.exchange_laws.proofs.OwnRows.{read_silent, standing_silent}
 
 -- the header and the payloads take less than they do with all else of a submission
@@ -62,6 +65,10 @@ submission_may_come s =
 pub signal_may_come : (signal : Signal) → may_come (what.Came (message.Signal signal)) ≡ true
 unfolding may_come
 signal_may_come signal = refl
+
+pair_may_come : (pair : Pair) → may_come (what.Came (message.Pair pair)) ≡ true
+unfolding may_come
+pair_may_come pair = refl
 
 -- the other end can take what the reply sends
 abbrev pub MayBeTaken : Reply → Type 0
@@ -121,6 +128,23 @@ asks modes event name outcome h =
     asked (route.Pull mpc address) k =
         sends_one (reply.Request address (message.Signal k.0)) _ outcome (message.Signal k.0) refl (signal_may_come k.0) k.2
 
+-- AskWith
+asks_with : (modes : List Mode) (end : End) (event : Event) (name : List ℕ) (n : ℕ) (outcome : Outcome) → AsksWith modes end event name n outcome
+    → MayBeTaken outcome.reply
+unfolding AsksWith
+asks_with modes end event name n outcome h =
+    by_option _ _ _ (mode_named modes name) h (sends_none reply.NoMode _ outcome refl) (λ mode _ k. asked mode.route k)
+  where
+    paired : (mpc address : List ℕ) (o : Option InboxEntry) → AsksWithEntry mpc address event o outcome → MayBeTaken outcome.reply
+    paired mpc address None k = sends_none reply.NoEntry _ outcome refl k
+    paired mpc address (Some entry) k =
+        sends_one (reply.Request address (message.Pair k.0)) _ outcome (message.Pair k.0) refl (pair_may_come k.0) k.2
+
+    asked : (r : Route) → AsksWithBy r end event n outcome → MayBeTaken outcome.reply
+    asked (route.Push address) k = sends_none reply.NoMode _ outcome refl k
+    asked (route.Pull mpc address) k =
+        by_bool _ _ _ (nat_lt n end.confirmed) k (λ _. sends_none reply.Gone _ outcome refl) (λ _. paired mpc address (slice_get end.inbox n))
+
 -- an error is told
 errs : (code : ℕ) (about : List ℕ) (event : Event) (outcome : Outcome) → Errs code about event outcome
     → MayBeTaken outcome.reply
@@ -175,12 +199,24 @@ signal_comes modes end event id ref_to (body.Pull mpc) outcome h = pull_comes mo
 signal_comes modes end event id ref_to (body.Receipt copy) outcome h = receipt_comes end event id ref_to copy outcome h
 signal_comes modes end event id ref_to (body.Errors items) outcome h = sends_none reply.Quiet _ outcome refl h
 
+-- a pair
+pair_comes : (modes : List Mode) (end : End) (event : Event) (pair : Pair) (outcome : Outcome)
+    → PairComes modes end event pair.receipt pair.pull outcome → MayBeTaken outcome.reply
+pair_comes modes end event pair outcome h = elim (pair_cases modes end event pair outcome h) [
+  | inl r ↦ errs r.code r.about event outcome r.errs
+  | inr s ↦ elim s.row [
+    | inl a ↦ pull_comes modes end event pair.pull.id s.mpc outcome a.row
+    | inr b ↦ subst (λ (o : Outcome). MayBeTaken o.reply) (sym b.is) (pull_comes modes _ event pair.pull.id s.mpc b.pulled b.row)
+  ]
+]
+
 -- what comes
 comes : (modes : List Mode) (end : End) (event : Event) (m : Message) (outcome : Outcome) → Comes modes end event m outcome
     → MayBeTaken outcome.reply
 comes modes end event (message.User header payloads) outcome h = user_comes modes end event header payloads outcome h
 comes modes end event (message.Signal signal) outcome h =
     signal_comes modes end event signal.id signal.ref_to signal.body outcome h
+comes modes end event (message.Pair pair) outcome h = pair_comes modes end event pair outcome h
 
 -- Confirm
 confirms : (end : End) (upto : ℕ) (outcome : Outcome) → Confirms end upto outcome → MayBeTaken outcome.reply
@@ -198,6 +234,7 @@ row_sends modes end event (what.Submit mode conversation loads) outcome h =
 row_sends modes end event what.Tick outcome h = ticks end event outcome h
 row_sends modes end event what.Take outcome h = takes end outcome h
 row_sends modes end event (what.Ask mode) outcome h = asks modes event mode outcome h
+row_sends modes end event (what.AskWith mode n) outcome h = asks_with modes end event mode n outcome h
 row_sends modes end event (what.Came m) outcome h = comes modes end event m outcome h
 row_sends modes end event (what.Read n) outcome h = sends_none (read_reply end n) _ outcome (read_silent end n) h
 row_sends modes end event (what.Confirm upto) outcome h = confirms end upto outcome h

@@ -16,7 +16,7 @@ use Rattle.exchange_laws.proofs.SentLemmas.{one_of_number, and_left, and_right}
 use Rattle.exchange_laws.proofs.SentSteps.{Receipts, Fails, Causes, KeepsTries, IsChange, SentGoes, sent_map}
 
 -- what the test of numbers says
-same_number : (a b : ℕ) → (a == b) ≡ true → a ≡ b
+pub same_number : (a b : ℕ) → (a == b) ≡ true → a ≡ b
 same_number a b e = grind (arith, nat_tests)
 
 -- the change of one submission, by whether the number is its

@@ -4,6 +4,7 @@ use Rattle.std.specs.Prelude.{slice_get, false}
 use Rattle.std.specs.Option.{option_or}
 use Rattle.as4_effects.specs.declared.submission.Submission.{Submission}
 use Rattle.as4_values.specs.declared.header.UserHeader.{UserHeader}
+use Rattle.as4_values.specs.declared.message.Pair.{Pair}
 use Rattle.as4_values.specs.declared.message.Message.TheVariants as message
 use Rattle.as4_values.specs.declared.signal.Signal.{Signal}
 use Rattle.as4_values.specs.declared.signal_body.ErrorItem.{ErrorItem}
@@ -17,17 +18,37 @@ use Rattle.exchange_model.specs.declared.sent.Mark.{Mark}
 use Rattle.exchange_model.specs.declared.sent.Mark.TheVariants as mark
 use Rattle.exchange_model.specs.declared.sent.Sent.{Sent}
 use Rattle.exchange_model.specs.declared.what.What.{What}
-use Rattle.exchange_model.specs.declared.what.What.TheVariants.{Came, Tick}
+use Rattle.exchange_model.specs.declared.what.What.TheVariants.{Submit, Tick, Take, Ask, AskWith, Came, Read, Confirm, Status}
 use Rattle.exchange_model.proofs.ListLemmas.{Has}
 use Rattle.exchange_model.proofs.NumberedLemmas.{numbered_push}
 use Rattle.exchange_laws.proofs.ListLemmas.{has_mapped, had_mapped, had_left, has_either, got_left, got_mapped}
 use Rattle.exchange_laws.proofs.SentLemmas.{numbered_map}
 
+-- a signal comes alone, or as the receipt of a pair
+abbrev pub Brings : What → Signal → Type 0
+Brings (Came (message.Signal came)) signal = came ≡ signal
+Brings (Came (message.Pair pair)) signal = pair.receipt ≡ signal
+Brings other signal = ⊥
+
+pub brings_either : (what : What) (signal : Signal) → Brings what signal
+    → (what ≡ Came (message.Signal signal)) ⊎ ((pair : Pair) × (what ≡ Came (message.Pair pair)) × (pair.receipt ≡ signal))
+brings_either (Came (message.Signal came)) signal e = inl (ap (λ (s : Signal). Came (message.Signal s)) e)
+brings_either (Came (message.Pair pair)) signal e = inr (pair, refl, e)
+brings_either (Came (message.User header payloads)) signal h = absurd h
+brings_either (Submit mode conversation loads) signal h = absurd h
+brings_either Tick signal h = absurd h
+brings_either Take signal h = absurd h
+brings_either (Ask mode) signal h = absurd h
+brings_either (AskWith mode n) signal h = absurd h
+brings_either (Read n) signal h = absurd h
+brings_either (Confirm upto) signal h = absurd h
+brings_either (Status id) signal h = absurd h
+
 -- a receipt of the submission comes, with no copy of another header
 pub record Receipts (what : What) (s : Submission) : Type 0 where
   pub signal : Signal
   pub copy : Option UserHeader
-  pub came : what ≡ Came (message.Signal signal)
+  pub came : Brings what signal
   pub receipt : signal.body ≡ body.Receipt copy
   pub names : signal.ref_to ≡ Some s.header.id
   pub same : IsOther copy s.header → ⊥

@@ -10,7 +10,7 @@ use Rattle.exchange_model.specs.declared.outcome.Outcome.{Outcome}
 use Rattle.exchange_model.specs.declared.what.What.{What}
 use Rattle.exchange_model.specs.declared.what.What.TheVariants as what
 use Rattle.exchange_laws.proofs.EndSteps.{rests_silent, by_bool}
-use Rattle.exchange_laws.proofs.OwnRows.{Goes, submits, ticks, takes, asks, reads, confirms, tells_status}
+use Rattle.exchange_laws.proofs.OwnRows.{Goes, submits, ticks, takes, asks, asks_with, reads, confirms, tells_status}
 use Rattle.exchange_laws.proofs.ComingRows.{comes}
 
 -- by the rows of the event
@@ -21,6 +21,7 @@ row_goes modes end event (what.Submit mode conversation loads) outcome numbered 
 row_goes modes end event what.Tick outcome numbered h = ticks end event outcome numbered h
 row_goes modes end event what.Take outcome numbered h = takes _ end outcome numbered h
 row_goes modes end event (what.Ask mode) outcome numbered h = asks _ modes end event mode outcome numbered h
+row_goes modes end event (what.AskWith mode n) outcome numbered h = asks_with _ modes end event mode n outcome numbered h
 row_goes modes end event (what.Came m) outcome numbered h = comes modes end event m outcome numbered h
 row_goes modes end event (what.Read n) outcome numbered h = reads _ end n outcome numbered h
 row_goes modes end event (what.Confirm upto) outcome numbered h = confirms _ end upto outcome numbered h

@@ -42,6 +42,7 @@ said_has id (m ∷ said) e = elim (or_either (is_user_message id m) (has_message
         → (header : UserHeader) × (payloads : List Payload) × Has (x ∷ said) (message.User header payloads) × (header.id ≡ id)
     of_message (message.User header payloads) here = (header, payloads, inl refl, (bytes_eq-Decides header.id id).0 here)
     of_message (message.Signal signal) here = absurd cc
+    of_message (message.Pair pair) here = absurd cc
 
 -- a number is below the count
 pub number_below : (n : ℕ) (sent : List Sent) (s : Sent) → AreNumberedFrom n sent → Has sent s → s.submission.number < n + length sent

@@ -35,7 +35,7 @@ asks_standing : (modes : List Mode) (end : End) (event : Event) (outcome : Outco
 asks_standing modes end event outcome id step asked =
     replies modes end event outcome (what.Status id) (standing_reply (sent_of id end.sent)) (λ row h. h) step asked
 
-not_below : (n m : ℕ) → m ≤ n → nat_lt n m ≡ false
+pub not_below : (n m : ℕ) → m ≤ n → nat_lt n m ≡ false
 not_below n m h = grind (arith, nat_tests)
 
 is_below : (n m : ℕ) → n < m → nat_lt n m ≡ true

@@ -4,6 +4,7 @@ use Rattle.std.specs.Prelude.{◌==◌, ◌||◌, if◌then◌else◌}
 use Rattle.std.specs.List.{list_any}
 use Rattle.std.specs.Str.{bytes_eq}
 use Rattle.std.proofs.lemmas.Bool.Decides.{nat_tests}
+use Rattle.std.proofs.lemmas.List.{length-map}
 use Rattle.std.proofs.lemmas.Slice.Eq.{bytes_eq-Decides}
 use Rattle.as4_effects.specs.declared.submission.Submission.{Submission}
 use Rattle.as4_values.specs.declared.message.Message.{Message}
@@ -162,3 +163,13 @@ tries_tried said sent s moment numbered there one t h =
         ∙ ap (λ (v : Submission). has_message v.header.id (message_of s.submission ∷ [])) (sym (same u (u.submission.number == s.submission.number)) ∙ ap (λ (v : Sent). v.submission) e)
         ∙ ap (has_message t.submission.header.id) (sym one) in
         sym (ap (λ (v : Sent). v.tries) e) ∙ tries u (u.submission.number == s.submission.number) ∙ ap (λ b. u.tries + one_if b) test
+
+-- the same where one gets another mark first
+pub tries_behind : (said : List Message) (sent : List Sent) (number : ℕ) (m : Mark) (new : List Sent)
+    → TriesGo said (changed number (marked m) sent) new → TriesGo said sent new
+unfolding changed
+tries_behind said sent number m new go t h = elim (go t h) [
+  | inl s ↦ (let o = stay_marked sent number m s.0 s.1 in
+      inl (o.0, o.1, o.2 ∙ s.2, s.3 ∙ ap (λ n. n + one_if (has_message t.submission.header.id said)) o.3))
+  | inr fresh ↦ inr (fresh.0, fresh.1 ∙ length-map sent _, fresh.2)
+]

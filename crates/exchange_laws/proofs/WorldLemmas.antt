@@ -3,6 +3,7 @@ use Rattle.std.proofs.Common.{◌≡◌, ℕ, ◌≤◌, ◌⊎◌, inl, inr, Li
 use Rattle.std.specs.Prelude.{slice_get, if◌then◌else◌}
 use Rattle.as4_values.specs.declared.message.Message.{Message}
 use Rattle.as4_values.specs.declared.message.Message.TheVariants as message
+use Rattle.as4_values.specs.declared.signal.Signal.{Signal}
 use Rattle.as4_values.specs.declared.signal_body.SignalBody.{SignalBody}
 use Rattle.as4_values.specs.declared.signal_body.SignalBody.TheVariants as body
 use Rattle.exchange_model.specs.DeliveredOnce.{CameFrom}
@@ -18,7 +19,7 @@ use Rattle.exchange_model.specs.declared.what.What.TheVariants as what
 use Rattle.exchange_model.proofs.ListLemmas.{Has}
 use Rattle.exchange_model.proofs.NumberedLemmas.{none_numbered}
 use Rattle.exchange_laws.proofs.ListLemmas.{has_contained, has_either}
-use Rattle.exchange_laws.proofs.SentSteps.{Receipts, receipted_by}
+use Rattle.exchange_laws.proofs.SentSteps.{Receipts, brings_either, receipted_by}
 use Rattle.exchange_laws.proofs.InboxLemmas.{ids, Apart}
 use Rattle.exchange_laws.proofs.InboxSteps.{Stood}
 use Rattle.exchange_laws.proofs.EndSteps.{Backs, BacksSignal, EndGoes}
@@ -58,6 +59,8 @@ backs_later w r old new (message.User header payloads) goes backs =
     let t = goes.sent.kept backs.0 backs.1 in (t.0, t.1, ap (λ s. s.header) t.2 ∙ backs.2, ap (λ s. s.payloads) t.2 ∙ backs.3)
 backs_later w r old new (message.Signal signal) goes backs =
     backs_signal_later old.inbox new.inbox signal.ref_to signal.body goes.inbox.known backs
+backs_later w r old new (message.Pair pair) goes backs =
+    backs_signal_later old.inbox new.inbox pair.receipt.ref_to pair.receipt.body goes.inbox.known backs
 
 -- what was said is old, or said in this act
 said_either : (lost : Bool) (said new : List Message) (m : Message) → Has (if lost then said else said ++ new) m
@@ -93,7 +96,11 @@ heard w m other holds h e = holds.said m (has_contained other.said m (subst (IsH
 receipt_heard : (w : What) (s : Sent) (other : Party) → PartyHolds other → IsHeard other.said w → Receipts w s.submission
     → Has (ids other.end.inbox) s.submission.header.id
 receipt_heard w s other holds h r =
-    let backs : BacksSignal other.end.inbox r.signal.ref_to r.signal.body = heard w (message.Signal r.signal) other holds h r.came in
+    let backs : BacksSignal other.end.inbox r.signal.ref_to r.signal.body = elim (brings_either w r.signal r.came) [
+      | inl came ↦ heard w (message.Signal r.signal) other holds h came
+      | inr came ↦ subst (λ (signal : Signal). BacksSignal other.end.inbox signal.ref_to signal.body) came.2
+          (heard w (message.Pair came.0) other holds h came.1)
+    ] in
     let of_receipt : BacksSignal other.end.inbox r.signal.ref_to (body.Receipt r.copy) =
     subst (BacksSignal other.end.inbox r.signal.ref_to) r.receipt backs in
     of_receipt s.submission.header.id r.names

@@ -5,13 +5,15 @@
 //!                                                           a_receipt_settles
 //!     one step                                              what_is_handed_in_is_taken, what_is_told_is_so,
 //!                                                           what_is_handed_out_was_asked_for,
-//!                                                           an_ask_sends_a_pull_request, what_is_sent_may_come
-ghost use Rattle.std.specs.Prelude.{◌≡◌, ◌<◌, ◌⊎◌, ℕ, List, [], ◌∷◌, ◌++◌, Option, Some, IsSome, IsTrue, length, true, false};
+//!                                                           an_ask_sends_a_pull_request,
+//!                                                           an_ask_with_a_receipt_sends_both, what_is_sent_may_come
+ghost use Rattle.std.specs.Prelude.{◌≡◌, ◌<◌, ◌≤◌, ◌⊎◌, ℕ, List, [], ◌∷◌, ◌++◌, Option, Some, IsSome, IsTrue, length, slice_get, true, false};
 ghost use Rattle.std.specs.List.{Contains};
 ghost use Rattle.as4_values.specs.ModeMatch.{mode_named};
 ghost use Rattle.as4_values.specs.declared.header.UserHeader.{UserHeader};
 ghost use Rattle.as4_values.specs.declared.message.Message.{Message};
 ghost use Rattle.as4_values.specs.declared.message.Message.TheVariants as message;
+ghost use Rattle.as4_values.specs.declared.message.Pair.{Pair};
 ghost use Rattle.as4_values.specs.declared.mode.Mode.{Mode};
 ghost use Rattle.as4_values.specs.declared.payload.Load.{Load};
 ghost use Rattle.as4_values.specs.declared.payload.Payload.{Payload};
@@ -20,6 +22,7 @@ ghost use Rattle.as4_values.specs.declared.signal.Signal.{Signal};
 ghost use Rattle.as4_values.specs.declared.signal_body.SignalBody.TheVariants as body;
 ghost use Rattle.exchange_model.specs.Alone.{MayHappenTo, IsSafe, end_after};
 ghost use Rattle.exchange_model.specs.Apply.{marked};
+ghost use Rattle.exchange_model.specs.Causes.{BringsSignal};
 ghost use Rattle.exchange_model.specs.Coming.{may_come};
 ghost use Rattle.exchange_model.specs.DeliveredOnce.{BothDeliverOnce};
 ghost use Rattle.exchange_model.specs.End.{End, empty_end};
@@ -32,6 +35,7 @@ ghost use Rattle.exchange_model.specs.Table.{IsOther, Step, message_of};
 ghost use Rattle.exchange_model.specs.Telling.{Tells};
 ghost use Rattle.exchange_model.specs.World.{Act, Side, MayHappen, new_world, sends, world_after};
 ghost use Rattle.exchange_model.specs.declared.event.Event.{Event};
+ghost use Rattle.exchange_model.specs.declared.inbox_entry.InboxEntry.{InboxEntry};
 ghost use Rattle.exchange_model.specs.declared.outcome.Outcome.{Outcome};
 ghost use Rattle.exchange_model.specs.declared.reply.Reply.TheVariants as reply;
 ghost use Rattle.exchange_model.specs.declared.sent.Mark.TheVariants.{Receipted};
@@ -76,11 +80,11 @@ pub fn what_is_settled_stays()
         → Contains (end_after (acts ++ more) empty_end).sent s }
 {}
 
-/// A receipt of a pending submission settles it, whenever it comes.
+/// A receipt of a pending submission settles it, whenever it comes, alone or in a pair for a channel of the modes.
 pub fn a_receipt_settles()
     ensures { (acts : List Act) (act : Act) (s : Sent) (signal : Signal) (copy : Option UserHeader)
         → MayHappenTo (acts ++ act ∷ []) empty_end → Contains (end_after acts empty_end).sent s → is_pending s ≡ true
-        → act.event.what ≡ what.Came (message.Signal signal) → signal.body ≡ body.Receipt copy
+        → BringsSignal act.modes act.event.what signal → signal.body ≡ body.Receipt copy
         → signal.ref_to ≡ Some s.submission.header.id → ¬ IsOther copy s.submission.header
         → (¬ IsFull act.outcome.reply) ⊎ HasRoomForOne (end_after acts empty_end)
         → Contains (end_after (acts ++ act ∷ []) empty_end).sent (marked Receipted s) }
@@ -95,7 +99,7 @@ pub fn what_is_handed_in_is_taken()
 {}
 
 /// What an end hands out was asked for: it is the head of what is pushed, to its address, or of a channel that a pull
-/// request names.
+/// request names, alone or behind the receipt of a pair.
 pub fn what_is_handed_out_was_asked_for()
     ensures { (act : Act) (end : End) (header : UserHeader) (payloads : List Payload) → Step act.modes end act.event act.outcome
         → Contains (sends act.outcome.reply) (message.User header payloads)
@@ -109,6 +113,16 @@ pub fn an_ask_sends_a_pull_request()
         → Step modes end event outcome → event.what ≡ what.Ask name → mode_named modes name ≡ Some mode
         → mode.route ≡ route.Pull mpc address
         → (signal : Signal) × (outcome.reply ≡ reply.Request address (message.Signal signal)) × (signal.body ≡ body.Pull mpc) }
+{}
+
+/// An end that is asked so with an entry that isn't confirmed sends the entry's receipt, bundled with the pull request.
+pub fn an_ask_with_a_receipt_sends_both()
+    ensures { (modes : List Mode) (end : End) (event : Event) (outcome : Outcome) (name : List ℕ) (n : ℕ) (mpc address : List ℕ) (mode : Mode)
+        (entry : InboxEntry)
+        → Step modes end event outcome → event.what ≡ what.AskWith name n → mode_named modes name ≡ Some mode
+        → mode.route ≡ route.Pull mpc address → end.confirmed ≤ n → slice_get end.inbox n ≡ Some entry
+        → (pair : Pair) × (outcome.reply ≡ reply.Request address (message.Pair pair)) × (pair.pull.body ≡ body.Pull mpc)
+        × (pair.receipt.ref_to ≡ Some entry.header.id) × (pair.receipt.body ≡ body.Receipt (Some entry.header)) }
 {}
 
 /// What producers and consumers are told is so: an entry is read as it came, and a submission is told as it stands.

@@ -53,9 +53,9 @@ abbrev pub after_all : List Effect → End → End
 after_all [] end = end
 after_all (e ∷ effects) end = after_all effects (after e end)
 
--- how many bytes the record of these effects takes: five more than their body
+-- how many bytes the record of these effects takes: its gate, the eight bytes of its length, and its body
 unfoldable pub record_len : List Effect → ℕ
-record_len effects = length (effects_body effects) + 5
+record_len effects = length (effects_body effects) + 9
 
 -- the end after the record of these effects; where there are none there is no record
 unfoldable pub applied : List Effect → End → End

@@ -1,5 +1,5 @@
 -- What an act has brought, where an end's state comes from it.
-use Rattle.std.specs.Prelude.{◌≡◌, ℕ, ◌≤◌, List, [], ◌∷◌, Option, Some, map}
+use Rattle.std.specs.Prelude.{◌≡◌, ℕ, ◌≤◌, List, IsTrue, Option, Some, map}
 use Rattle.std.specs.List.{Contains}
 use Rattle.std.specs.Option.{option_or}
 use Rattle.as4_effects.specs.declared.effect.Effect.TheVariants as effect
@@ -14,10 +14,11 @@ use Rattle.as4_values.specs.declared.signal.Signal.{Signal}
 use Rattle.as4_values.specs.declared.signal_body.ErrorItem.{ErrorItem}
 use Rattle.as4_values.specs.declared.signal_body.Severity.TheVariants.{Failure}
 use Rattle.as4_values.specs.declared.signal_body.SignalBody.TheVariants as body
-use Rattle.exchange_model.specs.Table.{IsOther}
+use Rattle.exchange_model.specs.Table.{IsOther, names_channel}
 use Rattle.exchange_model.specs.World.{Act}
 use Rattle.exchange_model.specs.declared.reply.Reply.TheVariants as reply
 use Rattle.exchange_model.specs.declared.sent.Sent.{Sent}
+use Rattle.exchange_model.specs.declared.what.What.{What}
 use Rattle.exchange_model.specs.declared.what.What.TheVariants.{Submit, Came, Confirm}
 
 -- the submission was handed in, by a mode of the end: it has the contents of its loads, and is sent as the mode says
@@ -37,15 +38,21 @@ pub record HandsIn (s : Submission) (act : Act) : Type 0 where
   pub retries : s.retries ≡ mode.retries
   pub period : s.period ≡ mode.period
 
+-- a receipt comes: alone, or in a pair that asks for a channel of these modes
+abbrev pub BringsSignal : List Mode → What → Signal → Type 0
+BringsSignal modes (Came (message.Signal signal)) brought = signal ≡ brought
+BringsSignal modes (Came (message.Pair pair)) brought = (pair.receipt ≡ brought) × IsTrue (names_channel modes pair.pull.body)
+BringsSignal modes other brought = ⊥
+
 -- a receipt came that names the submission, with no copy of another header, and it settled the submission
 pub record BringsReceiptOf (s : Sent) (act : Act) : Type 0 where
   pub signal : Signal
   pub copy : Option UserHeader
-  pub came : act.event.what ≡ Came (message.Signal signal)
+  pub came : BringsSignal act.modes act.event.what signal
   pub receipt : signal.body ≡ body.Receipt copy
   pub names : signal.ref_to ≡ Some s.submission.header.id
   pub same : ¬ IsOther copy s.submission.header
-  pub settles : act.outcome.effects ≡ effect.Receipted s.submission.number ∷ []
+  pub settles : Contains act.outcome.effects (effect.Receipted s.submission.number)
 
 -- an error signal came with a failure of this code that is about the submission
 pub record BringsFailureOf (s : Sent) (code : List ℕ) (act : Act) : Type 0 where

@@ -10,6 +10,7 @@ use Rattle.exchange_model.specs.World.{Act, sends}
 abbrev pub is_user_message : List ℕ → Message → Bool
 is_user_message id (message.User header payloads) = bytes_eq header.id id
 is_user_message id (message.Signal signal) = false
+is_user_message id (message.Pair pair) = false
 
 -- the reply of the act has it
 unfoldable pub hands_out : List ℕ → Act → Bool

@@ -1,19 +1,25 @@
 -- A message goes over, and its receipt comes back, in three acts of which nothing is lost. Of each of the three it is
 -- said what any such act does that may happen next. Of its reply no more is asked than that the journal isn't full, and
 -- where the journal has room for any effect, not even that.
-use Rattle.std.specs.Prelude.{◌≡◌, ℕ, ◌≤◌, ◌⊎◌, List, [], ◌∷◌, false, Some, IsSome, slice_get}
+use Rattle.std.specs.Prelude.{◌≡◌, ℕ, ◌≤◌, ◌⊎◌, List, [], ◌∷◌, false, if◌then◌else◌, Option, Some, IsSome, slice_get}
 use Rattle.std.specs.List.{Contains}
+use Rattle.std.specs.Option.{option_and_then}
+use Rattle.as4_effects.specs.declared.effect.Effect.TheVariants as effect
 use Rattle.as4_effects.specs.declared.queue.Queue.TheVariants as queue
 use Rattle.as4_values.specs.ModeMatch.{mode_of, channel_mode}
+use Rattle.as4_values.specs.declared.header.UserHeader.{UserHeader}
 use Rattle.as4_values.specs.declared.message.Message.{Message}
 use Rattle.as4_values.specs.declared.message.Message.TheVariants as message
+use Rattle.as4_values.specs.declared.message.Pair.{Pair}
+use Rattle.as4_values.specs.declared.mode.Mode.{Mode}
 use Rattle.as4_values.specs.declared.signal.Signal.{Signal}
 use Rattle.as4_values.specs.declared.signal_body.SignalBody.TheVariants as body
+use Rattle.exchange_model.specs.Apply.{after}
 use Rattle.exchange_model.specs.DeliveredOnce.{CameFrom}
 use Rattle.exchange_model.specs.End.{End}
-use Rattle.exchange_model.specs.Questions.{head_of, sent_of}
+use Rattle.exchange_model.specs.Questions.{head_of, is_pending, sent_of}
 use Rattle.exchange_model.specs.Room.{HasRoomForOne}
-use Rattle.exchange_model.specs.Table.{message_of}
+use Rattle.exchange_model.specs.Table.{IsOther, message_of}
 use Rattle.exchange_model.specs.World.{Act, Side, World, MayHappen, across, party_at, sends, world_after}
 use Rattle.exchange_model.specs.declared.inbox_entry.InboxEntry.{InboxEntry}
 use Rattle.exchange_model.specs.declared.reply.Reply.{Reply}
@@ -42,12 +48,35 @@ pub record SendsOne (side : Side) (world : World) (act : Act) (m : Message) : Ty
   pub one : sends act.outcome.reply ≡ m ∷ []
   pub heard : act.lost ≡ false → Contains (party_at side (behind_act act world)).said m
 
--- the end is asked for the head of a queue: for what it pushes, or by a pull request for a channel of its modes
+-- a pull request asks an end for the head of a channel of these modes
+abbrev pub IsPulled : Sent → List Mode → Signal → End → Type 0
+IsPulled s modes signal end =
+    (mpc : List ℕ) × (signal.body ≡ body.Pull mpc) × IsSome (channel_mode modes mpc)
+    × (head_of (queue.Channel mpc) end ≡ Some s)
+
+-- a receipt of a submission of the end, with no copy of another header
+pub record IsReceiptAt (s : Sent) (signal : Signal) (end : End) : Type 0 where
+  pub copy : Option UserHeader
+  pub receipt : signal.body ≡ body.Receipt copy
+  pub names : option_and_then (λ ref. sent_of ref end.sent) signal.ref_to ≡ Some s
+  pub own : ¬ IsOther copy s.submission.header
+
+-- the end behind the receipt of a submission
+abbrev pub behind_receipt : Sent → End → End
+behind_receipt s end = if is_pending s then after (effect.Receipted s.submission.number) end else end
+
+-- a pair asks an end for the head that a channel has behind its receipt
+abbrev pub IsPulledBehind : Sent → List Mode → Pair → End → Type 0
+IsPulledBehind s modes pair end =
+    (t : Sent) × IsReceiptAt t pair.receipt end × IsPulled s modes pair.pull (behind_receipt t end)
+
+-- the end is asked for the head of a queue: for what it pushes, or by a pull request, alone or in a pair, for a channel
+-- of its modes
 abbrev pub IsAskedFor : Sent → Act → End → Type 0
 IsAskedFor s act end =
     ((act.event.what ≡ what.Take) × (head_of queue.Push end ≡ Some s))
-    ⊎ ((signal : Signal) × (mpc : List ℕ) × (act.event.what ≡ what.Came (message.Signal signal)) × (signal.body ≡ body.Pull mpc)
-    × IsSome (channel_mode act.modes mpc) × (head_of (queue.Channel mpc) end ≡ Some s))
+    ⊎ (((signal : Signal) × (act.event.what ≡ what.Came (message.Signal signal)) × IsPulled s act.modes signal end)
+    ⊎ ((pair : Pair) × (act.event.what ≡ what.Came (message.Pair pair)) × IsPulledBehind s act.modes pair end))
 
 -- the message of the submission stands in an inbox, with its payloads unless it is confirmed
 abbrev pub StandsIn : Sent → End → Type 0

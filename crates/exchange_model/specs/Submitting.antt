@@ -14,13 +14,13 @@ use Rattle.as4_values.specs.declared.payload.Payload.{Payload}
 use Rattle.as4_values.specs.declared.route.Route.{Route}
 use Rattle.as4_values.specs.declared.route.Route.TheVariants.{Push, Pull}
 
--- more than 64 loads, a media text that no part may have, or more than 15,728,640 bytes together: this handler's own
+-- more than 64 loads, a media text that no part may have, or more than 62,914,560 bytes together: this handler's own
 -- limits
 unfoldable pub are_too_large : List Load → Bool
 are_too_large loads =
     nat_lt 64 (length loads)
     || (not (list_all (λ load. is_media_text load.media) loads)
-    || nat_lt 15728640 (sum_by (λ load. length load.content) loads))
+    || nat_lt 62914560 (sum_by (λ load. length load.content) loads))
 
 -- the channel of a pull
 abbrev pub channel_of : Route → Option (List ℕ)

@@ -12,6 +12,10 @@
 --                           else                                             Tried        Push
 --     Ask                   no pull mode of that name                        none         NoMode
 --                           else                                             none         Request, a pull request
+--     AskWith               no pull mode of that name                        none         NoMode
+--                           below the confirmed count                        none         Gone
+--                           at least the inbox's length                      none         NoEntry
+--                           else                                             none         Request, a pair
 --     Came, user message    no mode matches                                  none         error 0010
 --                           its identifier is in the inbox                   none         receipt
 --                           else                                             Delivered    receipt
@@ -22,6 +26,11 @@
 --                           it has a copy that is not the header             none         error 0302
 --                           the submission is pending                        Receipted    Quiet
 --                           else                                             none         Quiet
+--     Came, pair            its receipt gives an error                       none         that error
+--                           no mode names the channel                        none         error 0001
+--                           else, behind the receipt's effect, if any:
+--                           no head in the channel                           none         error 0006
+--                           else                                             Tried        the user message
 --     Came, errors          each pending submission that a failure names     Refused      Quiet
 --     Read                  below the confirmed count                        none         Gone
 --                           at least the inbox's length                      none         NoEntry
@@ -35,11 +44,13 @@
 --
 -- One-Way/Push and One-Way/Pull: ebMS 3.0 Core, section 2.2, and AS4 Profile, section 2; retries and duplicates: AS4
 -- Profile, section 3.2; receipts: ebMS 3.0 Core, section 5.2.3.3, and AS4 Profile, section 5.1.8; errors: ebMS 3.0
--- Core, section 6; pull requests: ebMS 3.0 Core, sections 3.2 and 5.2.3.1. What these leave open is this handler's own.
-use Rattle.std.specs.Prelude.{◌≡◌, ◌≢◌, ℕ, ◌+◌, ◌⊎◌, List, [], ◌∷◌, Bool, ◌||◌, ◌==◌, nat_lt, nat_le, if◌then◌else◌, Option, Some, None, MatchOption, length, slice_get}
+-- Core, section 6; pull requests: ebMS 3.0 Core, sections 3.2 and 5.2.3.1; several units in one message: ebMS 3.0 Core,
+-- section 5.2.1. What these leave open is this handler's own.
+use Rattle.std.specs.Prelude.{◌≡◌, ◌≢◌, ℕ, ◌+◌, ◌⊎◌, List, [], ◌∷◌, ◌++◌, Bool, true, false, ◌||◌, is_some, ◌==◌, nat_lt, nat_le, if◌then◌else◌, Option, Some, None, MatchOption, length, slice_get}
 use Rattle.std.specs.Bool.{MatchBool}
 use Rattle.std.specs.List.{count_by}
 use Rattle.std.specs.Option.{option_and_then}
+use Rattle.as4_codes.specs.Signals.{IsReceiptOf, IsErrorSignalOf, IsPullOf, IsPairOf}
 use Rattle.as4_effects.specs.declared.delivery.Delivery.{Delivery}
 use Rattle.as4_effects.specs.declared.effect.Effect.{Effect}
 use Rattle.as4_effects.specs.declared.effect.Effect.TheVariants as effect
@@ -48,6 +59,7 @@ use Rattle.as4_effects.specs.declared.queue.Queue.TheVariants as queue
 use Rattle.as4_effects.specs.declared.submission.Submission.{Submission}
 use Rattle.as4_values.specs.ModeMatch.{mode_of, mode_named, channel_mode}
 use Rattle.as4_values.specs.declared.header.UserHeader.{UserHeader}
+use Rattle.as4_values.specs.declared.message.Pair.{Pair}
 use Rattle.as4_values.specs.declared.message.Message.{Message}
 use Rattle.as4_values.specs.declared.message.Message.TheVariants as message
 use Rattle.as4_values.specs.declared.mode.Mode.{Mode}
@@ -58,11 +70,10 @@ use Rattle.as4_values.specs.declared.route.Route.TheVariants as route
 use Rattle.as4_values.specs.declared.signal.Signal.{Signal}
 use Rattle.as4_values.specs.declared.signal_body.SignalBody.{SignalBody}
 use Rattle.as4_values.specs.declared.signal_body.SignalBody.TheVariants as body
-use Rattle.exchange_model.specs.Apply.{record_len}
+use Rattle.exchange_model.specs.Apply.{after_all, record_len}
 use Rattle.exchange_model.specs.End.{End}
 use Rattle.exchange_model.specs.Questions.{is_pending, is_spent, is_known, head_of, sent_of}
 use Rattle.exchange_model.specs.Refusing.{refusals_of}
-use Rattle.as4_codes.specs.Signals.{IsReceiptOf, IsErrorSignalOf, IsPullOf}
 use Rattle.exchange_model.specs.Submitting.{IsSubmissionOf, are_too_large, address_of}
 use Rattle.exchange_model.specs.declared.event.Event.{Event}
 use Rattle.exchange_model.specs.declared.inbox_entry.InboxEntry.{InboxEntry}
@@ -137,6 +148,23 @@ unfoldable pub Asks : List Mode → Event → List ℕ → Outcome → Type 0
 Asks modes event name outcome =
     MatchOption (mode_named modes name) (Rests reply.NoMode outcome) (λ mode. AsksBy mode.route event outcome)
 
+-- AskWith
+abbrev pub AsksWithEntry : List ℕ → List ℕ → Event → Option InboxEntry → Outcome → Type 0
+AsksWithEntry mpc address event None outcome = Rests reply.NoEntry outcome
+AsksWithEntry mpc address event (Some entry) outcome =
+    (pair : Pair) × IsPairOf entry.header mpc event.stamp event.nonce pair
+    × Rests (reply.Request address (message.Pair pair)) outcome
+
+abbrev pub AsksWithBy : Route → End → Event → ℕ → Outcome → Type 0
+AsksWithBy (route.Push address) end event n outcome = Rests reply.NoMode outcome
+AsksWithBy (route.Pull mpc address) end event n outcome =
+    MatchBool (nat_lt n end.confirmed) (Rests reply.Gone outcome)
+    (AsksWithEntry mpc address event (slice_get end.inbox n) outcome)
+
+unfoldable pub AsksWith : List Mode → End → Event → List ℕ → ℕ → Outcome → Type 0
+AsksWith modes end event name n outcome =
+    MatchOption (mode_named modes name) (Rests reply.NoMode outcome) (λ mode. AsksWithBy mode.route end event n outcome)
+
 -- Came, user message
 abbrev pub Delivers : Event → UserHeader → List Payload → Outcome → Type 0
 Delivers event header payloads outcome =
@@ -180,10 +208,34 @@ SignalComes modes end event id ref_to (body.Receipt copy) outcome = ReceiptComes
 SignalComes modes end event id ref_to (body.Errors items) outcome =
     outcome ≡ record { effects = refusals_of ref_to end.sent items; reply = reply.Quiet }
 
+-- Came, pair: its receipt's row, and where that gives no error, its pull request's at the end behind the receipt's
+-- effect; both rows' effects stand in one record, but for a channel that no mode names nothing changes
+abbrev pub is_quiet : Reply → Bool
+is_quiet reply.Quiet = true
+is_quiet other = false
+
+abbrev pub names_channel : List Mode → SignalBody → Bool
+names_channel modes (body.Pull mpc) = is_some (channel_mode modes mpc)
+names_channel modes other = false
+
+abbrev pub PullsBehind : List Mode → End → Event → Signal → Outcome → Outcome → Type 0
+PullsBehind modes end event pull settled outcome =
+    (pulled : Outcome) × SignalComes modes (after_all settled.effects end) event pull.id pull.ref_to pull.body pulled
+    × (outcome ≡ record {
+      effects = if names_channel modes pull.body then settled.effects ++ pulled.effects else [];
+      reply = pulled.reply;
+    })
+
+unfoldable pub PairComes : List Mode → End → Event → Signal → Signal → Outcome → Type 0
+PairComes modes end event receipt pull outcome =
+    (settled : Outcome) × SignalComes modes end event receipt.id receipt.ref_to receipt.body settled
+    × MatchBool (is_quiet settled.reply) (PullsBehind modes end event pull settled outcome) (outcome ≡ settled)
+
 abbrev pub Comes : List Mode → End → Event → Message → Outcome → Type 0
 Comes modes end event (message.User header payloads) outcome = UserComes modes end event header payloads outcome
 Comes modes end event (message.Signal signal) outcome =
     SignalComes modes end event signal.id signal.ref_to signal.body outcome
+Comes modes end event (message.Pair pair) outcome = PairComes modes end event pair.receipt pair.pull outcome
 
 -- Read
 abbrev pub entry_reply : Option InboxEntry → Reply
@@ -217,6 +269,7 @@ RowOf modes end event (what.Submit mode conversation loads) outcome = Submits mo
 RowOf modes end event what.Tick outcome = Ticks end event outcome
 RowOf modes end event what.Take outcome = Takes end outcome
 RowOf modes end event (what.Ask mode) outcome = Asks modes event mode outcome
+RowOf modes end event (what.AskWith mode n) outcome = AsksWith modes end event mode n outcome
 RowOf modes end event (what.Came came) outcome = Comes modes end event came outcome
 RowOf modes end event (what.Read n) outcome = Rests (read_reply end n) outcome
 RowOf modes end event (what.Confirm upto) outcome = Confirms end upto outcome
@@ -224,7 +277,7 @@ RowOf modes end event (what.Status id) outcome = Rests (standing_reply (sent_of 
 
 -- how many bytes a journal may have (this handler's own)
 abbrev pub journal_limit : ℕ
-journal_limit = 1073741824
+journal_limit = 4294967296
 
 -- the journal has room for a record of these effects
 unfoldable pub has_room : End → List Effect → Bool

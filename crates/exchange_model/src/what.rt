@@ -17,6 +17,11 @@ pub enum What {
     Ask {
         mode: Text,
     },
+    /// The same, bundled with the receipt of the message of this number in the inbox, from 0.
+    AskWith {
+        mode: Text,
+        n: u64,
+    },
     /// A message of the other end comes.
     Came(Message),
     /// The consumer reads the message of this number in the inbox, from 0.

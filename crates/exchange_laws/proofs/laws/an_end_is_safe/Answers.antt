@@ -1,17 +1,18 @@
-use Rattle.std.proofs.Common.{◌≡◌, List, ◌∙◌}
+use Rattle.std.proofs.Common.{◌≡◌, List, inl, inr, refl, sym, subst, ◌∙◌}
 use Rattle.std.specs.List.{Contains}
 use Rattle.as4_values.specs.declared.header.UserHeader.{UserHeader}
 use Rattle.as4_values.specs.declared.message.Message.TheVariants as message
 use Rattle.as4_values.specs.declared.payload.Payload.{Payload}
 use Rattle.exchange_model.specs.Alone.{IsOutboxSafe, IsSettledRightly, IsInboxSafe}
-use Rattle.exchange_model.specs.Causes.{BringsReceiptOf, BringsFailureOf}
+use Rattle.exchange_model.specs.Causes.{BringsSignal, BringsReceiptOf, BringsFailureOf}
 use Rattle.exchange_model.specs.End.{End}
 use Rattle.exchange_model.specs.Table.{message_of}
 use Rattle.exchange_model.specs.World.{Act}
 use Rattle.exchange_model.specs.declared.sent.Sent.{Sent}
+use Rattle.exchange_model.specs.declared.what.What.{What}
 use Rattle.exchange_laws.proofs.ListLemmas.{has_contained, contains_had}
 use Rattle.exchange_laws.proofs.InboxLemmas.{all_apart}
-use Rattle.exchange_laws.proofs.SentSteps.{Fails}
+use Rattle.exchange_laws.proofs.SentSteps.{Fails, brings_either}
 use Rattle.exchange_laws.proofs.Accounts.{AreAccounted, SomeAct, IsSettledBy, accounted}
 use Rattle.exchange_laws.proofs.TimesLemmas.{ids_apart}
 use Rattle.exchange_laws.proofs.laws.an_end_is_safe.Goals as goal
@@ -21,14 +22,20 @@ some_act acts P Q so h = (h.0, contains_had acts h.0 h.1, so h.0 h.2)
 
 brings_receipt : (s : Sent) (act : Act) → IsSettledBy s.submission act → BringsReceiptOf s act
 brings_receipt s act h = record {
-  signal = h.0.signal;
-  copy = h.0.copy;
-  came = h.0.came;
-  receipt = h.0.receipt;
-  names = h.0.names;
-  same = h.0.same;
-  settles = h.1;
+  signal = h.brings.signal;
+  copy = h.brings.copy;
+  came = came;
+  receipt = h.brings.receipt;
+  names = h.brings.names;
+  same = h.brings.same;
+  settles = contains_had act.outcome.effects _ h.settles;
 }
+  where
+    came : BringsSignal act.modes act.event.what h.brings.signal
+    came = elim (brings_either act.event.what h.brings.signal h.brings.came) [
+      | inl alone ↦ subst (λ (w : What). BringsSignal act.modes w h.brings.signal) (sym alone) refl
+      | inr paired ↦ subst (λ (w : What). BringsSignal act.modes w h.brings.signal) (sym paired.1) (paired.2, h.named paired.0 paired.1)
+    ]
 
 brings_failure : (s : Sent) (code : List _) (act : Act) → Fails act.event.what s.submission code → BringsFailureOf s code act
 brings_failure s code act h = record {
