@@ -5,6 +5,7 @@ use Rattle.std.proofs.lemmas.Bool.Decides.{nat_tests}
 use Rattle.std.specs.List.{flat_map}
 use Rattle.std.proofs.lemmas.List.{take_more, take_all}
 use Rattle.std.proofs.lemmas.Grind.{flat_map-append}
+pub use Rattle.byte_forms.proofs.NumberLemmas.{number_length}
 use Rattle.as4_effects.specs.Bodies.{number_body, text_body, list_body}
 use Rattle.as4_effects.specs.Lengths.{grown}
 use Rattle.as4_effects.specs.Sound.{fits_an_effect, effect_limit}
@@ -20,12 +21,6 @@ grown_cons sum b bytes = omega arith
 pub grown_none : (sum : ℕ) → sum < 2 ^ 64 → grown sum [] ≡ sum
 unfolding grown
 grown_none sum fits = omega arith
-
-pub number_length : (places n : ℕ) → length (number_body places n) ≡ places
-unfolding number_body
-number_length zero n = refl
-number_length (suc places) n =
-    length-append (number_body places (n / 256)) (n % 256 ∷ []) ∙ ap (λ k. k + 1) (number_length places (n / 256)) ∙ omega arith
 
 pub grown_number : (sum places n : ℕ) → grown sum (number_body places n) ≡ min (sum + places) (2 ^ 64 - 1)
 unfolding grown

@@ -6,8 +6,9 @@
 --     text     length, 4 bytes; then its bytes: texts, identifiers, codes, stamps and octets alike
 --     option   0, or 1 and then the value
 --     number   4 bytes for retries, 8 bytes for others
-use Rattle.std.specs.Prelude.{ℕ, zero, suc, ◌/◌, ◌%◌, List, [], ◌∷◌, ◌++◌, Option, Some, None, length}
-use Rattle.std.specs.List.{flat_map}
+use Rattle.std.specs.Prelude.{ℕ, List, ◌∷◌, ◌++◌}
+unfoldable pub use Rattle.byte_forms.specs.Bytes.{number_body, text_body}
+pub use Rattle.byte_forms.specs.Bytes.{option_body, list_body}
 use Rattle.as4_values.specs.declared.header.Party.{Party}
 use Rattle.as4_values.specs.declared.header.Side.{Side}
 use Rattle.as4_values.specs.declared.header.Agreement.{Agreement}
@@ -18,21 +19,6 @@ use Rattle.as4_values.specs.declared.header.UserHeader.{UserHeader}
 use Rattle.as4_values.specs.declared.payload.Payload.{Payload}
 use Rattle.as4_values.specs.declared.route.Route.{Route}
 use Rattle.as4_values.specs.declared.route.Route.TheVariants.{Push, Pull}
-
--- a number in so many bytes
-unfoldable pub number_body : ℕ → ℕ → List ℕ
-number_body zero n = []
-number_body (suc places) n = number_body places (n / 256) ++ n % 256 ∷ []
-
-unfoldable pub text_body : List ℕ → List ℕ
-text_body bytes = number_body 4 (length bytes) ++ bytes
-
-abbrev pub option_body : {X : Type 0} → (X → List ℕ) → Option X → List ℕ
-option_body body None = 0 ∷ []
-option_body body (Some x) = 1 ∷ body x
-
-abbrev pub list_body : {X : Type 0} → (X → List ℕ) → List X → List ℕ
-list_body body xs = number_body 4 (length xs) ++ flat_map body xs
 
 unfoldable pub party_body : Party → List ℕ
 party_body party = text_body party.id ++ option_body text_body party.kind

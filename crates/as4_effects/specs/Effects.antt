@@ -1,18 +1,27 @@
 -- The bytes of effects, in this handler's own format: each behind the byte that says which it is; and of a list.
-use Rattle.std.specs.Prelude.{ℕ, List, ◌∷◌, ◌++◌, length}
+use Rattle.std.specs.Prelude.{ℕ, ◌+◌, List, ◌∷◌, ◌++◌, length}
 use Rattle.std.specs.List.{flat_map}
 use Rattle.as4_effects.specs.Bodies.{number_body, text_body}
-use Rattle.as4_effects.specs.Sound.{submitted_body, delivered_body}
+use Rattle.as4_effects.specs.Marks.{mark_body}
+use Rattle.as4_effects.specs.Sound.{effect_limit, sent_body, submitted_body, delivered_body, kept_body}
+use Rattle.as4_effects.specs.declared.carried.Carried.{Carried as CarriedValue}
 use Rattle.as4_effects.specs.declared.delivery.Delivery.{Delivery}
 use Rattle.as4_effects.specs.declared.effect.Effect.{Effect}
-use Rattle.as4_effects.specs.declared.effect.Effect.TheVariants.{Submitted, Ticked, Tried, Delivered, Receipted, Refused, Confirmed}
+use Rattle.as4_effects.specs.declared.effect.Effect.TheVariants.{Submitted, Ticked, Tried, Delivered, Receipted, Refused, Confirmed, Carried, Kept}
 use Rattle.as4_effects.specs.declared.submission.Submission.{Submission}
+
+abbrev pub fields_body : Submission → List ℕ
+fields_body s = sent_body s.number s.header s.payloads s.route s.retries s.period s.moment
 
 abbrev pub submission_body : Submission → List ℕ
 submission_body s = submitted_body s.number s.header s.payloads s.route s.retries s.period s.moment
 
 abbrev pub delivery_body : Delivery → List ℕ
 delivery_body d = delivered_body d.header d.payloads
+
+-- the fields of the submission, how often it was sent, when last, and how it stands
+abbrev pub standing_body : CarriedValue → List ℕ
+standing_body c = fields_body c.submission ++ number_body 4 c.tries ++ number_body 8 c.last ++ mark_body c.standing
 
 unfoldable pub effect_body : Effect → List ℕ
 effect_body (Submitted submission) = submission_body submission
@@ -22,6 +31,16 @@ effect_body (Delivered delivery) = delivery_body delivery
 effect_body (Receipted number) = 5 ∷ number_body 8 number
 effect_body (Refused number code) = 6 ∷ number_body 8 number ++ text_body code
 effect_body (Confirmed upto) = 7 ∷ number_body 8 upto
+effect_body (Carried carried) = 8 ∷ standing_body carried
+effect_body (Kept kept) = kept_body kept.header
+
+-- how many bytes an effect may have: one that was carried up to 81 more than its submission
+abbrev pub carried_limit : ℕ
+carried_limit = effect_limit + 81
+
+abbrev pub most_bytes_of : Effect → ℕ
+most_bytes_of (Carried carried) = carried_limit
+most_bytes_of effect = effect_limit
 
 -- how many effects a list may have
 abbrev pub effects_limit : ℕ

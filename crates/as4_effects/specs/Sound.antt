@@ -9,8 +9,8 @@ use Rattle.as4_values.specs.declared.route.Route.{Route}
 use Rattle.as4_values.specs.declared.route.Route.TheVariants.{Push, Pull}
 use Rattle.as4_effects.specs.Bodies.{number_body, list_body, header_body, payload_body, route_body}
 
--- how many bytes an effect may have, the byte that says which it is with them: a body of it alone, which begins with a
--- count of two bytes, has at most 536,870,912
+-- how many bytes an effect may have that an event makes, the byte that says which it is with them: a body of it alone,
+-- which begins with a count of two bytes, has at most 536,870,912
 abbrev pub effect_limit : ℕ
 effect_limit = 536870910
 
@@ -36,14 +36,22 @@ unfoldable pub is_route : Route → Bool
 is_route (Push address) = is_address address
 is_route (Pull mpc address) = is_address address
 
--- the fields of a submission, in their order, behind the byte that says what it is
+-- the fields of a submission, in their order
+abbrev pub sent_body : ℕ → UserHeader → List Payload → Route → ℕ → ℕ → ℕ → List ℕ
+sent_body number header payloads route retries period moment =
+    number_body 8 number ++ header_body header ++ list_body payload_body payloads ++ route_body route
+    ++ number_body 4 retries ++ number_body 8 period ++ number_body 8 moment
+
+-- what was submitted, what came, and what came and was taken over, each behind the byte that says which it is
 abbrev pub submitted_body : ℕ → UserHeader → List Payload → Route → ℕ → ℕ → ℕ → List ℕ
 submitted_body number header payloads route retries period moment =
-    1 ∷ number_body 8 number ++ header_body header ++ list_body payload_body payloads ++ route_body route
-    ++ number_body 4 retries ++ number_body 8 period ++ number_body 8 moment
+    1 ∷ sent_body number header payloads route retries period moment
 
 abbrev pub delivered_body : UserHeader → List Payload → List ℕ
 delivered_body header payloads = 4 ∷ header_body header ++ list_body payload_body payloads
+
+abbrev pub kept_body : UserHeader → List ℕ
+kept_body header = 9 ∷ header_body header
 
 -- these bytes aren't too many for an effect
 unfoldable pub fits_an_effect : List ℕ → Bool

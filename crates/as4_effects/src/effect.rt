@@ -1,6 +1,8 @@
 ghost use Rattle.std.specs.Prelude.{◌≤◌};
 
+use crate::carried::Carried;
 use crate::delivery::Delivery;
+use crate::kept::Kept;
 use crate::submission::Submission;
 use as4_values::{Code, NoMemory, PlainData};
 use std::alloc::Global;
@@ -30,6 +32,10 @@ pub enum Effect {
     Refused { number: u64, code: Code },
     /// The messages that came up to this one, counted from 0, were taken over.
     Confirmed { upto: u64 },
+    /// An end was written again: this is a submission as it stood. No event makes it.
+    Carried(Carried),
+    /// An end was written again: this is the header of a message that came and was taken over. No event makes it.
+    Kept(Kept),
 }
 
 impl PlainData for Tick {
@@ -57,6 +63,8 @@ impl PlainData for Effect {
                 code: code.try_clone(alloc)?,
             }),
             Effect::Confirmed { upto } => Ok(Effect::Confirmed { upto: *upto }),
+            Effect::Carried(carried) => Ok(Effect::Carried(carried.try_clone(alloc)?)),
+            Effect::Kept(kept) => Ok(Effect::Kept(kept.try_clone(alloc)?)),
         }
     }
 
@@ -75,6 +83,8 @@ impl PlainData for Effect {
                 },
             ) => number == other_number && code.same(other_code),
             (Effect::Confirmed { upto }, Effect::Confirmed { upto: other }) => upto == other,
+            (Effect::Carried(carried), Effect::Carried(other)) => carried.same(other),
+            (Effect::Kept(kept), Effect::Kept(other)) => kept.same(other),
             _ => false,
         }
     }

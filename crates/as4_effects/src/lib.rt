@@ -1,8 +1,11 @@
 //! Effects: what an event changes at one end of an exchange of messages, and the bytes that a record of it has.
 #![tactic(auto)]
 
+mod carried;
 mod delivery;
 mod effect;
+mod kept;
+mod mark;
 mod measured;
 mod media;
 mod named;
@@ -11,11 +14,14 @@ mod queue;
 mod sound;
 mod submission;
 
+pub use carried::Carried;
 pub use delivery::Delivery;
 pub use effect::{Effect, Tick};
+pub use kept::Kept;
+pub use mark::Mark;
 pub use measured::Measured;
 pub use media::is_media_text;
 pub use pairing::pairs;
 pub use queue::Queue;
-pub use sound::{delivery_fits, is_id_of, is_route, submission_fits};
+pub use sound::{delivery_fits, header_fits, is_id_of, is_route, submission_fits};
 pub use submission::Submission;

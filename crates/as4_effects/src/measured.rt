@@ -1,13 +1,18 @@
 //! How many bytes values have in the body of an effect.
 #![tactic(auto, using(crate::proofs::LengthLemmas::grown_append), unfolding(crate::specs::Bodies::party_body, crate::specs::Bodies::side_body, crate::specs::Bodies::agreement_body, crate::specs::Bodies::service_body, crate::specs::Bodies::property_body, crate::specs::Bodies::part_body, crate::specs::Bodies::header_body, crate::specs::Bodies::payload_body, crate::specs::Bodies::route_body))]
 
-ghost use Rattle.std.specs.Prelude.{◌≡◌, ℕ, List};
+ghost use Rattle.std.specs.Prelude.{◌≡◌, ℕ, List, ◌∷◌};
 ghost use Rattle.as4_effects.specs.Bodies.{text_body, option_body, list_body, party_body, side_body, agreement_body, service_body, property_body, part_body, header_body, payload_body, route_body};
-ghost use Rattle.as4_effects.specs.Effects.{submission_body, delivery_body, effect_body};
+ghost use Rattle.as4_effects.specs.Effects.{submission_body, delivery_body, standing_body, effect_body};
 ghost use Rattle.as4_effects.specs.Lengths.{grown};
+ghost use Rattle.as4_effects.specs.Marks.{mark_body};
+ghost use Rattle.as4_effects.specs.Sound.{kept_body};
 
+use crate::carried::Carried;
 use crate::delivery::Delivery;
 use crate::effect::Effect;
+use crate::kept::Kept;
+use crate::mark::Mark;
 use crate::submission::Submission;
 use as4_values::{
     Agreement, Code, MessageId, Octets, PartInfo, Party, Payload, Property, Route, Seq, Service,
@@ -221,6 +226,38 @@ impl Measured for Delivery {
     }
 }
 
+impl Measured for Mark {
+    ghost body = { mark_body };
+
+    #[tactic(auto, using(crate::proofs::LengthLemmas::grown_cons, crate::proofs::LengthLemmas::grown_none), unfolding(crate::specs::Marks::mark_body))]
+    fn add_len(&self, sum: u64) -> u64 {
+        let sum = sum.saturating_add(1);
+        match self {
+            Mark::Refused { code } => code.add_len(sum),
+            _ => sum,
+        }
+    }
+}
+
+impl Measured for Carried {
+    ghost body = { λ carried. 8 ∷ standing_body carried };
+
+    #[tactic(auto, using(crate::proofs::LengthLemmas::grown_append, crate::proofs::LengthLemmas::grown_cons, crate::proofs::LengthLemmas::grown_number))]
+    fn add_len(&self, sum: u64) -> u64 {
+        let sum = self.submission.add_len(sum).saturating_add(12);
+        self.standing.add_len(sum)
+    }
+}
+
+impl Measured for Kept {
+    ghost body = { λ kept. kept_body kept.header };
+
+    #[tactic(auto, using(crate::proofs::LengthLemmas::grown_cons))]
+    fn add_len(&self, sum: u64) -> u64 {
+        self.header.add_len(sum.saturating_add(1))
+    }
+}
+
 impl Measured for Effect {
     ghost body = { effect_body };
 
@@ -230,6 +267,8 @@ impl Measured for Effect {
             Effect::Submitted(submission) => submission.add_len(sum),
             Effect::Delivered(delivery) => delivery.add_len(sum),
             Effect::Refused { code, .. } => code.add_len(sum.saturating_add(9)),
+            Effect::Carried(carried) => carried.add_len(sum),
+            Effect::Kept(kept) => kept.add_len(sum),
             _ => sum.saturating_add(9),
         }
     }

@@ -1,13 +1,13 @@
 //! The facts that a submission and a delivery keep, as tests for whoever makes one.
 
 ghost use Rattle.std.specs.Prelude.{◌≡◌, ℕ, ◌≤◌, ◌^◌, IfOk, IfSome, IsNone};
-ghost use Rattle.as4_effects.specs.Sound.{digit_of, number_in, is_id_of, is_route, submitted_body, delivered_body, fits_an_effect};
+ghost use Rattle.as4_effects.specs.Sound.{digit_of, number_in, is_id_of, is_route, submitted_body, delivered_body, kept_body, fits_an_effect};
 
 use crate::measured::Measured;
 use as4_values::{MessageId, NoMemory, Payload, Route, Seq, UserHeader, is_address};
 use std::alloc::Global;
 
-/// How many bytes an effect has at most: two less than the body of one alone, which begins with their count.
+/// How many bytes an effect of an event has at most: two less than the body of one alone, which begins with their count.
 const MAX_EFFECT: u64 = 536_870_910;
 
 /// How many bytes the identifier of a submission has behind its number.
@@ -86,4 +86,12 @@ pub fn delivery_fits(header: &UserHeader, payloads: &Seq<Payload>) -> bool
     ensures { result ≡ fits_an_effect (delivered_body header.now payloads.now) }
 {
     payloads.add_len(header.add_len(1)) <= MAX_EFFECT
+}
+
+/// Whether what is kept of a message of this header fits an effect.
+#[tactic(auto, using(crate::proofs::LengthLemmas::grown_cons, crate::proofs::LengthLemmas::fits_by_length))]
+pub fn header_fits(header: &UserHeader) -> bool
+    ensures { result ≡ fits_an_effect (kept_body header.now) }
+{
+    header.add_len(1) <= MAX_EFFECT
 }

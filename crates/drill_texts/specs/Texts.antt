@@ -16,7 +16,7 @@ use Rattle.end_tables.specs.Totals.{is_receipted_mark, is_failed_mark, is_refuse
 use Rattle.exchange_model.specs.End.{End}
 use Rattle.exchange_model.specs.declared.reply.Reply.{Reply}
 use Rattle.exchange_model.specs.declared.reply.Reply.TheVariants as reply
-use Rattle.exchange_model.specs.declared.sent.Mark.{Mark}
+use Rattle.as4_effects.specs.declared.mark.Mark.{Mark}
 use Rattle.exchange_model.specs.declared.sent.Sent.{Sent}
 
 -- a line that says something of an end

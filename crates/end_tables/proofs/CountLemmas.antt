@@ -4,8 +4,8 @@ use Rattle.std.specs.List.{slice_get}
 use Rattle.exchange_model.specs.Apply.{is_one}
 use Rattle.exchange_model.specs.Numbered.{AreNumberedFrom}
 use Rattle.exchange_model.specs.Questions.{sent_at, standing_of}
-use Rattle.exchange_model.specs.declared.sent.Mark.{Mark}
-use Rattle.exchange_model.specs.declared.sent.Mark.TheVariants as mark
+use Rattle.as4_effects.specs.declared.mark.Mark.{Mark}
+use Rattle.as4_effects.specs.declared.mark.Mark.TheVariants as mark
 use Rattle.exchange_model.specs.declared.sent.Sent.{Sent}
 use Rattle.exchange_model.proofs.NumberedLemmas.{place}
 use Rattle.end_tables.specs.Totals.{AreCounted, counted, is_failed_mark, is_receipted_mark, is_refused_mark}

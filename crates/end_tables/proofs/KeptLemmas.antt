@@ -7,8 +7,8 @@ use Rattle.as4_effects.specs.declared.submission.Submission.{Submission}
 use Rattle.exchange_model.specs.Apply.{after, changed, failed_if_spent, marked, tried}
 use Rattle.exchange_model.specs.End.{End}
 use Rattle.exchange_model.specs.Questions.{is_spent, queue_of, sent_at}
-use Rattle.exchange_model.specs.declared.sent.Mark.{Mark}
-use Rattle.exchange_model.specs.declared.sent.Mark.TheVariants as mark
+use Rattle.as4_effects.specs.declared.mark.Mark.{Mark}
+use Rattle.as4_effects.specs.declared.mark.Mark.TheVariants as mark
 use Rattle.exchange_model.specs.declared.sent.Sent.{Sent}
 use Rattle.end_tables.specs.Rooms.{TakesNoRoom, queue_at, queue_for, queue_of_sent}
 

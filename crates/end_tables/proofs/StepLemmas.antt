@@ -16,7 +16,7 @@ use Rattle.end_tables.proofs.WaitingLemmas.{changed_with, failed_waits, submitte
 use Rattle.exchange_model.specs.Apply.{changed, failed_if_spent, is_one, marked, tried, unsent}
 use Rattle.exchange_model.specs.Numbered.{AreNumberedFrom}
 use Rattle.exchange_model.specs.Questions.{due, is_pending, is_pending_mark, is_waiting, queue_of, sent_at}
-use Rattle.exchange_model.specs.declared.sent.Mark.{Mark}
+use Rattle.as4_effects.specs.declared.mark.Mark.{Mark}
 use Rattle.exchange_model.specs.declared.sent.Sent.{Sent}
 use Rattle.exchange_model.proofs.FoundLemmas.{sent_at_has}
 

@@ -9,7 +9,7 @@ use Rattle.channels.specs.declared.waiting.Waiting.{Waiting}
 use Rattle.exchange_model.specs.Apply.{changed, failed_if_spent, marked, unsent}
 use Rattle.exchange_model.specs.Numbered.{AreNumberedFrom}
 use Rattle.exchange_model.specs.Questions.{is_spent, is_waiting, sent_at}
-use Rattle.exchange_model.specs.declared.sent.Mark.TheVariants as mark
+use Rattle.as4_effects.specs.declared.mark.Mark.TheVariants as mark
 use Rattle.exchange_model.specs.declared.sent.Sent.{Sent}
 use Rattle.exchange_model.proofs.FoundLemmas.{sent_at_has}
 use Rattle.exchange_model.proofs.NumberedLemmas.{changed_before, number_least}

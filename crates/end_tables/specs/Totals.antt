@@ -1,8 +1,8 @@
 -- How many submissions stand in which way, and how many messages came.
 use Rattle.std.specs.Prelude.{◌≡◌, ◌+◌, List, Bool, true, false, count_by, length, Option, Some}
 use Rattle.exchange_model.specs.End.{End}
-use Rattle.exchange_model.specs.declared.sent.Mark.{Mark}
-use Rattle.exchange_model.specs.declared.sent.Mark.TheVariants as mark
+use Rattle.as4_effects.specs.declared.mark.Mark.{Mark}
+use Rattle.as4_effects.specs.declared.mark.Mark.TheVariants as mark
 use Rattle.exchange_model.specs.declared.sent.Sent.{Sent}
 use Rattle.exchange_model.specs.declared.sent.Standing.{Standing}
 use Rattle.exchange_model.specs.declared.sent.Standing.TheVariants as standing

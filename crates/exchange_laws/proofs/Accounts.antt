@@ -14,21 +14,22 @@ use Rattle.as4_values.specs.declared.message.Message.TheVariants as message
 use Rattle.as4_values.specs.declared.message.Pair.{Pair}
 use Rattle.as4_values.specs.declared.mode.Mode.{Mode}
 use Rattle.as4_values.specs.declared.payload.Payload.{Payload}
-use Rattle.exchange_model.specs.Alone.{MayHappenTo, end_after, is_submitted, written}
+use Rattle.exchange_model.specs.Alone.{MayHappenTo, end_after, is_submitted, size_after, written}
 use Rattle.exchange_model.specs.Apply.{after, applied, emptied, unsent}
 use Rattle.exchange_model.specs.Causes.{HandsIn, TakesOver}
 use Rattle.exchange_model.specs.End.{End, empty_end}
+use Rattle.exchange_model.specs.Fold.{resized}
 use Rattle.exchange_model.specs.HandingOut.{times_handed_out}
 use Rattle.exchange_model.specs.LosslessRound.{IsFull}
 use Rattle.exchange_model.specs.Numbered.{AreNumberedFrom}
 use Rattle.exchange_model.specs.Table.{Ticks, Step, names_channel}
-use Rattle.exchange_model.specs.World.{Act, sends}
+use Rattle.exchange_model.specs.World.{Act, Happening, Does, Folds, acts_of, sends}
 use Rattle.exchange_model.specs.declared.event.Event.{Event}
 use Rattle.exchange_model.specs.declared.inbox_entry.InboxEntry.{InboxEntry}
 use Rattle.exchange_model.specs.declared.outcome.Outcome.{Outcome}
 use Rattle.exchange_model.specs.declared.reply.Reply.{Reply}
 use Rattle.exchange_model.specs.declared.reply.Reply.TheVariants as reply
-use Rattle.exchange_model.specs.declared.sent.Mark.TheVariants as mark
+use Rattle.as4_effects.specs.declared.mark.Mark.TheVariants as mark
 use Rattle.exchange_model.specs.declared.sent.Sent.{Sent}
 use Rattle.exchange_model.specs.declared.what.What.{What}
 use Rattle.exchange_model.specs.declared.what.What.TheVariants as what
@@ -41,7 +42,7 @@ use Rattle.exchange_laws.proofs.SettleLemmas.{receipted_applied, step_named}
 use Rattle.exchange_laws.proofs.EndSteps.{EndGoes, by_bool}
 use Rattle.exchange_laws.proofs.RoundLemmas.{row_at}
 use Rattle.exchange_laws.proofs.StepLemmas.{step_goes}
-use Rattle.exchange_laws.proofs.OutcomeKinds.{IsPlain, IsPlainReply, Submitting, Setting, Confirming, Kind, step_kind}
+use Rattle.exchange_laws.proofs.OutcomeKinds.{IsPlain, IsPlainReply, AreMade, Submitting, Setting, Confirming, Kind, kind_made, step_kind}
 use Rattle.exchange_laws.proofs.EffectLemmas.{NoneSpent, longer, none_applied, plain_applied, size_applied}
 use Rattle.exchange_laws.proofs.TriesSteps.{has_message, one_if, quiet_none}
 use Rattle.exchange_laws.proofs.TimesLemmas.{IsOwn, never, number_below, times_push}
@@ -86,7 +87,6 @@ pub record AreAccounted (done : List Act) (end : End) : Type 0 where
   pub taken : AreTaken done end
   pub apart : Apart (ids end.inbox)
   pub clock : (act : Act) → Has done act → act.event.what ≡ what.Tick → (IsFull act.outcome.reply → ⊥) → act.event.stamp ≤ end.moment
-  pub size : end.size ≡ 9 + sum_by (λ (act : Act). written act.outcome.effects) done
 
 -- an act that was done is still done
 still : (done : List Act) (act : Act) (P : Act → Type 0) → SomeAct done P → SomeAct (done ++ act ∷ []) P
@@ -134,9 +134,9 @@ counted_act done act end new counted goes = record {
         omega (arith, new.0)
 
 settled_act : (done : List Act) (act : Act) (end : End) → AreNumberedFrom 0 end.sent → AreSettled done end
-    → Step act.modes end act.event act.outcome → EndGoes act.event.what act.outcome.reply end (applied act.outcome.effects end)
+    → Step act.modes end act.event act.outcome → AreMade act.outcome.effects → EndGoes act.event.what act.outcome.reply end (applied act.outcome.effects end)
     → AreSettled (done ++ act ∷ []) (applied act.outcome.effects end)
-settled_act done act end numbered settled step goes = record {
+settled_act done act end numbered settled step made goes = record {
   receipted = λ t h m. elim (receipted_by act.event.what end.sent new.sent t goes.sent h m) [
     | inl s ↦ still done act (IsSettledBy t.submission) (subst (λ (u : Submission). SomeAct done (IsSettledBy u)) s.3 (settled.receipted s.0 s.1 s.2))
     | inr r ↦ brought t h m r
@@ -146,7 +146,7 @@ settled_act done act end numbered settled step goes = record {
         (subst (λ (u : Submission). SomeAct done (λ a. Fails a.event.what u code)) s.3 (settled.refused s.0 code s.1 s.2))
     | inr f ↦ (act, now_done done act, f)
   ];
-  spent = none_applied act.outcome.effects end settled.spent;
+  spent = none_applied act.outcome.effects end made settled.spent;
 }
   where
     new : End
@@ -154,7 +154,7 @@ settled_act done act end numbered settled step goes = record {
 
     brought : (t : Sent) → Has (applied act.outcome.effects end).sent t → t.mark ≡ mark.Receipted
         → Receipts act.event.what t.submission → SomeAct (done ++ act ∷ []) (IsSettledBy t.submission)
-    brought t there m r = elim (receipted_applied act.outcome.effects end t there m) [
+    brought t there m r = elim (receipted_applied act.outcome.effects end t made there m) [
       | inl s ↦ still done act (IsSettledBy t.submission)
           (subst (λ (u : Submission). SomeAct done (IsSettledBy u)) s.same (settled.receipted s.one s.there s.mark))
       | inr has ↦ (
@@ -408,14 +408,12 @@ accounted_act : (done : List Act) (act : Act) (end : End) → AreAccounted done 
     → AreAccounted (done ++ act ∷ []) (applied act.outcome.effects end)
 accounted_act done act end all step = record {
   counted = counted_act done act end new all.counted goes;
-  settled = settled_act done act end all.counted.numbered all.settled step goes;
+  settled = settled_act done act end all.counted.numbered all.settled step (kind_made act.modes end act.event act.event.what act.outcome kind) goes;
   taken = taken_act done act end all.counted.numbered all.taken goes kind;
   apart = goes.inbox.apart all.apart;
   clock = each_done done act (λ (a : Act). a.event.what ≡ what.Tick → (IsFull a.outcome.reply → ⊥) → a.event.stamp ≤ new.moment)
       (λ a h ticks roomy. omega (arith, all.clock a h ticks roomy, no_earlier act.modes end act.event act.event.what act.outcome kind))
       (shows act.modes end act.event act.outcome step);
-  size = size_applied act.outcome.effects end ∙ ap (λ n. n + written act.outcome.effects) all.size
-      ∙ sym (ap (λ n. 9 + n) (sum_by_push (λ (a : Act). written a.outcome.effects) done act) ∙ omega arith);
 }
   where
     new : End
@@ -427,14 +425,44 @@ accounted_act done act end all step = record {
     kind : Kind act.modes end act.event act.event.what act.outcome
     kind = step_kind act.modes end act.event act.outcome step
 
+-- where the journal is folded, nothing else changes
+accounted_fold : (done : List Act) (size : ℕ) (end : End) → AreAccounted done end → AreAccounted done (resized size end)
+accounted_fold done size end all = record {
+  counted = record {
+    numbered = all.counted.numbered;
+    kept = all.counted.kept;
+    own = all.counted.own;
+    tries = all.counted.tries;
+  };
+  settled = record { receipted = all.settled.receipted; refused = all.settled.refused; spent = all.settled.spent };
+  taken = record {
+    handed_in = all.taken.handed_in;
+    taken_in = all.taken.taken_in;
+    counted = all.taken.counted;
+    came = all.taken.came;
+    taken_over = all.taken.taken_over;
+  };
+  apart = all.apart;
+  clock = all.clock;
+}
+
 -- after all of them
-accounted_all : (done acts : List Act) (end : End) → AreAccounted done end → MayHappenTo acts end
-    → AreAccounted (done ++ acts) (end_after acts end)
+pub accounted_all : (done : List Act) (later : List Happening) (end : End) → AreAccounted done end → MayHappenTo later end
+    → AreAccounted (done ++ acts_of later) (end_after later end)
 accounted_all done [] end all may = subst (λ (list : List Act). AreAccounted list end) (sym (append-nil done)) all
-accounted_all done (act ∷ acts) end all may =
+accounted_all done (Does act ∷ later) end all may =
     let new : End = applied act.outcome.effects end in
-    subst (λ (list : List Act). AreAccounted list (end_after acts new)) (append_assoc done (act ∷ []) acts)
-    (accounted_all (done ++ act ∷ []) acts new (accounted_act done act end all may.0) may.1)
+    subst (λ (list : List Act). AreAccounted list (end_after later new)) (append_assoc done (act ∷ []) (acts_of later))
+    (accounted_all (done ++ act ∷ []) later new (accounted_act done act end all may.0) may.1)
+accounted_all done (Folds side size ∷ later) end all may =
+    accounted_all done later (resized size end) (accounted_fold done size end all) may.1
+
+-- the journal has what was written
+pub sized : (all : List Happening) (end : End) → (end_after all end).size ≡ size_after all end.size
+sized [] end = refl
+sized (Does act ∷ later) end =
+    sized later (applied act.outcome.effects end) ∙ ap (size_after later) (size_applied act.outcome.effects end)
+sized (Folds side size ∷ later) end = sized later (resized size end)
 
 none_yet : AreAccounted [] empty_end
 none_yet = record {
@@ -449,8 +477,7 @@ none_yet = record {
   };
   apart = tt;
   clock = λ act h. absurd h;
-  size = refl;
 }
 
-pub accounted : (acts : List Act) → MayHappenTo acts empty_end → AreAccounted acts (end_after acts empty_end)
-accounted acts may = accounted_all [] acts empty_end none_yet may
+pub accounted : (all : List Happening) → MayHappenTo all empty_end → AreAccounted (acts_of all) (end_after all empty_end)
+accounted all may = accounted_all [] all empty_end none_yet may

@@ -12,12 +12,12 @@ use Rattle.exchange_model.specs.Alone.{written}
 use Rattle.exchange_model.specs.Apply.{unsent, tried, marked, failed_if_spent, changed, after, after_all, applied}
 use Rattle.exchange_model.specs.End.{End}
 use Rattle.exchange_model.specs.Questions.{is_pending, is_spent}
-use Rattle.exchange_model.specs.declared.sent.Mark.{Mark}
-use Rattle.exchange_model.specs.declared.sent.Mark.TheVariants as mark
+use Rattle.as4_effects.specs.declared.mark.Mark.{Mark}
+use Rattle.as4_effects.specs.declared.mark.Mark.TheVariants as mark
 use Rattle.exchange_model.specs.declared.sent.Sent.{Sent}
 use Rattle.exchange_model.proofs.ListLemmas.{Has}
 use Rattle.exchange_laws.proofs.ListLemmas.{has_mapped, has_either}
-use Rattle.exchange_laws.proofs.OutcomeKinds.{IsPlainEffect, ArePlain}
+use Rattle.exchange_laws.proofs.OutcomeKinds.{IsPlainEffect, ArePlain, IsMade, AreMade}
 
 -- the record of the effects makes the journal longer, and no more
 pub record IsLonger (new end : End) (bytes : ℕ) : Type 0 where
@@ -41,6 +41,8 @@ size_one (effect.Delivered delivery) end = refl
 size_one (effect.Receipted number) end = refl
 size_one (effect.Refused number code) end = refl
 size_one (effect.Confirmed upto) end = refl
+size_one (effect.Carried carried) end = refl
+size_one (effect.Kept kept) end = refl
 
 size_all : (effects : List Effect) (end : End) → (after_all effects end).size ≡ end.size
 size_all [] end = refl
@@ -65,6 +67,8 @@ plain_one (effect.Delivered delivery) end plain = record { count = refl; confirm
 plain_one (effect.Receipted number) end plain = record { count = length-map end.sent _; confirmed = refl; moment = refl }
 plain_one (effect.Refused number code) end plain = record { count = length-map end.sent _; confirmed = refl; moment = refl }
 plain_one (effect.Confirmed upto) end plain = absurd plain
+plain_one (effect.Carried carried) end plain = absurd plain
+plain_one (effect.Kept kept) end plain = absurd plain
 
 plain_all : (effects : List Effect) (end : End) → ArePlain effects → StaysPlain end (after_all effects end)
 plain_all [] end plain = record { count = refl; confirmed = refl; moment = refl }
@@ -122,30 +126,32 @@ changed_none moment number sent change none each =
     by_test s h true = each s
     by_test s h false = none s h
 
-none_one : (e : Effect) (end : End) → NoneSpent end → NoneSpent (after e end)
+pub none_one : (e : Effect) (end : End) → IsMade e → NoneSpent end → NoneSpent (after e end)
 unfolding after
-none_one (effect.Submitted submission) end none = pushed
+none_one (effect.Submitted submission) end made none = pushed
   where
     pushed : (t : Sent) → Has (end.sent ++ unsent submission ∷ []) t → is_spent end.moment t ≡ false
     pushed t h = elim (has_either end.sent (unsent submission ∷ []) t h) [
       | inl old ↦ none t old
       | inr new ↦ unsent_one end.moment submission t new
     ]
-none_one (effect.Ticked tick) end none = mapped_none tick.moment end.sent (failed_if_spent tick.moment) (λ s h. failed_one tick.moment s)
-none_one (effect.Tried number) end none = changed_none end.moment number end.sent (tried end.moment) none (tried_one end.moment)
-none_one (effect.Delivered delivery) end none = none
-none_one (effect.Receipted number) end none =
+none_one (effect.Ticked tick) end made none = mapped_none tick.moment end.sent (failed_if_spent tick.moment) (λ s h. failed_one tick.moment s)
+none_one (effect.Tried number) end made none = changed_none end.moment number end.sent (tried end.moment) none (tried_one end.moment)
+none_one (effect.Delivered delivery) end made none = none
+none_one (effect.Receipted number) end made none =
     changed_none end.moment number end.sent (marked mark.Receipted) none (λ s. settled_one end.moment (marked mark.Receipted s) refl)
-none_one (effect.Refused number code) end none =
+none_one (effect.Refused number code) end made none =
     changed_none end.moment number end.sent (marked (mark.Refused code)) none (λ s. settled_one end.moment (marked (mark.Refused code) s) refl)
-none_one (effect.Confirmed upto) end none = none
+none_one (effect.Confirmed upto) end made none = none
+none_one (effect.Carried carried) end made none = absurd made
+none_one (effect.Kept kept) end made none = absurd made
 
-none_all : (effects : List Effect) (end : End) → NoneSpent end → NoneSpent (after_all effects end)
-none_all [] end none = none
-none_all (e ∷ effects) end none = none_all effects (after e end) (none_one e end none)
+none_all : (effects : List Effect) (end : End) → AreMade effects → NoneSpent end → NoneSpent (after_all effects end)
+none_all [] end made none = none
+none_all (e ∷ effects) end made none = none_all effects (after e end) made.1 (none_one e end made.0 none)
 
 -- so none ever is
-pub none_applied : (effects : List Effect) (end : End) → NoneSpent end → NoneSpent (applied effects end)
+pub none_applied : (effects : List Effect) (end : End) → AreMade effects → NoneSpent end → NoneSpent (applied effects end)
 unfolding applied
-none_applied [] end none = none
-none_applied (e ∷ effects) end none = none_all (e ∷ effects) end none
+none_applied [] end made none = none
+none_applied (e ∷ effects) end made none = none_all (e ∷ effects) end made none

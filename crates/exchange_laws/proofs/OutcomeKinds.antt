@@ -32,8 +32,8 @@ use Rattle.exchange_model.specs.declared.inbox_entry.InboxEntry.{InboxEntry}
 use Rattle.exchange_model.specs.declared.outcome.Outcome.{Outcome}
 use Rattle.exchange_model.specs.declared.reply.Reply.{Reply}
 use Rattle.exchange_model.specs.declared.reply.Reply.TheVariants as reply
-use Rattle.exchange_model.specs.declared.sent.Mark.{Mark}
-use Rattle.exchange_model.specs.declared.sent.Mark.TheVariants as mark
+use Rattle.as4_effects.specs.declared.mark.Mark.{Mark}
+use Rattle.as4_effects.specs.declared.mark.Mark.TheVariants as mark
 use Rattle.exchange_model.specs.declared.sent.Sent.{Sent}
 use Rattle.exchange_model.specs.declared.what.What.{What}
 use Rattle.exchange_model.specs.declared.what.What.TheVariants as what
@@ -45,6 +45,8 @@ abbrev pub IsPlainEffect : Effect → Type 0
 IsPlainEffect (effect.Submitted submission) = ⊥
 IsPlainEffect (effect.Ticked tick) = ⊥
 IsPlainEffect (effect.Confirmed upto) = ⊥
+IsPlainEffect (effect.Carried carried) = ⊥
+IsPlainEffect (effect.Kept kept) = ⊥
 IsPlainEffect e = Unit {0}
 
 abbrev pub ArePlain : List Effect → Type 0
@@ -100,6 +102,37 @@ pub record Confirming (end : End) (w : What) (outcome : Outcome) : Type 0 where
 abbrev pub Kind : List Mode → End → Event → What → Outcome → Type 0
 Kind modes end event w outcome =
     IsPlain outcome ⊎ (Submitting modes end w outcome ⊎ (Setting end event outcome ⊎ Confirming end w outcome))
+
+-- no event carries a submission over or keeps a header
+abbrev pub IsMade : Effect → Type 0
+IsMade (effect.Carried carried) = ⊥
+IsMade (effect.Kept kept) = ⊥
+IsMade e = Unit {0}
+
+abbrev pub AreMade : List Effect → Type 0
+AreMade [] = Unit {0}
+AreMade (e ∷ effects) = IsMade e × AreMade effects
+
+plain_made : (effects : List Effect) → ArePlain effects → AreMade effects
+plain_made [] plain = tt
+plain_made (e ∷ effects) plain = (one e plain.0, plain_made effects plain.1)
+  where
+    one : (e : Effect) → IsPlainEffect e → IsMade e
+    one (effect.Submitted submission) plain = absurd plain
+    one (effect.Ticked tick) plain = absurd plain
+    one (effect.Tried number) plain = tt
+    one (effect.Delivered delivery) plain = tt
+    one (effect.Receipted number) plain = tt
+    one (effect.Refused number code) plain = tt
+    one (effect.Confirmed upto) plain = absurd plain
+    one (effect.Carried carried) plain = absurd plain
+    one (effect.Kept kept) plain = absurd plain
+
+pub kind_made : (modes : List Mode) (end : End) (event : Event) (w : What) (outcome : Outcome) → Kind modes end event w outcome → AreMade outcome.effects
+kind_made modes end event w outcome (inl plain) = plain_made outcome.effects plain.effects
+kind_made modes end event w outcome (inr (inl submits)) = subst (λ (o : Outcome). AreMade o.effects) (sym submits.is) (tt, tt)
+kind_made modes end event w outcome (inr (inr (inl sets))) = subst (λ (o : Outcome). AreMade o.effects) (sym sets.is) (tt, tt)
+kind_made modes end event w outcome (inr (inr (inr confirms))) = subst (λ (o : Outcome). AreMade o.effects) (sym confirms.is) (tt, tt)
 
 plain_of : (effects : List Effect) (r : Reply) (outcome : Outcome) → ArePlain effects → IsPlainReply r
     → outcome ≡ record { effects = effects; reply = r } → IsPlain outcome

@@ -16,7 +16,7 @@ use Rattle.exchange_model.specs.Questions.{is_known, sent_of}
 use Rattle.exchange_model.specs.Table.{IsOther, message_of}
 use Rattle.exchange_model.specs.World.{Act, Party, World, Side, Left, Right, sends, MayAct, MayHappenAt, acted, across, party_at, world_at}
 use Rattle.exchange_model.specs.declared.inbox_entry.InboxEntry.{InboxEntry}
-use Rattle.exchange_model.specs.declared.sent.Mark.TheVariants as mark
+use Rattle.as4_effects.specs.declared.mark.Mark.TheVariants as mark
 use Rattle.exchange_model.specs.declared.sent.Sent.{Sent}
 use Rattle.exchange_model.specs.declared.what.What.{What}
 use Rattle.exchange_model.proofs.ListLemmas.{Has}

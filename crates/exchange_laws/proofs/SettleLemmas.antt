@@ -18,8 +18,8 @@ use Rattle.exchange_model.specs.Questions.{is_spent}
 use Rattle.exchange_model.specs.Table.{PairComes, RowOf, Step, has_room, names_channel}
 use Rattle.exchange_model.specs.declared.event.Event.{Event}
 use Rattle.exchange_model.specs.declared.outcome.Outcome.{Outcome}
-use Rattle.exchange_model.specs.declared.sent.Mark.{Mark}
-use Rattle.exchange_model.specs.declared.sent.Mark.TheVariants as mark
+use Rattle.as4_effects.specs.declared.mark.Mark.{Mark}
+use Rattle.as4_effects.specs.declared.mark.Mark.TheVariants as mark
 use Rattle.exchange_model.specs.declared.sent.Sent.{Sent}
 use Rattle.exchange_model.specs.declared.what.What.{What}
 use Rattle.exchange_model.specs.declared.what.What.TheVariants.{Came}
@@ -27,6 +27,7 @@ use Rattle.exchange_model.proofs.ListLemmas.{Has}
 use Rattle.exchange_laws.proofs.EffectLemmas.{longer}
 use Rattle.exchange_laws.proofs.EndSteps.{by_bool}
 use Rattle.exchange_laws.proofs.ListLemmas.{has_mapped, has_either}
+use Rattle.exchange_laws.proofs.OutcomeKinds.{IsMade, AreMade}
 use Rattle.exchange_laws.proofs.PairRows.{pair_cases}
 use Rattle.exchange_laws.proofs.SentChanges.{same_number}
 
@@ -78,10 +79,10 @@ other_mark sent change test t other h m =
     by_change s there (inr e) = itself sent t (subst (Has sent) e there) m
 
 -- behind one effect
-receipted_one : (e : Effect) (end : End) (t : Sent) → Has (after e end).sent t → t.mark ≡ mark.Receipted
+receipted_one : (e : Effect) (end : End) (t : Sent) → IsMade e → Has (after e end).sent t → t.mark ≡ mark.Receipted
     → StoodReceipted end.sent t ⊎ (e ≡ effect.Receipted t.submission.number)
 unfolding after changed
-receipted_one (effect.Submitted submission) end t h m = elim (has_either end.sent (unsent submission ∷ []) t h) [
+receipted_one (effect.Submitted submission) end t made h m = elim (has_either end.sent (unsent submission ∷ []) t h) [
   | inl old ↦ inl (itself end.sent t old m)
   | inr new ↦ absurd (fresh new)
 ]
@@ -89,12 +90,12 @@ receipted_one (effect.Submitted submission) end t h m = elim (has_either end.sen
     fresh : Has (unsent submission ∷ []) t → ⊥
     fresh (inl e) = let no_one : mark.Pending ≡ mark.Receipted = ap (λ (u : Sent). u.mark) e ∙ m in cc
     fresh (inr none) = none
-receipted_one (effect.Ticked tick) end t h m =
+receipted_one (effect.Ticked tick) end t made h m =
     inl (other_mark end.sent (marked mark.Failed) (is_spent tick.moment) t (λ s e. cc) h m)
-receipted_one (effect.Tried number) end t h m =
+receipted_one (effect.Tried number) end t made h m =
     inl (kept_mark end.sent (tried end.moment) (λ (s : Sent). s.submission.number == number) t (λ s. refl) (λ s. refl) h m)
-receipted_one (effect.Delivered delivery) end t h m = inl (itself end.sent t h m)
-receipted_one (effect.Receipted number) end t h m =
+receipted_one (effect.Delivered delivery) end t made h m = inl (itself end.sent t h m)
+receipted_one (effect.Receipted number) end t made h m =
     let o = mapped end.sent (marked mark.Receipted) (λ (s : Sent). s.submission.number == number) t h in by_change o.0 o.1 o.2
   where
     by_change : (s : Sent) → Has end.sent s
@@ -103,29 +104,31 @@ receipted_one (effect.Receipted number) end t h m =
     by_change s there (inl c) =
         inr (ap effect.Receipted (sym (same_number s.submission.number number c.0) ∙ ap (λ (u : Sent). u.submission.number) c.1))
     by_change s there (inr e) = inl (itself end.sent t (subst (Has end.sent) e there) m)
-receipted_one (effect.Refused number code) end t h m =
+receipted_one (effect.Refused number code) end t made h m =
     inl (other_mark end.sent (marked (mark.Refused code)) (λ (s : Sent). s.submission.number == number) t (λ s e. cc) h m)
-receipted_one (effect.Confirmed upto) end t h m = inl (itself end.sent t h m)
+receipted_one (effect.Confirmed upto) end t made h m = inl (itself end.sent t h m)
+receipted_one (effect.Carried carried) end t made h m = absurd made
+receipted_one (effect.Kept kept) end t made h m = absurd made
 
 -- behind all of them
-receipted_all : (effects : List Effect) (end : End) (t : Sent) → Has (after_all effects end).sent t → t.mark ≡ mark.Receipted
+receipted_all : (effects : List Effect) (end : End) (t : Sent) → AreMade effects → Has (after_all effects end).sent t → t.mark ≡ mark.Receipted
     → StoodReceipted end.sent t ⊎ Has effects (effect.Receipted t.submission.number)
-receipted_all [] end t h m = inl (itself end.sent t h m)
-receipted_all (e ∷ effects) end t h m = elim (receipted_all effects (after e end) t h m) [
+receipted_all [] end t made h m = inl (itself end.sent t h m)
+receipted_all (e ∷ effects) end t made h m = elim (receipted_all effects (after e end) t made.1 h m) [
   | inl stood ↦ first stood
   | inr later ↦ inr (inr later)
 ]
   where
     first : StoodReceipted (after e end).sent t → StoodReceipted end.sent t ⊎ Has (e ∷ effects) (effect.Receipted t.submission.number)
-    first stood = elim (receipted_one e end stood.one stood.there stood.mark) [
+    first stood = elim (receipted_one e end stood.one made.0 stood.there stood.mark) [
       | inl s ↦ inl (record { one = s.one; there = s.there; mark = s.mark; same = s.same ∙ stood.same })
       | inr is ↦ inr (inl (is ∙ ap (λ (u : Submission). effect.Receipted u.number) stood.same))
     ]
 
-pub receipted_applied : (effects : List Effect) (end : End) (t : Sent) → Has (applied effects end).sent t → t.mark ≡ mark.Receipted
+pub receipted_applied : (effects : List Effect) (end : End) (t : Sent) → AreMade effects → Has (applied effects end).sent t → t.mark ≡ mark.Receipted
     → StoodReceipted end.sent t ⊎ Has effects (effect.Receipted t.submission.number)
-receipted_applied effects end t h m =
-    receipted_all effects end t (subst (λ (sent : List Sent). Has sent t) (longer effects end).sent h) m
+receipted_applied effects end t made h m =
+    receipted_all effects end t made (subst (λ (sent : List Sent). Has sent t) (longer effects end).sent h) m
 
 -- what a pair changes, it changes for a channel of these modes
 pair_named : (modes : List Mode) (end : End) (event : Event) (pair : Pair) (row : Outcome) (e : Effect)

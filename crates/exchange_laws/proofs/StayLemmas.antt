@@ -3,9 +3,10 @@ use Rattle.std.proofs.Common.{◌≤◌, List, [], ◌∷◌, refl, ◌∙◌, a
 use Rattle.exchange_model.specs.Alone.{MayHappenTo, end_after}
 use Rattle.exchange_model.specs.Apply.{applied}
 use Rattle.exchange_model.specs.End.{End}
+use Rattle.exchange_model.specs.Fold.{resized}
 use Rattle.exchange_model.specs.Numbered.{AreNumberedFrom}
 use Rattle.exchange_model.specs.Staying.{Keeps}
-use Rattle.exchange_model.specs.World.{Act}
+use Rattle.exchange_model.specs.World.{Act, Happening, Does, Folds}
 use Rattle.exchange_laws.proofs.EndSteps.{EndGoes}
 use Rattle.exchange_laws.proofs.StepLemmas.{step_goes}
 
@@ -33,9 +34,12 @@ keeps_then a b c f g = record {
 }
 
 -- whatever happens
-pub keeps_all : (acts : List Act) (end : End) → AreNumberedFrom 0 end.sent → MayHappenTo acts end → Keeps end (end_after acts end)
+pub keeps_all : (all : List Happening) (end : End) → AreNumberedFrom 0 end.sent → MayHappenTo all end → Keeps end (end_after all end)
 keeps_all [] end numbered may = keeps_same end
-keeps_all (act ∷ acts) end numbered may =
+keeps_all (Does act ∷ later) end numbered may =
     let new : End = applied act.outcome.effects end in
     let goes = step_goes act.modes end act.event act.outcome numbered may.0 in
-    keeps_then end new (end_after acts new) (keeps_step act end new goes) (keeps_all acts new goes.sent.numbered may.1)
+    keeps_then end new (end_after later new) (keeps_step act end new goes) (keeps_all later new goes.sent.numbered may.1)
+keeps_all (Folds side size ∷ later) end numbered may =
+    let rest = keeps_all later (resized size end) numbered may.1 in
+    record { entries = rest.entries; confirmed = rest.confirmed; submissions = rest.submissions }

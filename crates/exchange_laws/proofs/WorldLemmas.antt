@@ -9,10 +9,10 @@ use Rattle.as4_values.specs.declared.signal_body.SignalBody.TheVariants as body
 use Rattle.exchange_model.specs.DeliveredOnce.{CameFrom}
 use Rattle.exchange_model.specs.End.{End}
 use Rattle.exchange_model.specs.Numbered.{AreNumberedFrom}
-use Rattle.exchange_model.specs.World.{Act, Party, World, Side, Left, Right, new_world, sends, IsHeard, MayAct, acted, MayHappenAt, world_at, MayHappen, world_after}
+use Rattle.exchange_model.specs.World.{Act, Happening, Does, Folds, Party, World, Side, Left, Right, new_world, sends, IsHeard, MayAct, acted, folded, folded_at, MayHappenAt, world_at, MayHappen, world_after}
 use Rattle.exchange_model.specs.declared.inbox_entry.InboxEntry.{InboxEntry}
 use Rattle.exchange_model.specs.declared.reply.Reply.{Reply}
-use Rattle.exchange_model.specs.declared.sent.Mark.TheVariants as mark
+use Rattle.as4_effects.specs.declared.mark.Mark.TheVariants as mark
 use Rattle.exchange_model.specs.declared.sent.Sent.{Sent}
 use Rattle.exchange_model.specs.declared.what.What.{What}
 use Rattle.exchange_model.specs.declared.what.What.TheVariants as what
@@ -168,12 +168,32 @@ world_acts Right act world holds may = record {
   to_left = sender_acts act world.right world.left holds.right holds.left may holds.to_left;
 }
 
+-- where a journal is folded, nothing else changes
+party_folds : (size : ℕ) (party : Party) → PartyHolds party → PartyHolds (folded size party)
+party_folds size party holds = record { numbered = holds.numbered; apart = holds.apart; said = holds.said }
+
+world_folds : (side : Side) (size : ℕ) (world : World) → WorldHolds world → WorldHolds (folded_at side size world)
+world_folds Left size world holds = record {
+  left = party_folds size world.left holds.left;
+  right = holds.right;
+  to_right = record { submitted = holds.to_right.submitted; receipted = holds.to_right.receipted };
+  to_left = record { submitted = holds.to_left.submitted; receipted = holds.to_left.receipted };
+}
+world_folds Right size world holds = record {
+  left = holds.left;
+  right = party_folds size world.right holds.right;
+  to_right = record { submitted = holds.to_right.submitted; receipted = holds.to_right.receipted };
+  to_left = record { submitted = holds.to_left.submitted; receipted = holds.to_left.receipted };
+}
+
 -- whatever happens
-pub world_holds : (acts : List Act) (world : World) → WorldHolds world → MayHappen acts world
-    → WorldHolds (world_after acts world)
+pub world_holds : (all : List Happening) (world : World) → WorldHolds world → MayHappen all world
+    → WorldHolds (world_after all world)
 world_holds [] world holds may = holds
-world_holds (act ∷ acts) world holds may =
-    world_holds acts (world_at act.side act world) (world_acts act.side act world holds may.0) may.1
+world_holds (Does act ∷ later) world holds may =
+    world_holds later (world_at act.side act world) (world_acts act.side act world holds may.0) may.1
+world_holds (Folds side size ∷ later) world holds may =
+    world_holds later (folded_at side size world) (world_folds side size world holds) may.1
 
 -- at the start
 pub new_world_holds : WorldHolds new_world

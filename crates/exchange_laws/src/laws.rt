@@ -33,12 +33,12 @@ ghost use Rattle.exchange_model.specs.Staying.{Keeps};
 ghost use Rattle.exchange_model.specs.Submitting.{address_of, are_too_large};
 ghost use Rattle.exchange_model.specs.Table.{IsOther, Step, message_of};
 ghost use Rattle.exchange_model.specs.Telling.{Tells};
-ghost use Rattle.exchange_model.specs.World.{Act, Side, MayHappen, new_world, sends, world_after};
+ghost use Rattle.exchange_model.specs.World.{Act, Happening, Does, Side, MayHappen, new_world, sends, world_after};
 ghost use Rattle.exchange_model.specs.declared.event.Event.{Event};
 ghost use Rattle.exchange_model.specs.declared.inbox_entry.InboxEntry.{InboxEntry};
 ghost use Rattle.exchange_model.specs.declared.outcome.Outcome.{Outcome};
 ghost use Rattle.exchange_model.specs.declared.reply.Reply.TheVariants as reply;
-ghost use Rattle.exchange_model.specs.declared.sent.Mark.TheVariants.{Receipted};
+ghost use Rattle.as4_effects.specs.declared.mark.Mark.TheVariants.{Receipted};
 ghost use Rattle.exchange_model.specs.declared.sent.Sent.{Sent};
 ghost use Rattle.exchange_model.specs.declared.what.What.TheVariants as what;
 
@@ -47,14 +47,14 @@ ghost use Rattle.exchange_model.specs.declared.what.What.TheVariants as what;
 /// identifier at most once, with what was submitted until it is confirmed, and exactly once where its sender holds the
 /// receipt; and what its sender has given up was handed out to be sent as often as its mode says.
 pub fn messages_are_delivered_once()
-    ensures { (acts : List Act) → MayHappen acts new_world → BothDeliverOnce acts (world_after acts new_world) }
+    ensures { (all : List Happening) → MayHappen all new_world → BothDeliverOnce all (world_after all new_world) }
 {}
 
 /// Where a submission that is due is asked for, its message is sent; where that is brought to an end that has a mode for
 /// it, for the first time or again, one message is answered; and where that is brought back, the sender holds the
 /// receipt and the other inbox the message.
 pub fn a_round_settles()
-    ensures { (acts : List Act) (side : Side) (s : Sent) → MayHappen acts new_world → ARoundSettles side s (world_after acts new_world) }
+    ensures { (all : List Happening) (side : Side) (s : Sent) → MayHappen all new_world → ARoundSettles side s (world_after all new_world) }
 {}
 
 /// Whatever comes to an end, forged messages too: what it holds is accounted for by what happened there. Each submission
@@ -62,32 +62,32 @@ pub fn a_round_settles()
 /// refused or given up only for cause; the inbox has each identifier at most once, and what counts as taken over was
 /// confirmed.
 pub fn an_end_is_safe()
-    ensures { (acts : List Act) → MayHappenTo acts empty_end → IsSafe acts (end_after acts empty_end) }
+    ensures { (all : List Happening) → MayHappenTo all empty_end → IsSafe all (end_after all empty_end) }
 {}
 
 /// What came stays, and so does what was handed in: whatever comes to an end later, forged messages too, each entry of
 /// its inbox stands at its place, with its payloads until it is confirmed, and each submission at its own.
 pub fn what_came_stays()
-    ensures { (acts more : List Act) → MayHappenTo (acts ++ more) empty_end
-        → Keeps (end_after acts empty_end) (end_after (acts ++ more) empty_end) }
+    ensures { (all more : List Happening) → MayHappenTo (all ++ more) empty_end
+        → Keeps (end_after all empty_end) (end_after (all ++ more) empty_end) }
 {}
 
 /// What is settled stays settled: whatever comes to an end after a submission was receipted, refused or given up, forged
 /// messages and errors too, the submission stands there as that left it.
 pub fn what_is_settled_stays()
-    ensures { (acts more : List Act) → MayHappenTo (acts ++ more) empty_end
-        → (s : Sent) → Contains (end_after acts empty_end).sent s → is_pending s ≡ false
-        → Contains (end_after (acts ++ more) empty_end).sent s }
+    ensures { (all more : List Happening) → MayHappenTo (all ++ more) empty_end
+        → (s : Sent) → Contains (end_after all empty_end).sent s → is_pending s ≡ false
+        → Contains (end_after (all ++ more) empty_end).sent s }
 {}
 
 /// A receipt of a pending submission settles it, whenever it comes, alone or in a pair for a channel of the modes.
 pub fn a_receipt_settles()
-    ensures { (acts : List Act) (act : Act) (s : Sent) (signal : Signal) (copy : Option UserHeader)
-        → MayHappenTo (acts ++ act ∷ []) empty_end → Contains (end_after acts empty_end).sent s → is_pending s ≡ true
+    ensures { (all : List Happening) (act : Act) (s : Sent) (signal : Signal) (copy : Option UserHeader)
+        → MayHappenTo (all ++ Does act ∷ []) empty_end → Contains (end_after all empty_end).sent s → is_pending s ≡ true
         → BringsSignal act.modes act.event.what signal → signal.body ≡ body.Receipt copy
         → signal.ref_to ≡ Some s.submission.header.id → ¬ IsOther copy s.submission.header
-        → (¬ IsFull act.outcome.reply) ⊎ HasRoomForOne (end_after acts empty_end)
-        → Contains (end_after (acts ++ act ∷ []) empty_end).sent (marked Receipted s) }
+        → (¬ IsFull act.outcome.reply) ⊎ HasRoomForOne (end_after all empty_end)
+        → Contains (end_after (all ++ Does act ∷ []) empty_end).sent (marked Receipted s) }
 {}
 
 /// What is handed in by a mode of the end, isn't too large and has room is taken in.

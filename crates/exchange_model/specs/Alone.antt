@@ -1,6 +1,6 @@
 -- One end alone, whatever comes to it, from a partner that forges too.
 use Rattle.std.specs.Prelude.{◌≡◌, ◌≢◌, ℕ, ◌+◌, ◌<◌, ◌≤◌, List, [], ◌∷◌, Bool, true, false, Some, length, map, slice_get}
-use Rattle.std.specs.List.{AllPairs, Contains, count_by, sum_by}
+use Rattle.std.specs.List.{AllPairs, Contains, count_by}
 use Rattle.as4_effects.specs.declared.effect.Effect.{Effect}
 use Rattle.as4_values.specs.declared.header.UserHeader.{UserHeader}
 use Rattle.as4_values.specs.declared.message.Message.TheVariants as message
@@ -8,27 +8,30 @@ use Rattle.as4_values.specs.declared.payload.Payload.{Payload}
 use Rattle.exchange_model.specs.Apply.{applied, record_len}
 use Rattle.exchange_model.specs.Causes.{HandsIn, BringsReceiptOf, BringsFailureOf, TakesOver}
 use Rattle.exchange_model.specs.End.{End}
+use Rattle.exchange_model.specs.Fold.{IsFoldedSize, resized}
 use Rattle.exchange_model.specs.HandingOut.{times_handed_out}
 use Rattle.exchange_model.specs.LosslessRound.{IsFull}
 use Rattle.exchange_model.specs.Questions.{is_spent}
 use Rattle.exchange_model.specs.Table.{Step, message_of}
-use Rattle.exchange_model.specs.World.{Act, sends}
+use Rattle.exchange_model.specs.World.{Act, Happening, Does, Folds, acts_of, sends}
 use Rattle.exchange_model.specs.declared.inbox_entry.InboxEntry.{InboxEntry}
 use Rattle.exchange_model.specs.declared.reply.Reply.{Reply}
 use Rattle.exchange_model.specs.declared.reply.Reply.TheVariants as reply
-use Rattle.exchange_model.specs.declared.sent.Mark.TheVariants.{Receipted, Failed, Refused}
+use Rattle.as4_effects.specs.declared.mark.Mark.TheVariants.{Receipted, Failed, Refused}
 use Rattle.exchange_model.specs.declared.sent.Sent.{Sent}
 use Rattle.exchange_model.specs.declared.what.What.TheVariants.{Tick}
 
--- one after another, each act may happen at the end that those before it have led to
-abbrev pub MayHappenTo : List Act → End → Type 0
+-- one after another, each may happen at the end that those before it have led to
+abbrev pub MayHappenTo : List Happening → End → Type 0
 MayHappenTo [] end = Unit {0}
-MayHappenTo (act ∷ acts) end =
-    Step act.modes end act.event act.outcome × MayHappenTo acts (applied act.outcome.effects end)
+MayHappenTo (Does act ∷ later) end =
+    Step act.modes end act.event act.outcome × MayHappenTo later (applied act.outcome.effects end)
+MayHappenTo (Folds side size ∷ later) end = IsFoldedSize end size × MayHappenTo later (resized size end)
 
-abbrev pub end_after : List Act → End → End
+abbrev pub end_after : List Happening → End → End
 end_after [] end = end
-end_after (act ∷ acts) end = end_after acts (applied act.outcome.effects end)
+end_after (Does act ∷ later) end = end_after later (applied act.outcome.effects end)
+end_after (Folds side size ∷ later) end = end_after later (resized size end)
 
 -- the producer is told that the submission is taken in
 abbrev pub is_submitted : Reply → Bool
@@ -78,12 +81,18 @@ abbrev pub written : List Effect → ℕ
 written [] = 0
 written (e ∷ effects) = record_len (e ∷ effects)
 
+-- how many bytes a journal of so many has behind these: an act adds its record, a fold leaves what it leaves
+abbrev pub size_after : List Happening → ℕ → ℕ
+size_after [] size = size
+size_after (Does act ∷ later) size = size_after later (size + written act.outcome.effects)
+size_after (Folds side left ∷ later) size = size_after later left
+
 -- what holds at an end whatever its partner sends
-pub record IsSafe (acts : List Act) (end : End) : Type 0 where
-  pub outbox : IsOutboxSafe acts end
-  pub settled : IsSettledRightly acts end
-  pub inbox : IsInboxSafe acts end
+pub record IsSafe (all : List Happening) (end : End) : Type 0 where
+  pub outbox : IsOutboxSafe (acts_of all) end
+  pub settled : IsSettledRightly (acts_of all) end
+  pub inbox : IsInboxSafe (acts_of all) end
   -- the clock shows what it was set to
-  pub clock : (act : Act) → Contains acts act → act.event.what ≡ Tick → ¬ IsFull act.outcome.reply → act.event.stamp ≤ end.moment
-  -- the journal has its first bytes and the acts' records
-  pub size : end.size ≡ 9 + sum_by (λ (act : Act). written act.outcome.effects) acts
+  pub clock : (act : Act) → Contains (acts_of all) act → act.event.what ≡ Tick → ¬ IsFull act.outcome.reply → act.event.stamp ≤ end.moment
+  -- the journal has its first bytes and the acts' records, those since its last fold behind what that left
+  pub size : end.size ≡ size_after all 9

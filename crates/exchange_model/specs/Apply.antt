@@ -1,19 +1,24 @@
 -- What effects change at an end, and which effects fit there: this handler's own.
-use Rattle.std.specs.Prelude.{ℕ, suc, ◌+◌, List, [], ◌∷◌, ◌++◌, Bool, true, false, not, ◌&&◌, ◌==◌, nat_lt, nat_le, if◌then◌else◌, Option, Some, None, option_map, length, map, take, drop}
+use Rattle.std.specs.Prelude.{ℕ, suc, ◌+◌, List, [], ◌∷◌, ◌++◌, Bool, true, false, not, ◌&&◌, ◌||◌, ◌==◌, nat_lt, nat_le, if◌then◌else◌, Option, Some, None, option_map, length, map, take, drop}
 use Rattle.as4_effects.specs.Effects.{effects_body}
+use Rattle.as4_effects.specs.declared.carried.Carried.{Carried}
 use Rattle.as4_effects.specs.declared.effect.Effect.{Effect}
 use Rattle.as4_effects.specs.declared.effect.Effect.TheVariants as effect
 use Rattle.as4_effects.specs.declared.submission.Submission.{Submission}
 use Rattle.exchange_model.specs.End.{End}
 use Rattle.exchange_model.specs.Questions.{is_pending, is_waiting, is_spent, is_known, sent_at, sent_of}
 use Rattle.exchange_model.specs.declared.inbox_entry.InboxEntry.{InboxEntry}
-use Rattle.exchange_model.specs.declared.sent.Mark.{Mark}
-use Rattle.exchange_model.specs.declared.sent.Mark.TheVariants as mark
+use Rattle.as4_effects.specs.declared.mark.Mark.{Mark}
+use Rattle.as4_effects.specs.declared.mark.Mark.TheVariants as mark
 use Rattle.exchange_model.specs.declared.sent.Sent.{Sent}
 
 -- a submission that wasn't sent yet
 abbrev pub unsent : Submission → Sent
 unsent submission = record { submission = submission; tries = 0; last = 0; mark = mark.Pending }
+
+-- a submission as it was carried over
+abbrev pub as_carried : Carried → Sent
+as_carried c = record { submission = c.submission; tries = c.tries; last = c.last; mark = c.standing }
 
 -- sent once more, at this moment
 abbrev pub tried : ℕ → Sent → Sent
@@ -48,6 +53,9 @@ after (effect.Receipted number) end = record end { sent = changed number (marked
 after (effect.Refused number code) end = record end { sent = changed number (marked (mark.Refused code)) end.sent }
 after (effect.Confirmed upto) end =
     record end { inbox = emptied (upto + 1) end.inbox; confirmed = upto + 1 }
+after (effect.Carried carried) end = record end { sent = end.sent ++ as_carried carried ∷ [] }
+after (effect.Kept kept) end =
+    record end { inbox = end.inbox ++ record { header = kept.header; payloads = [] } ∷ []; confirmed = end.confirmed + 1 }
 
 abbrev pub after_all : List Effect → End → End
 after_all [] end = end
@@ -68,16 +76,33 @@ abbrev pub is_one : (Sent → Bool) → Option Sent → Bool
 is_one test None = false
 is_one test (Some s) = test s
 
+-- the next submission, with an identifier of its own
+abbrev pub is_next : Submission → End → Bool
+is_next submission end =
+    (submission.number == length end.sent) && not (is_one (λ s. true) (sent_of submission.header.id end.sent))
+
+-- how often it was sent and when last agree, and what was given up was sent as often as its mode says
+abbrev pub is_failed_mark : Mark → Bool
+is_failed_mark mark.Failed = true
+is_failed_mark other = false
+
+abbrev pub are_tries : Sent → Bool
+are_tries s =
+    nat_le s.tries (s.submission.retries + 1)
+    && ((not (is_failed_mark s.mark) || (s.tries == s.submission.retries + 1)) && (not (s.tries == 0) || (s.last == 0)))
+
 -- an effect that can stand at an end
 unfoldable pub is_fit : Effect → End → Bool
-is_fit (effect.Submitted submission) end =
-    (submission.number == length end.sent) && not (is_one (λ s. true) (sent_of submission.header.id end.sent))
+is_fit (effect.Submitted submission) end = is_next submission end
 is_fit (effect.Ticked tick) end = nat_lt end.moment tick.moment
 is_fit (effect.Tried number) end = is_one is_waiting (sent_at number end.sent)
 is_fit (effect.Delivered delivery) end = not (is_known delivery.header.id end.inbox)
 is_fit (effect.Receipted number) end = is_one is_pending (sent_at number end.sent)
 is_fit (effect.Refused number code) end = is_one is_pending (sent_at number end.sent)
 is_fit (effect.Confirmed upto) end = nat_le end.confirmed upto && nat_lt upto (length end.inbox)
+is_fit (effect.Carried carried) end =
+    (end.moment == 0) && (is_next carried.submission end && are_tries (as_carried carried))
+is_fit (effect.Kept kept) end = not (is_known kept.header.id end.inbox) && (end.confirmed == length end.inbox)
 
 -- the place of the first that doesn't fit where those before it have made their changes
 abbrev pub first_unfit : List Effect → End → Option ℕ

@@ -6,9 +6,9 @@ use Rattle.std.specs.Str.{bytes_eq}
 use Rattle.exchange_model.specs.End.{End}
 use Rattle.exchange_model.specs.HandingOut.{times_handed_out}
 use Rattle.exchange_model.specs.Questions.{sent_of}
-use Rattle.exchange_model.specs.World.{Act, World, Left, Right, MayHappen, acts_at, new_world, world_after}
+use Rattle.exchange_model.specs.World.{Act, Happening, World, Left, Right, MayHappen, acts_at, new_world, world_after}
 use Rattle.exchange_model.specs.declared.inbox_entry.InboxEntry.{InboxEntry}
-use Rattle.exchange_model.specs.declared.sent.Mark.TheVariants.{Receipted, Failed}
+use Rattle.as4_effects.specs.declared.mark.Mark.TheVariants.{Receipted, Failed}
 use Rattle.exchange_model.specs.declared.sent.Sent.{Sent}
 
 -- an entry of the receiver's inbox, and the submission that it came from: its payloads are the submitted ones until
@@ -34,13 +34,13 @@ pub record DeliversOnce (acts : List Act) (sender receiver : End) : Type 0 where
       → times_handed_out s.submission.header.id acts ≡ s.submission.retries + 1
 
 -- both ways
-pub record BothDeliverOnce (acts : List Act) (world : World) : Type 0 where
-  pub to_right : DeliversOnce (acts_at Left acts) world.left.end world.right.end
-  pub to_left : DeliversOnce (acts_at Right acts) world.right.end world.left.end
+pub record BothDeliverOnce (all : List Happening) (world : World) : Type 0 where
+  pub to_right : DeliversOnce (acts_at Left all) world.left.end world.right.end
+  pub to_left : DeliversOnce (acts_at Right all) world.right.end world.left.end
 
--- acts that may happen from the start have led to this world, and each message was delivered once
+-- what may happen from the start has led to this world, and each message was delivered once
 pub record HasDeliveredOnce (world : World) : Type 0 where
-  pub acts : List Act
-  pub may : MayHappen acts new_world
-  pub leads : world_after acts new_world ≡ world
-  pub once : BothDeliverOnce acts world
+  pub all : List Happening
+  pub may : MayHappen all new_world
+  pub leads : world_after all new_world ≡ world
+  pub once : BothDeliverOnce all world

@@ -4,6 +4,7 @@ pub mod Causes
 pub mod Coming
 pub mod DeliveredOnce
 pub mod End
+pub mod Fold
 pub mod HandingOut
 pub mod Least
 pub mod LosslessRound

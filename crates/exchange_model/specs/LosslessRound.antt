@@ -20,11 +20,11 @@ use Rattle.exchange_model.specs.End.{End}
 use Rattle.exchange_model.specs.Questions.{head_of, is_pending, sent_of}
 use Rattle.exchange_model.specs.Room.{HasRoomForOne}
 use Rattle.exchange_model.specs.Table.{IsOther, message_of}
-use Rattle.exchange_model.specs.World.{Act, Side, World, MayHappen, across, party_at, sends, world_after}
+use Rattle.exchange_model.specs.World.{Act, Does, Side, World, MayHappen, across, party_at, sends, world_after}
 use Rattle.exchange_model.specs.declared.inbox_entry.InboxEntry.{InboxEntry}
 use Rattle.exchange_model.specs.declared.reply.Reply.{Reply}
 use Rattle.exchange_model.specs.declared.reply.Reply.TheVariants as reply
-use Rattle.exchange_model.specs.declared.sent.Mark.TheVariants.{Receipted}
+use Rattle.as4_effects.specs.declared.mark.Mark.TheVariants.{Receipted}
 use Rattle.exchange_model.specs.declared.sent.Sent.{Sent}
 use Rattle.exchange_model.specs.declared.what.What.TheVariants as what
 
@@ -36,12 +36,12 @@ IsFull other = ⊥
 -- the act is at this side, may happen next, and has room in the journal
 pub record IsNext (side : Side) (world : World) (act : Act) : Type 0 where
   pub here : act.side ≡ side
-  pub may : MayHappen (act ∷ []) world
+  pub may : MayHappen (Does act ∷ []) world
   pub roomy : (¬ IsFull act.outcome.reply) ⊎ HasRoomForOne (party_at side world).end
 
 -- the world behind an act
 abbrev pub behind_act : Act → World → World
-behind_act act world = world_after (act ∷ []) world
+behind_act act world = world_after (Does act ∷ []) world
 
 -- the act sends this message and no other, and where its reply isn't lost, the message may come at the other end
 pub record SendsOne (side : Side) (world : World) (act : Act) (m : Message) : Type 0 where

@@ -10,8 +10,8 @@ use Rattle.as4_values.specs.declared.route.Route.TheVariants as route
 use Rattle.exchange_model.specs.End.{End}
 use Rattle.exchange_model.specs.Least.{first_least}
 use Rattle.exchange_model.specs.declared.inbox_entry.InboxEntry.{InboxEntry}
-use Rattle.exchange_model.specs.declared.sent.Mark.{Mark}
-use Rattle.exchange_model.specs.declared.sent.Mark.TheVariants as mark
+use Rattle.as4_effects.specs.declared.mark.Mark.{Mark}
+use Rattle.as4_effects.specs.declared.mark.Mark.TheVariants as mark
 use Rattle.exchange_model.specs.declared.sent.Sent.{Sent}
 use Rattle.exchange_model.specs.declared.sent.Standing.{Standing}
 use Rattle.exchange_model.specs.declared.sent.Standing.TheVariants as standing

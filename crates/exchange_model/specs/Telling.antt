@@ -5,8 +5,8 @@ use Rattle.exchange_model.specs.Questions.{sent_of}
 use Rattle.exchange_model.specs.declared.inbox_entry.InboxEntry.{InboxEntry}
 use Rattle.exchange_model.specs.declared.reply.Reply.{Reply}
 use Rattle.exchange_model.specs.declared.reply.Reply.TheVariants as reply
-use Rattle.exchange_model.specs.declared.sent.Mark.{Mark}
-use Rattle.exchange_model.specs.declared.sent.Mark.TheVariants as mark
+use Rattle.as4_effects.specs.declared.mark.Mark.{Mark}
+use Rattle.as4_effects.specs.declared.mark.Mark.TheVariants as mark
 use Rattle.exchange_model.specs.declared.sent.Sent.{Sent}
 use Rattle.exchange_model.specs.declared.what.What.{What}
 use Rattle.exchange_model.specs.declared.what.What.TheVariants as what

@@ -1,11 +1,13 @@
 -- Two ends and a network that may lose, repeat and reorder what they send: each message that an end ever sent may
--- arrive at the other end never, once or often, at any time. A crash is a step whose reply is lost, or no step.
-use Rattle.std.specs.Prelude.{List, [], ◌∷◌, ◌++◌, Bool, true, false, if◌then◌else◌}
+-- arrive at the other end never, once or often, at any time. A crash is a step whose reply is lost, or no step. Between
+-- two acts an end's journal may be folded: by a checkpoint where it gets shorter, by a migration whatever its size is.
+use Rattle.std.specs.Prelude.{ℕ, List, [], ◌∷◌, ◌++◌, Bool, true, false, if◌then◌else◌}
 use Rattle.std.specs.List.{Contains, filter}
 use Rattle.as4_values.specs.declared.message.Message.{Message}
 use Rattle.as4_values.specs.declared.mode.Mode.{Mode}
 use Rattle.exchange_model.specs.Apply.{applied}
 use Rattle.exchange_model.specs.End.{End, empty_end}
+use Rattle.exchange_model.specs.Fold.{IsFoldedSize, resized}
 use Rattle.exchange_model.specs.Table.{Step}
 use Rattle.exchange_model.specs.declared.event.Event.{Event}
 use Rattle.exchange_model.specs.declared.outcome.Outcome.{Outcome}
@@ -58,6 +60,11 @@ abbrev pub IsHeard : List Message → What → Type 0
 IsHeard said (what.Came message) = Contains said message
 IsHeard said other = Unit {0}
 
+-- what happens in a world: an act, or the journal of the end at a side is folded to this size
+pub data Happening : Type 0 where
+  Does : Act → Happening
+  Folds : Side → ℕ → Happening
+
 -- the act may happen at an end that hears the other
 pub record MayAct (act : Act) (party other : Party) : Type 0 where
   pub heard : IsHeard other.said act.event.what
@@ -82,22 +89,39 @@ abbrev pub world_at : Side → Act → World → World
 world_at Left act world = record world { left = acted act world.left }
 world_at Right act world = record world { right = acted act world.right }
 
--- one after another, each act may happen where those before it have led
-abbrev pub MayHappen : List Act → World → Type 0
-MayHappen [] world = Unit {0}
-MayHappen (act ∷ acts) world = MayHappenAt act.side act world × MayHappen acts (world_at act.side act world)
-
-abbrev pub world_after : List Act → World → World
-world_after [] world = world
-world_after (act ∷ acts) world = world_after acts (world_at act.side act world)
-
--- the acts at one side
-abbrev pub acts_at : Side → List Act → List Act
-acts_at side acts = filter (λ (act : Act). is_same_side act.side side) acts
-
 abbrev pub party_at : Side → World → Party
 party_at Left world = world.left
 party_at Right world = world.right
+
+-- the world where the journal of the end at a side has another size
+abbrev pub folded : ℕ → Party → Party
+folded size party = record party { end = resized size party.end }
+
+abbrev pub folded_at : Side → ℕ → World → World
+folded_at Left size world = record world { left = folded size world.left }
+folded_at Right size world = record world { right = folded size world.right }
+
+-- one after another, each may happen where those before it have led
+abbrev pub MayHappen : List Happening → World → Type 0
+MayHappen [] world = Unit {0}
+MayHappen (Does act ∷ later) world = MayHappenAt act.side act world × MayHappen later (world_at act.side act world)
+MayHappen (Folds side size ∷ later) world =
+    IsFoldedSize (party_at side world).end size × MayHappen later (folded_at side size world)
+
+abbrev pub world_after : List Happening → World → World
+world_after [] world = world
+world_after (Does act ∷ later) world = world_after later (world_at act.side act world)
+world_after (Folds side size ∷ later) world = world_after later (folded_at side size world)
+
+-- the acts among what happens
+abbrev pub acts_of : List Happening → List Act
+acts_of [] = []
+acts_of (Does act ∷ later) = act ∷ acts_of later
+acts_of (Folds side size ∷ later) = acts_of later
+
+-- the acts at one side
+abbrev pub acts_at : Side → List Happening → List Act
+acts_at side all = filter (λ (act : Act). is_same_side act.side side) (acts_of all)
 
 abbrev pub across : Side → Side
 across Left = Right

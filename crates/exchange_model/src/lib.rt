@@ -9,10 +9,10 @@ mod reply;
 mod sent;
 mod what;
 
-pub use as4_effects::Queue;
+pub use as4_effects::{Mark, Queue};
 pub use event::Event;
 pub use inbox_entry::InboxEntry;
 pub use outcome::Outcome;
 pub use reply::Reply;
-pub use sent::{Mark, Sent, Standing};
+pub use sent::{Sent, Standing};
 pub use what::What;

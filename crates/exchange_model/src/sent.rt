@@ -1,18 +1,4 @@
-use as4_effects::Submission;
-use as4_values::Code;
-
-/// How a submission stands.
-#[derive(Drop)]
-pub enum Mark {
-    /// Its receipt hasn't come, and it isn't given up.
-    Pending,
-    /// Its receipt came.
-    Receipted,
-    /// It was given up, since no receipt came in time (`EBMS:0301`).
-    Failed,
-    /// The other end refused it with this error.
-    Refused { code: Code },
-}
+use as4_effects::{Mark, Submission};
 
 /// A submission, and what became of it.
 #[derive(Drop)]

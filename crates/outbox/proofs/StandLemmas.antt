@@ -8,7 +8,7 @@ use Rattle.std.proofs.lemmas.List.Elements.{All-nil, All-push, All-set}
 use Rattle.std.proofs.lemmas.Option.{get_or_from_slice_get, slice_get-get_or, slice_get_past, slice_get_read, slice_get_within}
 use Rattle.exchange_model.specs.Questions.{sent_at, is_waiting, is_pending, is_spent}
 use Rattle.exchange_model.specs.Apply.{is_one, failed_if_spent}
-use Rattle.exchange_model.specs.declared.sent.Mark.TheVariants.{Failed}
+use Rattle.as4_effects.specs.declared.mark.Mark.TheVariants.{Failed}
 use Rattle.exchange_model.specs.declared.sent.Sent.{Sent}
 use Rattle.exchange_model.proofs.NumberedLemmas.{none_numbered, numbered_push, place}
 use Rattle.outbox.specs.Submissions.{Stand}

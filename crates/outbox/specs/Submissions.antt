@@ -1,8 +1,8 @@
 -- What an outbox holds.
 use Rattle.std.specs.Prelude.{ℕ, ◌≤◌, List, Option, Some, None, All}
 use Rattle.exchange_model.specs.Numbered.{AreNumberedFrom}
-use Rattle.exchange_model.specs.declared.sent.Mark.{Mark}
-use Rattle.exchange_model.specs.declared.sent.Mark.TheVariants as mark
+use Rattle.as4_effects.specs.declared.mark.Mark.{Mark}
+use Rattle.as4_effects.specs.declared.mark.Mark.TheVariants as mark
 use Rattle.exchange_model.specs.declared.sent.Sent.{Sent}
 
 -- what was handed in to be sent, by number, and for which identifier there is room

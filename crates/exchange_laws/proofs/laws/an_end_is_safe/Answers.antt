@@ -5,15 +5,15 @@ use Rattle.as4_values.specs.declared.message.Message.TheVariants as message
 use Rattle.as4_values.specs.declared.payload.Payload.{Payload}
 use Rattle.exchange_model.specs.Alone.{IsOutboxSafe, IsSettledRightly, IsInboxSafe}
 use Rattle.exchange_model.specs.Causes.{BringsSignal, BringsReceiptOf, BringsFailureOf}
-use Rattle.exchange_model.specs.End.{End}
+use Rattle.exchange_model.specs.End.{End, empty_end}
 use Rattle.exchange_model.specs.Table.{message_of}
-use Rattle.exchange_model.specs.World.{Act}
+use Rattle.exchange_model.specs.World.{Act, acts_of}
 use Rattle.exchange_model.specs.declared.sent.Sent.{Sent}
 use Rattle.exchange_model.specs.declared.what.What.{What}
 use Rattle.exchange_laws.proofs.ListLemmas.{has_contained, contains_had}
 use Rattle.exchange_laws.proofs.InboxLemmas.{all_apart}
 use Rattle.exchange_laws.proofs.SentSteps.{Fails, brings_either}
-use Rattle.exchange_laws.proofs.Accounts.{AreAccounted, SomeAct, IsSettledBy, accounted}
+use Rattle.exchange_laws.proofs.Accounts.{AreAccounted, SomeAct, IsSettledBy, accounted, sized}
 use Rattle.exchange_laws.proofs.TimesLemmas.{ids_apart}
 use Rattle.exchange_laws.proofs.laws.an_end_is_safe.Goals as goal
 
@@ -82,12 +82,12 @@ inbox acts end all = record {
 }
 
 pub returns : goal.returns
-returns c acts may =
-    let all = accounted acts may in
+returns c all may =
+    let held = accounted all may in
     record {
-      outbox = outbox acts _ all;
-      settled = settled acts _ all;
-      inbox = inbox acts _ all;
-      clock = λ act there ticks roomy. all.clock act (has_contained acts act there) ticks roomy;
-      size = all.size;
+      outbox = outbox (acts_of all) _ held;
+      settled = settled (acts_of all) _ held;
+      inbox = inbox (acts_of all) _ held;
+      clock = λ act there ticks roomy. held.clock act (has_contained (acts_of all) act there) ticks roomy;
+      size = sized all empty_end;
     }

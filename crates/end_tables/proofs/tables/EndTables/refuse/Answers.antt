@@ -1,7 +1,7 @@
 use Rattle.std.proofs.Common.{IsTrue, refl}
 use Rattle.exchange_model.specs.Apply.{is_fit, is_one}
 use Rattle.exchange_model.specs.Questions.{is_pending, sent_at}
-use Rattle.exchange_model.specs.declared.sent.Mark.TheVariants as mark
+use Rattle.as4_effects.specs.declared.mark.Mark.TheVariants as mark
 use Rattle.end_tables.proofs.StepLemmas.{settled_step}
 use Rattle.end_tables.proofs.tables.EndTables.refuse.Goals as goal
 

@@ -1,0 +1,46 @@
+ghost use Rattle.std.specs.Prelude.{◌≤◌};
+
+use crate::mark::Mark;
+use crate::submission::Submission;
+use as4_values::{NoMemory, PlainData};
+use std::alloc::Global;
+
+/// A submission as it stands, where an end is written again.
+#[derive(Drop)]
+pub struct Carried {
+    pub submission: Submission,
+    /// How often it was sent.
+    pub tries: u32,
+    /// When it was sent last, in milliseconds since 1970, before the year 10,000; 0 where it never was.
+    pub last: u64,
+    pub standing: Mark,
+    pub ghost dated: { last ≤ 253402300799999 },
+}
+
+impl PlainData for Carried {
+    fn try_clone(&self, alloc: Global) -> Result<Carried, NoMemory> {
+        match (
+            self.submission.try_clone(alloc),
+            self.standing.try_clone(alloc),
+        ) {
+            (Ok(submission), Ok(standing)) => Ok(Carried {
+                submission,
+                tries: self.tries,
+                last: self.last,
+                standing,
+            }),
+            (submission, standing) => {
+                drop(submission);
+                drop(standing);
+                Err(NoMemory)
+            }
+        }
+    }
+
+    fn same(&self, other: &Carried) -> bool {
+        self.submission.same(&other.submission)
+            && self.tries == other.tries
+            && self.last == other.last
+            && self.standing.same(&other.standing)
+    }
+}

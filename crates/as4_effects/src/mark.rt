@@ -1,0 +1,38 @@
+use as4_values::{Code, NoMemory, PlainData};
+use std::alloc::Global;
+
+/// How a submission stands.
+#[derive(Drop)]
+pub enum Mark {
+    /// Its receipt hasn't come, and it isn't given up.
+    Pending,
+    /// Its receipt came.
+    Receipted,
+    /// It was given up, since no receipt came in time (`EBMS:0301`).
+    Failed,
+    /// The other end refused it with this error.
+    Refused { code: Code },
+}
+
+impl PlainData for Mark {
+    fn try_clone(&self, alloc: Global) -> Result<Mark, NoMemory> {
+        match self {
+            Mark::Pending => Ok(Mark::Pending),
+            Mark::Receipted => Ok(Mark::Receipted),
+            Mark::Failed => Ok(Mark::Failed),
+            Mark::Refused { code } => Ok(Mark::Refused {
+                code: code.try_clone(alloc)?,
+            }),
+        }
+    }
+
+    fn same(&self, other: &Mark) -> bool {
+        match (self, other) {
+            (Mark::Pending, Mark::Pending) => true,
+            (Mark::Receipted, Mark::Receipted) => true,
+            (Mark::Failed, Mark::Failed) => true,
+            (Mark::Refused { code }, Mark::Refused { code: other }) => code.same(other),
+            _ => false,
+        }
+    }
+}

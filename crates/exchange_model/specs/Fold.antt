@@ -1,0 +1,60 @@
+-- An end written again, short: the effects that give it back from the empty end, each in a record of its own. A journal
+-- that only grows is folded so; the end stays as it is, but for its journal's size.
+use Rattle.std.specs.Prelude.{◌≡◌, ℕ, zero, suc, ◌+◌, List, [], ◌∷◌, ◌++◌, take, drop}
+use Rattle.std.specs.List.{sum_by}
+use Rattle.as4_effects.specs.declared.effect.Effect.{Effect}
+use Rattle.as4_effects.specs.declared.effect.Effect.TheVariants as effect
+use Rattle.as4_effects.specs.declared.effect.Tick.{Tick}
+use Rattle.exchange_model.specs.Apply.{as_carried, record_len}
+use Rattle.exchange_model.specs.End.{End}
+use Rattle.exchange_model.specs.declared.inbox_entry.InboxEntry.{InboxEntry}
+use Rattle.exchange_model.specs.declared.sent.Sent.{Sent}
+
+-- item by item
+abbrev pub ItemByItem : {X Y : Type 0} → (X → Y → Type 0) → List X → List Y → Type 0
+ItemByItem is [] [] = Unit {0}
+ItemByItem is (x ∷ xs) (y ∷ ys) = is x y × ItemByItem is xs ys
+ItemByItem is xs ys = ⊥
+
+-- a submission is carried over as it stands
+abbrev pub CarriesOver : Sent → Effect → Type 0
+CarriesOver s (effect.Carried carried) = as_carried carried ≡ s
+CarriesOver s other = ⊥
+
+-- of an entry that was taken over the header is kept
+abbrev pub KeepsHeader : InboxEntry → Effect → Type 0
+KeepsHeader entry (effect.Kept kept) = kept.header ≡ entry.header
+KeepsHeader entry other = ⊥
+
+-- any other entry is delivered as it came
+abbrev pub DeliversAgain : InboxEntry → Effect → Type 0
+DeliversAgain entry (effect.Delivered delivery) = (delivery.header ≡ entry.header) × (delivery.payloads ≡ entry.payloads)
+DeliversAgain entry other = ⊥
+
+-- the clock is set, unless it never was
+abbrev pub SetsClock : ℕ → List Effect → Type 0
+SetsClock zero effects = effects ≡ []
+SetsClock (suc moment) effects = (tick : Tick) × (tick.moment ≡ suc moment) × (effects ≡ effect.Ticked tick ∷ [])
+
+-- the effects that an end is folded to: its submissions in order, then its inbox in order, then its clock
+pub record IsFolded (end : End) (effects : List Effect) : Type 0 where
+  pub carried : List Effect
+  pub kept : List Effect
+  pub delivered : List Effect
+  pub clock : List Effect
+  pub submissions : ItemByItem CarriesOver end.sent carried
+  pub taken_over : ItemByItem KeepsHeader (take end.confirmed end.inbox) kept
+  pub waiting : ItemByItem DeliversAgain (drop end.confirmed end.inbox) delivered
+  pub set : SetsClock end.moment clock
+  pub is : effects ≡ carried ++ kept ++ delivered ++ clock
+
+-- how many bytes the journal has then: its first nine, and a record for each effect
+unfoldable pub folded_size : List Effect → ℕ
+folded_size effects = 9 + sum_by (λ (e : Effect). record_len (e ∷ [])) effects
+
+abbrev pub IsFoldedSize : End → ℕ → Type 0
+IsFoldedSize end size = (effects : List Effect) × IsFolded end effects × (size ≡ folded_size effects)
+
+-- the end with a journal of another size
+abbrev pub resized : ℕ → End → End
+resized size end = record end { size = size }
