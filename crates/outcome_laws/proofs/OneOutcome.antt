@@ -1,6 +1,7 @@
 -- An event has one outcome, row by row.
-use Rattle.std.proofs.Common.{◌≡◌, ℕ, ◌⊎◌, inl, inr, List, [], ◌∷◌, Option, Some, length, sym, ap, ◌∙◌, subst}
-use Rattle.std.specs.Prelude.{nat_le, nat_lt}
+use Rattle.std.proofs.Common.{◌≡◌, ℕ, ◌⊎◌, inl, inr, List, [], ◌∷◌, ◌++◌, Option, Some, None, length, sym, ap, ◌∙◌, subst}
+use Rattle.std.specs.Prelude.{nat_le, nat_lt, slice_get, if◌then◌else◌}
+use Rattle.std.specs.Bool.{MatchBool}
 use Rattle.std.specs.List.{count_by}
 use Rattle.std.specs.Option.{option_and_then}
 use Rattle.as4_effects.specs.declared.delivery.Delivery.{Delivery}
@@ -11,6 +12,7 @@ use Rattle.as4_effects.specs.declared.queue.Queue.TheVariants as queue
 use Rattle.as4_effects.specs.declared.submission.Submission.{Submission}
 use Rattle.as4_values.specs.ModeMatch.{mode_of, mode_named, channel_mode}
 use Rattle.as4_values.specs.declared.header.UserHeader.{UserHeader}
+use Rattle.as4_values.specs.declared.message.Pair.{Pair}
 use Rattle.as4_values.specs.declared.message.Message.{Message}
 use Rattle.as4_values.specs.declared.message.Message.TheVariants as message
 use Rattle.as4_values.specs.declared.mode.Mode.{Mode}
@@ -21,13 +23,14 @@ use Rattle.as4_values.specs.declared.route.Route.TheVariants as route
 use Rattle.as4_values.specs.declared.signal.Signal.{Signal}
 use Rattle.as4_values.specs.declared.signal_body.SignalBody.{SignalBody}
 use Rattle.as4_values.specs.declared.signal_body.SignalBody.TheVariants as body
-use Rattle.event_code.proofs.EffectReading.{tick_told}
-use Rattle.event_code.proofs.MessageReading.{delivery_parts, delivery_told}
+use Rattle.as4_effects.proofs.PartLemmas.{tick_told, delivery_told}
+use Rattle.as4_effects.specs.Parts.{delivery_parts}
 use Rattle.exchange_model.specs.End.{End}
 use Rattle.exchange_model.specs.Questions.{head_of, is_known, is_pending, is_spent, sent_of}
 use Rattle.exchange_model.specs.Submitting.{are_too_large}
-use Rattle.exchange_model.specs.Table.{Errs, Receipts, Submits, Ticks, Takes, Asks, AsksBy, UserComes, Delivers, PullComes, Settles, IsOther, ReceiptComes, SignalComes, Comes, Confirms, RowOf, IsLimited, Step, has_room}
+use Rattle.exchange_model.specs.Table.{Errs, Receipts, Submits, Ticks, Takes, Asks, AsksBy, AsksWith, AsksWithBy, AsksWithEntry, UserComes, Delivers, PullComes, Settles, IsOther, ReceiptComes, SignalComes, PullsBehind, PairComes, Comes, Confirms, RowOf, IsLimited, Step, has_room, is_quiet, names_channel}
 use Rattle.exchange_model.specs.declared.event.Event.{Event}
+use Rattle.exchange_model.specs.declared.inbox_entry.InboxEntry.{InboxEntry}
 use Rattle.exchange_model.specs.declared.outcome.Outcome.{Outcome}
 use Rattle.exchange_model.specs.declared.reply.Reply.TheVariants as reply
 use Rattle.exchange_model.specs.declared.sent.Sent.{Sent}
@@ -35,7 +38,7 @@ use Rattle.exchange_model.specs.declared.what.What.{What}
 use Rattle.exchange_model.specs.declared.what.What.TheVariants as what
 use Rattle.outcome_laws.proofs.Cases.{both_option, both_bool}
 use Rattle.outcome_laws.proofs.OneSubmission.{one_submission}
-use Rattle.outcome_laws.proofs.Signals.{one_receipt, one_error, one_pull}
+use Rattle.outcome_laws.proofs.Signals.{one_receipt, one_error, one_pull, one_pair}
 
 -- two that are the same outcome
 same : (o a b : Outcome) → a ≡ o → b ≡ o → a ≡ b
@@ -96,6 +99,26 @@ asks modes event name a b h k =
         requests : List ℕ → Signal → Outcome
         requests to signal = record { effects = []; reply = reply.Request to (message.Signal signal) }
 
+-- AskWith
+asks_with : (modes : List Mode) (end : End) (event : Event) (name : List ℕ) (n : ℕ) (a b : Outcome) → AsksWith modes end event name n a
+    → AsksWith modes end event name n b → a ≡ b
+unfolding AsksWith
+asks_with modes end event name n a b h k =
+    both_option _ _ _ _ _ (mode_named modes name) h k (same _ a b) (λ mode i j. asked mode.route i j)
+  where
+    requests : List ℕ → Pair → Outcome
+    requests to pair = record { effects = []; reply = reply.Request to (message.Pair pair) }
+
+    paired : (mpc address : List ℕ) (o : Option InboxEntry) → AsksWithEntry mpc address event o a → AsksWithEntry mpc address event o b → a ≡ b
+    paired mpc address None i j = same _ a b i j
+    paired mpc address (Some entry) i j =
+        i.2 ∙ ap (requests address) (one_pair entry.header mpc event.stamp event.nonce i.0 j.0 i.1 j.1) ∙ sym j.2
+
+    asked : (r : Route) → AsksWithBy r end event n a → AsksWithBy r end event n b → a ≡ b
+    asked (route.Push address) i j = same _ a b i j
+    asked (route.Pull mpc address) i j =
+        both_bool _ _ _ _ _ (nat_lt n end.confirmed) i j (same _ a b) (paired mpc address (slice_get end.inbox n))
+
 -- a user message
 user_comes : (modes : List Mode) (end : End) (event : Event) (header : UserHeader) (payloads : List Payload) (a b : Outcome)
     → UserComes modes end event header payloads a → UserComes modes end event header payloads b → a ≡ b
@@ -145,10 +168,31 @@ signal_comes modes end event id ref_to (body.Pull mpc) a b h k = pull_comes mode
 signal_comes modes end event id ref_to (body.Receipt copy) a b h k = receipt_comes end event id ref_to copy a b h k
 signal_comes modes end event id ref_to (body.Errors items) a b h k = same _ a b h k
 
+-- a pair: one outcome of its receipt, and behind that one of its pull request
+pair_comes : (modes : List Mode) (end : End) (event : Event) (receipt pull : Signal) (a b : Outcome)
+    → PairComes modes end event receipt pull a → PairComes modes end event receipt pull b → a ≡ b
+unfolding PairComes
+pair_comes modes end event receipt pull a b h k =
+    both_bool _ _ _ _ _ (is_quiet k.0.reply) (subst (λ (o : Outcome). MatchBool (is_quiet o.reply) (PullsBehind modes end event pull o a) (a ≡ o)) one h.2) k.2
+    behind (same _ a b)
+  where
+    one : h.0 ≡ k.0
+    one = signal_comes modes end event receipt.id receipt.ref_to receipt.body h.0 k.0 h.1 k.1
+
+    both : Outcome → Outcome
+    both pulled = record {
+      effects = if names_channel modes pull.body then k.0.effects ++ pulled.effects else [];
+      reply = pulled.reply;
+    }
+
+    behind : PullsBehind modes end event pull k.0 a → PullsBehind modes end event pull k.0 b → a ≡ b
+    behind i j = i.2 ∙ ap both (signal_comes modes _ event pull.id pull.ref_to pull.body i.0 j.0 i.1 j.1) ∙ sym j.2
+
 -- what comes
 comes : (modes : List Mode) (end : End) (event : Event) (m : Message) (a b : Outcome) → Comes modes end event m a → Comes modes end event m b → a ≡ b
 comes modes end event (message.User header payloads) a b h k = user_comes modes end event header payloads a b h k
 comes modes end event (message.Signal signal) a b h k = signal_comes modes end event signal.id signal.ref_to signal.body a b h k
+comes modes end event (message.Pair pair) a b h k = pair_comes modes end event pair.receipt pair.pull a b h k
 
 -- Confirm
 confirms : (end : End) (upto : ℕ) (a b : Outcome) → Confirms end upto a → Confirms end upto b → a ≡ b
@@ -163,6 +207,7 @@ one_row modes end event (what.Submit mode conversation loads) a b h k = submits 
 one_row modes end event what.Tick a b h k = ticks end event a b h k
 one_row modes end event what.Take a b h k = takes end a b h k
 one_row modes end event (what.Ask mode) a b h k = asks modes event mode a b h k
+one_row modes end event (what.AskWith mode n) a b h k = asks_with modes end event mode n a b h k
 one_row modes end event (what.Came m) a b h k = comes modes end event m a b h k
 one_row modes end event (what.Read n) a b h k = same _ a b h k
 one_row modes end event (what.Confirm upto) a b h k = confirms end upto a b h k

@@ -10,10 +10,8 @@ use Rattle.as4_values.specs.declared.header.UserHeader.{UserHeader}
 use Rattle.as4_values.specs.declared.mode.Mode.{Mode}
 use Rattle.as4_values.specs.declared.payload.Load.{Load}
 use Rattle.as4_values.specs.declared.payload.Payload.{Payload}
-use Rattle.event_code.proofs.HeaderReading.{part_parts, part_told}
-use Rattle.event_code.proofs.MessageReading.{submission_parts, submission_told}
-use Rattle.event_code.proofs.PayloadReading.{payload_parts, payload_told}
-use Rattle.event_code.proofs.UserHeaderReading.{header_parts, header_told}
+use Rattle.as4_effects.proofs.PartLemmas.{part_told, submission_told, payload_told, header_told}
+use Rattle.as4_effects.specs.Parts.{part_parts, submission_parts, payload_parts, header_parts}
 use Rattle.exchange_model.specs.Submitting.{IsHeaderOf, IsSubmissionOf}
 
 abbrev href : PartInfo → Option (List ℕ)

@@ -11,8 +11,8 @@ use Rattle.as4_values.specs.declared.header.Property.{Property}
 use Rattle.as4_values.specs.declared.header.PartInfo.{PartInfo}
 use Rattle.as4_values.specs.declared.header.UserHeader.{UserHeader}
 use Rattle.exchange_model.specs.Table.{IsOther}
-use Rattle.event_code.proofs.HeaderReading.{party_parts, party_told, service_parts, service_told, agreement_parts, agreement_told, property_parts, property_told, side_parts, side_told, part_parts, part_told}
-use Rattle.event_code.proofs.UserHeaderReading.{header_parts, header_told}
+use Rattle.as4_effects.proofs.PartLemmas.{party_told, service_told, agreement_told, property_told, side_told, part_told, header_told}
+use Rattle.as4_effects.specs.Parts.{party_parts, service_parts, agreement_parts, property_parts, side_parts, part_parts, header_parts}
 
 -- the same, or not
 abbrev AreSame : {X : Type 0} → X → X → Type 0

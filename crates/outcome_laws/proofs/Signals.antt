@@ -4,14 +4,15 @@ use Rattle.std.specs.Prelude.{IsTrue, option_map}
 use Rattle.std.proofs.Props.{props}
 use Rattle.std.proofs.lemmas.Option.{same_Some}
 use Rattle.as4_values.proofs.MomentLemmas.{one_stamp_of}
-use Rattle.as4_values.specs.SignalParts.{is_signal}
+use Rattle.as4_values.specs.SignalParts.{is_signal, is_receipt, is_pull}
 use Rattle.as4_values.specs.Identifiers.{signal_id}
 use Rattle.as4_values.specs.declared.header.UserHeader.{UserHeader}
+use Rattle.as4_values.specs.declared.message.Pair.{Pair}
 use Rattle.as4_values.specs.declared.signal.Signal.{Signal}
 use Rattle.as4_values.specs.declared.signal_body.SignalBody.{SignalBody}
 use Rattle.as4_values.specs.declared.signal_body.SignalBody.TheVariants as body
 use Rattle.as4_codes.specs.ErrorCodes.{ErrorRow, error_row, error_item}
-use Rattle.as4_codes.specs.Signals.{IsReceiptOf, IsErrorSignalOf, IsPullOf}
+use Rattle.as4_codes.specs.Signals.{IsReceiptOf, IsErrorSignalOf, IsPullOf, IsPairOf, next_nonce}
 use Rattle.outcome_laws.proofs.SomeStamp.{some_stamp}
 
 -- what a signal says
@@ -57,6 +58,22 @@ one_pull mpc ms nonce a b h k =
     let said : a.body ≡ b.body = h.asks ∙ sym k.asks in
     signal_told a b (let e : told_by a ≡ told_by b = cc in e)
 
+pub one_pair : (header : UserHeader) (mpc : List ℕ) (ms nonce : ℕ) (a b : Pair) → IsPairOf header mpc ms nonce a → IsPairOf header mpc ms nonce b → a ≡ b
+one_pair header mpc ms nonce a b h k =
+    pair_told a b (one_receipt header ms (next_nonce nonce) a.receipt b.receipt h.receipt k.receipt) (one_pull mpc ms nonce a.pull b.pull h.pull k.pull)
+  where
+    pair_of : (p : Signal × Signal) → IsTrue (is_receipt p.0.body) → IsTrue (is_pull p.1.body) → Pair
+    pair_of p receipted asked = record { receipt = p.0; pull = p.1; receipted = receipted; asked = asked }
+
+    pair_told : (a b : Pair) → a.receipt ≡ b.receipt → a.pull ≡ b.pull → a ≡ b
+    pair_told a b r p =
+        let both : (a.receipt, a.pull) ≡ (b.receipt, b.pull) = cc in
+        subst (λ (t : Signal × Signal). (v : IsTrue (is_receipt t.0.body)) (w : IsTrue (is_pull t.1.body)) → pair_of t v w ≡ b) (sym both)
+        (λ v w. let one : IsProp (IsTrue (is_receipt b.receipt.body)) = hlevel props in
+        let two : IsProp (IsTrue (is_pull b.pull.body)) = hlevel props in
+        ap (λ x. pair_of (b.receipt, b.pull) x w) (one v b.receipted) ∙ ap (pair_of (b.receipt, b.pull) b.receipted) (two w b.asked))
+        a.receipted a.asked
+
 -- and there is one
 pub some_receipt : (header : UserHeader) (ms nonce : ℕ) → ms ≤ 253402300799999 → (signal : Signal) × IsReceiptOf header ms nonce signal
 some_receipt header ms nonce dated =
@@ -78,4 +95,17 @@ some_pull mpc ms nonce dated =
     let stamp = some_stamp ms dated in (
       record { stamp = stamp.0; id = signal_id nonce; ref_to = None; body = body.Pull mpc; whole = refl },
       record { stamped = stamp.1; named = refl; refers = refl; asks = refl },
+    )
+
+pub some_pair : (header : UserHeader) (mpc : List ℕ) (ms nonce : ℕ) → ms ≤ 253402300799999 → (pair : Pair) × IsPairOf header mpc ms nonce pair
+some_pair header mpc ms nonce dated =
+    let receipt = some_receipt header ms (next_nonce nonce) dated in
+    let pull = some_pull mpc ms nonce dated in (
+      record {
+        receipt = receipt.0;
+        pull = pull.0;
+        receipted = ap is_receipt receipt.1.copies;
+        asked = ap is_pull pull.1.asks;
+      },
+      record { receipt = receipt.1; pull = pull.1 },
     )

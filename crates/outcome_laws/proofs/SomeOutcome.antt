@@ -1,6 +1,6 @@
 -- An event has an outcome, row by row.
-use Rattle.std.proofs.Common.{◌≡◌, ℕ, ◌<◌, ◌≤◌, ◌⊎◌, inl, inr, List, [], ◌∷◌, true, false, Option, Some, length, refl, arith}
-use Rattle.std.specs.Prelude.{nat_le, nat_lt}
+use Rattle.std.proofs.Common.{◌≡◌, ℕ, ◌<◌, ◌≤◌, ◌⊎◌, inl, inr, List, [], ◌∷◌, true, false, Option, Some, None, length, refl, arith}
+use Rattle.std.specs.Prelude.{nat_le, nat_lt, slice_get}
 use Rattle.std.specs.List.{count_by}
 use Rattle.std.specs.Option.{option_and_then}
 use Rattle.std.proofs.lemmas.Bool.{and_parts}
@@ -21,6 +21,7 @@ use Rattle.as4_values.specs.declared.payload.Load.{Load}
 use Rattle.as4_values.specs.declared.payload.Payload.{Payload}
 use Rattle.as4_values.specs.declared.route.Route.{Route}
 use Rattle.as4_values.specs.declared.route.Route.TheVariants as route
+use Rattle.as4_values.specs.declared.signal.Signal.{Signal}
 use Rattle.as4_values.specs.declared.signal_body.SignalBody.{SignalBody}
 use Rattle.as4_values.specs.declared.signal_body.SignalBody.TheVariants as body
 use Rattle.exchange_model.specs.Alone.{end_after}
@@ -31,9 +32,11 @@ use Rattle.as4_codes.specs.ErrorCodes.{ErrorRow, error_row, error_table}
 use Rattle.exchange_model.specs.Typed.{IsTyped, HasTexts}
 use Rattle.exchange_model.specs.Questions.{head_of, is_known, is_pending, is_spent, sent_of}
 use Rattle.exchange_model.specs.Submitting.{are_too_large}
-use Rattle.exchange_model.specs.Table.{Rests, Errs, Receipts, Submits, Ticks, Takes, Asks, AsksBy, UserComes, PullComes, Settles, IsOther, ReceiptComes, SignalComes, Comes, Confirms, RowOf, Step, has_room}
-use Rattle.exchange_model.specs.World.{Act}
+use Rattle.exchange_model.specs.Table.{Rests, Errs, Receipts, Submits, Ticks, Takes, Asks, AsksBy, AsksWith, AsksWithBy, AsksWithEntry, UserComes, PullComes, Settles, IsOther, ReceiptComes, SignalComes, PullsBehind, PairComes, Comes, Confirms, RowOf, Step, has_room, is_quiet}
+use Rattle.exchange_model.specs.Fold.{resized}
+use Rattle.exchange_model.specs.World.{Happening, Does, Folds}
 use Rattle.exchange_model.specs.declared.event.Event.{Event}
+use Rattle.exchange_model.specs.declared.inbox_entry.InboxEntry.{InboxEntry}
 use Rattle.exchange_model.specs.declared.outcome.Outcome.{Outcome}
 use Rattle.exchange_model.specs.declared.reply.Reply.{Reply}
 use Rattle.exchange_model.specs.declared.reply.Reply.TheVariants as reply
@@ -42,7 +45,7 @@ use Rattle.exchange_model.specs.declared.what.What.{What}
 use Rattle.exchange_model.specs.declared.what.What.TheVariants as what
 use Rattle.outcome_laws.proofs.Cases.{some_option, some_bool}
 use Rattle.outcome_laws.proofs.SameHeader.{is_other_or}
-use Rattle.outcome_laws.proofs.Signals.{some_receipt, some_error, some_pull}
+use Rattle.outcome_laws.proofs.Signals.{some_receipt, some_error, some_pull, some_pair}
 use Rattle.outcome_laws.proofs.SomeSubmission.{some_submission}
 
 -- there is an outcome of which this holds
@@ -123,6 +126,22 @@ asks modes event name = some_option _ _ (mode_named modes name) (rests reply.NoM
         let signal = some_pull mpc event.stamp event.nonce event.dated in
         (record { effects = []; reply = reply.Request address (message.Signal signal.0) }, (signal.0, signal.1, refl))
 
+-- AskWith
+asks_with : (modes : List Mode) (end : End) (event : Event) (name : List ℕ) (n : ℕ) → Some_ (AsksWith modes end event name n)
+unfolding AsksWith
+asks_with modes end event name n = some_option _ _ (mode_named modes name) (rests reply.NoMode) (λ mode _. asked mode.route)
+  where
+    paired : (mpc address : List ℕ) (o : Option InboxEntry) → Some_ (AsksWithEntry mpc address event o)
+    paired mpc address None = rests reply.NoEntry
+    paired mpc address (Some entry) =
+        let pair = some_pair entry.header mpc event.stamp event.nonce event.dated in
+        (record { effects = []; reply = reply.Request address (message.Pair pair.0) }, (pair.0, pair.1, refl))
+
+    asked : (r : Route) → Some_ (AsksWithBy r end event n)
+    asked (route.Push address) = rests reply.NoMode
+    asked (route.Pull mpc address) =
+        some_bool _ _ (nat_lt n end.confirmed) (λ _. rests reply.Gone) (λ _. paired mpc address (slice_get end.inbox n))
+
 -- a user message
 user_comes : (modes : List Mode) (end : End) (event : Event) (header : UserHeader) (payloads : List Payload)
     → may_come (what.Came (message.User header payloads)) ≡ true → Some_ (UserComes modes end event header payloads)
@@ -165,10 +184,21 @@ signal_comes modes end event id ref_to (body.Pull mpc) = pull_comes modes end ev
 signal_comes modes end event id ref_to (body.Receipt copy) = receipt_comes end event id ref_to copy
 signal_comes modes end event id ref_to (body.Errors items) = (_, refl)
 
+-- a pair
+pair_comes : (modes : List Mode) (end : End) (event : Event) (receipt pull : Signal) → Some_ (PairComes modes end event receipt pull)
+unfolding PairComes
+pair_comes modes end event receipt pull =
+    let settled = signal_comes modes end event receipt.id receipt.ref_to receipt.body in
+    let outcome = some_bool (PullsBehind modes end event pull settled.0) (λ (o : Outcome). o ≡ settled.0) (is_quiet settled.0.reply)
+    (λ _. let pulled = signal_comes modes (after_all settled.0.effects end) event pull.id pull.ref_to pull.body in (_, (pulled.0, pulled.1, refl)))
+    (λ _. (settled.0, refl)) in
+    (outcome.0, (settled.0, settled.1, outcome.1))
+
 -- what comes
 comes : (modes : List Mode) (end : End) (event : Event) (m : Message) → may_come (what.Came m) ≡ true → Some_ (Comes modes end event m)
 comes modes end event (message.User header payloads) may = user_comes modes end event header payloads may
 comes modes end event (message.Signal signal) may = signal_comes modes end event signal.id signal.ref_to signal.body
+comes modes end event (message.Pair pair) may = pair_comes modes end event pair.receipt pair.pull
 
 -- Confirm
 confirms : (end : End) (upto : ℕ) → Some_ (Confirms end upto)
@@ -184,6 +214,7 @@ some_row modes end event (what.Submit mode conversation loads) held texts may da
 some_row modes end event what.Tick held texts may dated = ticks end event
 some_row modes end event what.Take held texts may dated = takes end
 some_row modes end event (what.Ask mode) held texts may dated = asks modes event mode
+some_row modes end event (what.AskWith mode n) held texts may dated = asks_with modes end event mode n
 some_row modes end event (what.Came m) held texts may dated = comes modes end event m may
 some_row modes end event (what.Read n) held texts may dated = rests _
 some_row modes end event (what.Confirm upto) held texts may dated = confirms end upto
@@ -207,6 +238,8 @@ after_one (effect.Delivered delivery) end dated = dated
 after_one (effect.Receipted number) end dated = dated
 after_one (effect.Refused number code) end dated = dated
 after_one (effect.Confirmed upto) end dated = dated
+after_one (effect.Carried carried) end dated = dated
+after_one (effect.Kept kept) end dated = dated
 
 after_some : (effects : List Effect) (end : End) → end.moment ≤ 253402300799999 → (after_all effects end).moment ≤ 253402300799999
 after_some [] end dated = dated
@@ -217,6 +250,7 @@ unfolding applied
 after_applied [] end dated = dated
 after_applied (e ∷ effects) end dated = after_some (e ∷ effects) end dated
 
-pub dated_after : (acts : List Act) (end : End) → end.moment ≤ 253402300799999 → (end_after acts end).moment ≤ 253402300799999
+pub dated_after : (all : List Happening) (end : End) → end.moment ≤ 253402300799999 → (end_after all end).moment ≤ 253402300799999
 dated_after [] end dated = dated
-dated_after (act ∷ acts) end dated = dated_after acts (applied act.outcome.effects end) (after_applied act.outcome.effects end dated)
+dated_after (Does act ∷ later) end dated = dated_after later (applied act.outcome.effects end) (after_applied act.outcome.effects end dated)
+dated_after (Folds side size ∷ later) end dated = dated_after later (resized size end) dated

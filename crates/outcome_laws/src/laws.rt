@@ -5,7 +5,7 @@ ghost use Rattle.exchange_model.specs.Alone.{MayHappenTo, end_after};
 ghost use Rattle.exchange_model.specs.End.{End, empty_end};
 ghost use Rattle.exchange_model.specs.Typed.{IsTyped};
 ghost use Rattle.exchange_model.specs.Table.{Step};
-ghost use Rattle.exchange_model.specs.World.{Act};
+ghost use Rattle.exchange_model.specs.World.{Happening};
 ghost use Rattle.exchange_model.specs.declared.event.Event.{Event};
 ghost use Rattle.exchange_model.specs.declared.outcome.Outcome.{Outcome};
 
@@ -18,6 +18,6 @@ pub fn an_event_has_one_outcome()
 /// And it has one: whatever has happened to an end, and whatever its modes are, there is a step at each event that the
 /// types of this crate can hold.
 pub fn an_event_has_an_outcome()
-    ensures { (acts : List Act) (modes : List Mode) (event : Event) → MayHappenTo acts empty_end → IsTyped event
-        → (outcome : Outcome) × Step modes (end_after acts empty_end) event outcome }
+    ensures { (all : List Happening) (modes : List Mode) (event : Event) → MayHappenTo all empty_end → IsTyped event
+        → (outcome : Outcome) × Step modes (end_after all empty_end) event outcome }
 {}

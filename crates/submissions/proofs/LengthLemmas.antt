@@ -93,7 +93,7 @@ payload_lengths (p ∷ payloads) (l ∷ loads) same =
 -- a submission by a mode fits an effect
 pub submission_fits : (number retries period moment : ℕ) (h : UserHeader) (payloads : List Payload) (loads : List Load) (r : Route)
     → IsShortHeader h → map (λ (p : Payload). p.content) payloads ≡ map (λ (l : Load). l.content) loads → length loads ≤ 64
-    → sum_by (λ (l : Load). length l.content) loads ≤ 15728640 → IsTrue (is_mode_route r)
+    → sum_by (λ (l : Load). length l.content) loads ≤ 62914560 → IsTrue (is_mode_route r)
     → IsTrue (fits_an_effect (submitted_body number h payloads r retries period moment))
 unfolding fits_an_effect
 submission_fits number retries period moment h payloads loads r short same few limited routed =

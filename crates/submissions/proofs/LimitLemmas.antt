@@ -8,14 +8,14 @@ use Rattle.as4_values.specs.declared.payload.Load.{Load}
 use Rattle.exchange_model.specs.Submitting.{are_too_large}
 
 -- a sum that stops at the greatest number is told as the sum is
-pub capped : (sum : ℕ) → nat_lt 15728640 (min sum (2 ^ 64 - 1)) ≡ nat_lt 15728640 sum
+pub capped : (sum : ℕ) → nat_lt 62914560 (min sum (2 ^ 64 - 1)) ≡ nat_lt 62914560 sum
 capped sum = grind (arith, nat_tests)
 
 -- what isn't too large
 pub record AreSmall (loads : List Load) : Type 0 where
   pub few : length loads ≤ 64
   pub typed : IsTrue (list_all (λ (load : Load). is_media_text load.media) loads)
-  pub limited : sum_by (λ (load : Load). length load.content) loads ≤ 15728640
+  pub limited : sum_by (λ (load : Load). length load.content) loads ≤ 62914560
 
 pub are_small : (loads : List Load) → are_too_large loads ≡ false → AreSmall loads
 unfolding are_too_large

@@ -12,9 +12,9 @@ use as4_values::Load;
 const MAX_LOADS: usize = 64;
 
 /// How many bytes the contents have at most, together.
-const MAX_CONTENT: usize = 15_728_640;
+const MAX_CONTENT: usize = 62_914_560;
 
-/// Whether there are more than 64 loads, or one with a media text that no part may have, or more than 15,728,640 bytes
+/// Whether there are more than 64 loads, or one with a media text that no part may have, or more than 62,914,560 bytes
 /// together.
 #[tactic(auto, using(crate::proofs::LimitLemmas::capped), unfolding(exchange_model::specs::Submitting::are_too_large))]
 pub fn are_too_large(loads: &[Load]) -> bool
