@@ -1,2 +1,3 @@
+pub mod FilterLemmas
 pub mod LeastLemmas
 pub mod RisingLemmas

@@ -1,5 +1,5 @@
 -- What waits in queues to be sent (ebMS 3.0 Core, section 3.4, on message partition channels).
-use Rattle.std.specs.Prelude.{ℕ, List, [], ◌∷◌, not, ◌&&◌, ◌==◌, nat_lt, nat_le, if◌then◌else◌, Option, option_map}
+use Rattle.std.specs.Prelude.{ℕ, List, [], ◌∷◌, Bool, false, not, ◌&&◌, ◌==◌, nat_lt, nat_le, if◌then◌else◌, Option, Some, None, option_map}
 use Rattle.std.specs.List.{filter, find}
 use Rattle.as4_effects.specs.declared.queue.Queue.{Queue}
 use Rattle.channels.specs.declared.waiting.Place.{Place}
@@ -17,6 +17,11 @@ unfoldable pub inserted : Waiting → List Waiting → List Waiting
 inserted w [] = w ∷ []
 inserted w (x ∷ xs) = if nat_lt w.number x.number then w ∷ x ∷ xs else x ∷ inserted w xs
 
+-- whether it is the one of a number
+abbrev pub is_number : Option ℕ → Waiting → Bool
+is_number None w = false
+is_number (Some number) w = w.number == number
+
 -- all but the one of this number
 unfoldable pub without : ℕ → List Waiting → List Waiting
 without number waiting = filter (λ w. not (w.number == number)) waiting
@@ -25,9 +30,12 @@ without number waiting = filter (λ w. not (w.number == number)) waiting
 abbrev pub waiting_at : ℕ → List Waiting → Option Waiting
 waiting_at number waiting = find (λ w. w.number == number) waiting
 
+-- it is in the queue, and due at this moment
+abbrev pub is_due_in : Queue → ℕ → Waiting → Bool
+is_due_in queue moment w = is_same_queue w.queue queue && nat_le w.due moment
+
 -- of those in the queue that are due at this moment, the number of the first that is due; of several due at once
 -- the least number
 unfoldable pub head_in : Queue → ℕ → List Waiting → Option ℕ
 head_in queue moment waiting =
-    option_map (λ w. w.number)
-    (first_least (λ w. w.due) (filter (λ w. is_same_queue w.queue queue && nat_le w.due moment) waiting))
+    option_map (λ w. w.number) (first_least (λ w. w.due) (filter (is_due_in queue moment) waiting))

@@ -1,8 +1,8 @@
-ghost use Rattle.std.specs.Prelude.{◌≡◌, ◌<◌, [], Some, None, ◌&&◌, nat_le, option_copied, MatchOption, OnOk};
+ghost use Rattle.std.specs.Prelude.{◌≡◌, ◌<◌, [], Some, None, ◌&&◌, not, option_copied, option_map, MatchOption, OnOk};
 ghost use Rattle.std.specs.List.{filter};
 ghost use Rattle.exchange_model.specs.Least.{lesser, first_least};
 ghost use Rattle.exchange_model.specs.Questions.{is_same_queue};
-ghost use Rattle.channels.specs.Queues.{inserted, without, waiting_at, head_in};
+ghost use Rattle.channels.specs.Queues.{inserted, without, waiting_at, head_in, is_due_in, is_number};
 ghost use Rattle.channels.specs.Rising.{RisesFrom, SplitsAt};
 
 use crate::waiting::{Place, Waiting};
@@ -90,7 +90,22 @@ impl Channels {
     pub fn head(&self, queue: &Queue, moment: u64) -> Option<u64>
         ensures { result ≡ head_in queue.now moment self.now.waiting }
     {
-        let first = first_due(self.waiting.as_slice(), queue, moment)?;
+        self.head_but(queue, moment, None)
+    }
+
+    /// The same where the submission of this number waits no more.
+    pub fn head_without(&self, queue: &Queue, moment: u64, number: u64) -> Option<u64>
+        ensures { result ≡ head_in queue.now moment (without number self.now.waiting) }
+    {
+        self.head_but(queue, moment, Some(number))
+    }
+
+    /// The number of the first that is due, the one of a number left out.
+    fn head_but(&self, queue: &Queue, moment: u64, skipped: Option<u64>) -> Option<u64>
+        ensures { result ≡ option_map (λ w. w.number) (first_least (λ w. w.due)
+            (filter (λ w. not (is_number skipped w) && is_due_in queue.now moment w) self.now.waiting)) }
+    {
+        let first = first_due(self.waiting.as_slice(), queue, moment, skipped)?;
         Some(first.number)
     }
 }
@@ -103,13 +118,20 @@ fn how_many_up_to(waiting: &[Waiting], number: u64) -> usize
     waiting.partition_point(|w| w.number <= number)
 }
 
-/// Of those in the queue that are due at this moment, the first that is due; of several due at once the one in front.
-fn first_due<'a>(waiting: &'a [Waiting], queue: &Queue, moment: u64) -> Option<&'a Waiting>
-    ensures { option_copied result ≡ first_least (λ w. w.due) (filter (λ w. is_same_queue w.queue queue.now && nat_le w.due moment) waiting.now) }
+/// Of those in the queue that are due at this moment, without the one of a number, the first that is due; of several due
+/// at once the one in front.
+fn first_due<'a>(
+    waiting: &'a [Waiting],
+    queue: &Queue,
+    moment: u64,
+    skipped: Option<u64>,
+) -> Option<&'a Waiting>
+    ensures { option_copied result ≡ first_least (λ w. w.due)
+        (filter (λ w. not (is_number skipped w) && is_due_in queue.now moment w) waiting.now) }
 {
     let mut first: Option<&Waiting> = None;
     for next in waiting {
-        if is_ready(next, queue, moment) {
+        if is_ready(next, queue, moment, skipped) {
             first = Some(earlier(first, next));
         }
     }
@@ -126,11 +148,11 @@ fn earlier<'a>(first: Option<&'a Waiting>, next: &'a Waiting) -> &'a Waiting
     }
 }
 
-/// Whether it may be sent from this queue now.
-fn is_ready(waiting: &Waiting, queue: &Queue, moment: u64) -> bool
-    ensures { result ≡ (is_same_queue waiting.now.queue queue.now && nat_le waiting.now.due moment) }
+/// Whether it may be sent from this queue now, and isn't the one of that number.
+fn is_ready(waiting: &Waiting, queue: &Queue, moment: u64, skipped: Option<u64>) -> bool
+    ensures { result ≡ (not (is_number skipped waiting.now) && is_due_in queue.now moment waiting.now) }
 {
-    waiting.due <= moment && is_in(&waiting.queue, queue)
+    skipped != Some(waiting.number) && waiting.due <= moment && is_in(&waiting.queue, queue)
 }
 
 /// Whether the two are the same queue.

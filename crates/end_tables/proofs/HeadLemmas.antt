@@ -1,31 +1,30 @@
 -- The head of a queue is the head among what waits.
-use Rattle.std.proofs.Common.{◌≡◌, ℕ, List, [], ◌∷◌, Bool, true, false, cond, ◌&&◌, nat_le, nat_lt, Option, Some, None, option_map, map, refl, ap, ◌∙◌}
+use Rattle.std.proofs.Common.{◌≡◌, ℕ, List, [], ◌∷◌, Bool, true, false, cond, ◌&&◌, nat_le, nat_lt, Option, Some, None, option_map, map, refl, ap, sym, ◌∙◌, IsTrue, ◌==◌}
+use Rattle.std.specs.Option.{IfSome}
 use Rattle.std.specs.List.{filter}
 use Rattle.std.proofs.lemmas.List.Elements.{filter_agree}
+use Rattle.as4_effects.specs.declared.effect.Effect.TheVariants as effect
+use Rattle.as4_effects.specs.declared.mark.Mark.{Mark}
+use Rattle.as4_effects.specs.declared.mark.Mark.TheVariants as mark
 use Rattle.as4_effects.specs.declared.queue.Queue.{Queue}
-use Rattle.channels.specs.Queues.{head_in}
+use Rattle.channels.proofs.FilterLemmas.{filter-filter}
+use Rattle.channels.specs.Queues.{head_in, is_due_in, without}
 use Rattle.channels.specs.declared.waiting.Waiting.{Waiting}
 use Rattle.exchange_model.specs.End.{End}
 use Rattle.exchange_model.specs.Least.{first_least, lesser}
-use Rattle.exchange_model.specs.Questions.{due, head_of, is_in, is_ready, is_same_queue, is_waiting}
+use Rattle.exchange_model.specs.Apply.{after, changed, is_fit, marked}
+use Rattle.exchange_model.specs.Numbered.{AreNumberedFrom}
+use Rattle.exchange_model.specs.Questions.{due, head_of, is_in, is_ready, is_same_queue, is_waiting, sent_at}
 use Rattle.exchange_model.specs.declared.sent.Sent.{Sent}
 use Rattle.end_tables.specs.Waiting.{waiting_in, waiting_of}
+use Rattle.end_tables.proofs.NumberLemmas.{head_found, marked_numbered}
+use Rattle.end_tables.proofs.StepLemmas.{settled_step}
 
 filter-map : {X Y : Type 0} (p : Y → Bool) (f : X → Y) (xs : List X) → filter p (map f xs) ≡ map f (filter (λ x. p (f x)) xs)
 filter-map p f [] = refl
 filter-map p f (x ∷ xs) =
     elim (p (f x)) as (λ b. cond b (f x ∷ filter p (map f xs)) (filter p (map f xs)) ≡ map f (cond b (x ∷ filter (λ x. p (f x)) xs) (filter (λ x. p (f x)) xs)))
     [ true ↦ ap (λ ys. f x ∷ ys) (filter-map p f xs) | false ↦ filter-map p f xs ]
-
-filter-filter : {X : Type 0} (p q : X → Bool) (xs : List X) → filter p (filter q xs) ≡ filter (λ x. q x && p x) xs
-filter-filter p q [] = refl
-filter-filter p q (x ∷ xs) =
-    elim (q x) as (λ b. filter p (cond b (x ∷ filter q xs) (filter q xs)) ≡ cond (b && p x) (x ∷ filter (λ x. q x && p x) xs) (filter (λ x. q x && p x) xs)) [
-      | true ↦
-          elim (p x) as (λ b. cond b (x ∷ filter p (filter q xs)) (filter p (filter q xs)) ≡ cond b (x ∷ filter (λ x. q x && p x) xs) (filter (λ x. q x && p x) xs))
-          [ true ↦ ap (λ ys. x ∷ ys) (filter-filter p q xs) | false ↦ filter-filter p q xs ]
-      | false ↦ filter-filter p q xs
-    ]
 
 lesser-map : {X Y : Type 0} (key : Y → ℕ) (f : X → Y) (x : X) (o : Option X) → lesser key (f x) (option_map f o) ≡ f (lesser (λ x. key (f x)) x o)
 lesser-map key f x None = refl
@@ -52,7 +51,7 @@ tests_swap false b c = refl
 head_is : (q : Queue) (end : End) → head_in q end.moment (waiting_in end.sent) ≡ option_map (λ (s : Sent). s.submission.number) (head_of q end)
 unfolding head_in head_of waiting_in
 head_is q end =
-    let here : Waiting → Bool = λ w. is_same_queue w.queue q && nat_le w.due end.moment in
+    let here : Waiting → Bool = is_due_in q end.moment in
     let one = filter-map here waiting_of (filter is_waiting end.sent) in
     let two = filter-filter (λ s. here (waiting_of s)) is_waiting end.sent in
     let three = filter_agree (λ s. is_waiting s && here (waiting_of s)) (λ s. is_ready end.moment s && is_in q s) (λ s. tests_swap (is_waiting s) (is_in q s) (nat_le (due s) end.moment)) end.sent in
@@ -64,3 +63,45 @@ head_is q end =
 pub head_shown : (q : Queue) (end : End) (waiting : List Waiting) (r : Option ℕ) → r ≡ head_in q end.moment waiting → waiting ≡ waiting_in end.sent
     → r ≡ option_map (λ (s : Sent). s.submission.number) (head_of q end)
 head_shown q end waiting r e step = e ∙ ap (head_in q end.moment) step ∙ head_is q end
+
+-- a submission is the same whatever its mark is
+marked_same : (n k : ℕ) (m : Mark) (sent : List Sent)
+    → option_map (λ (s : Sent). s.submission) (sent_at k (changed n (marked m) sent)) ≡ option_map (λ (s : Sent). s.submission) (sent_at k sent)
+unfolding changed
+marked_same n k m [] = refl
+marked_same n k m (s ∷ sent) = by_number (s.submission.number == n) (marked_same n k m sent)
+  where
+    by_test : (t : Sent) (b : Bool) (a o : Option Sent) → option_map (λ (u : Sent). u.submission) a ≡ option_map (λ (u : Sent). u.submission) o
+        → t.submission ≡ s.submission
+        → option_map (λ (u : Sent). u.submission) (cond b (Some t) a) ≡ option_map (λ (u : Sent). u.submission) (cond b (Some s) o)
+    by_test t true a o rest same = ap Some same
+    by_test t false a o rest same = rest
+
+    by_number : (b : Bool)
+        → option_map (λ (u : Sent). u.submission) (sent_at k (changed n (marked m) sent)) ≡ option_map (λ (u : Sent). u.submission) (sent_at k sent)
+        → option_map (λ (u : Sent). u.submission) (sent_at k (cond b (marked m s) s ∷ changed n (marked m) sent)) ≡ option_map (λ (u : Sent). u.submission) (sent_at k (s ∷ sent))
+    by_number true rest = by_test (marked m s) (s.submission.number == k) (sent_at k (changed n (marked m) sent)) (sent_at k sent) rest refl
+    by_number false rest = by_test s (s.submission.number == k) (sent_at k (changed n (marked m) sent)) (sent_at k sent) rest refl
+
+-- without the one that is receipted, the queues say the number of the head behind its receipt
+pub behind_shown : (q : Queue) (n : ℕ) (end : End) (waiting : List Waiting) (r : Option ℕ) → r ≡ head_in q end.moment (without n waiting)
+    → waiting ≡ waiting_in end.sent → AreNumberedFrom 0 end.sent → IsTrue (is_fit (effect.Receipted n) end)
+    → r ≡ option_map (λ (s : Sent). s.submission.number) (head_of q (after (effect.Receipted n) end))
+unfolding after is_fit
+behind_shown q n end waiting r e step stand fit =
+    head_shown q (after (effect.Receipted n) end) (without n waiting) r e
+    (settled_step n mark.Receipted end.sent (changed n (marked mark.Receipted) end.sent) waiting (without n waiting) refl step stand fit refl refl)
+
+-- and the one of that number is the head's submission
+pub behind_found : (q : Queue) (n : ℕ) (end : End) (r : Option ℕ) → AreNumberedFrom 0 end.sent
+    → r ≡ option_map (λ (s : Sent). s.submission.number) (head_of q (after (effect.Receipted n) end))
+    → IfSome r (λ k. option_map (λ (s : Sent). s.submission) (sent_at k end.sent)
+    ≡ option_map (λ (s : Sent). s.submission) (head_of q (after (effect.Receipted n) end)))
+unfolding after
+behind_found q n end r stand e = by_result r (head_found q (after (effect.Receipted n) end) r (marked_numbered n mark.Receipted 0 end.sent stand) e)
+  where
+    by_result : (r : Option ℕ) → IfSome r (λ k. sent_at k (changed n (marked mark.Receipted) end.sent) ≡ head_of q (after (effect.Receipted n) end))
+        → IfSome r (λ k. option_map (λ (s : Sent). s.submission) (sent_at k end.sent)
+        ≡ option_map (λ (s : Sent). s.submission) (head_of q (after (effect.Receipted n) end)))
+    by_result None found = tt
+    by_result (Some k) found = sym (marked_same n k mark.Receipted end.sent) ∙ ap (option_map (λ (s : Sent). s.submission)) found

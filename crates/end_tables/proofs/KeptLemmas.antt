@@ -55,6 +55,8 @@ kept_at (effect.Delivered delivery) end k h = absurd h
 kept_at (effect.Receipted number) end k h = marked_queue number mark.Receipted k end.sent
 kept_at (effect.Refused number code) end k h = marked_queue number (mark.Refused code) k end.sent
 kept_at (effect.Confirmed upto) end k h = refl
+kept_at (effect.Carried carried) end k h = absurd h
+kept_at (effect.Kept kept) end k h = absurd h
 
 -- an effect that takes no room leaves the queue of each effect as it is
 pub kept_queue : (e f : Effect) (end : End) → TakesNoRoom e → queue_for (after e end).sent f ≡ queue_for end.sent f
@@ -66,3 +68,5 @@ kept_queue e (effect.Delivered delivery) end h = refl
 kept_queue e (effect.Receipted number) end h = kept_at e end number h
 kept_queue e (effect.Refused number code) end h = kept_at e end number h
 kept_queue e (effect.Confirmed upto) end h = refl
+kept_queue e (effect.Carried carried) end h = refl
+kept_queue e (effect.Kept kept) end h = refl

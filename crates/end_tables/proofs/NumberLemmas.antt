@@ -1,9 +1,10 @@
 -- The number of a submission is its place.
-use Rattle.std.proofs.Common.{◌≡◌, ℕ, suc, ◌+◌, ◌<◌, ◌≤◌, List, [], ◌∷◌, Bool, IsTrue, Option, Some, None, option_map, length, refl, ◌∙◌, arith}
+use Rattle.std.proofs.Common.{◌≡◌, ℕ, suc, ◌+◌, ◌<◌, ◌≤◌, List, [], ◌∷◌, Bool, true, false, cond, ◌==◌, IsTrue, Option, Some, None, option_map, length, refl, ◌∙◌, arith}
 use Rattle.std.specs.Option.{IfSome}
 use Rattle.std.proofs.lemmas.Option.{same_Some, slice_get_past}
 use Rattle.as4_effects.specs.declared.queue.Queue.{Queue}
-use Rattle.exchange_model.specs.Apply.{is_one}
+use Rattle.as4_effects.specs.declared.mark.Mark.{Mark}
+use Rattle.exchange_model.specs.Apply.{changed, is_one, marked}
 use Rattle.exchange_model.specs.End.{End}
 use Rattle.exchange_model.specs.Numbered.{AreNumberedFrom}
 use Rattle.exchange_model.specs.Questions.{head_of, sent_at, sent_of}
@@ -49,3 +50,13 @@ one_is_small test k sent h = one_of test k sent (sent_at k sent) refl h
 -- where there is none of a place, there is none of that number
 pub none_behind : (sent : List Sent) → AreNumberedFrom 0 sent → sent_at (length sent) sent ≡ None
 none_behind sent h = place (length sent) sent h ∙ slice_get_past sent (length sent) (omega arith)
+
+-- each stands at its number whatever the marks are
+pub marked_numbered : (n : ℕ) (m : Mark) (low : ℕ) (sent : List Sent) → AreNumberedFrom low sent → AreNumberedFrom low (changed n (marked m) sent)
+unfolding AreNumberedFrom changed
+marked_numbered n m low [] h = tt
+marked_numbered n m low (s ∷ sent) h = (either (s.submission.number == n), marked_numbered n m (suc low) sent h.1)
+  where
+    either : (b : Bool) → (cond b (marked m s) s).submission.number ≡ low
+    either true = h.0
+    either false = h.0

@@ -1,6 +1,6 @@
 -- What waits keeps step with what was handed in.
-use Rattle.std.proofs.Common.{◌≡◌, ℕ, List, [], ◌∷◌, ◌++◌, Bool, IsTrue, true, false, eqb, Option, Some, None, option_map, map, length, ◌&&◌, nat_le, refl, ap, sym, ◌∙◌, inl, inr}
-use Rattle.std.proofs.lemmas.Bool.{cond-true, cond-false, cases_eq, eq-eqb, ne_eqb}
+use Rattle.std.proofs.Common.{◌≡◌, ℕ, List, [], ◌∷◌, ◌++◌, Bool, IsTrue, true, false, eqb, Option, Some, None, option_map, map, length, ◌&&◌, ◌==◌, nat_le, refl, ap, sym, ◌∙◌, inl, inr}
+use Rattle.std.proofs.lemmas.Bool.{and_parts, cond-true, cond-false, cases_eq, eq-eqb, eqb-true, ne_eqb}
 use Rattle.std.proofs.lemmas.Option.{same_Some}
 use Rattle.as4_effects.specs.declared.queue.Queue.{Queue}
 use Rattle.as4_effects.specs.declared.submission.Submission.{Submission}
@@ -12,13 +12,15 @@ use Rattle.end_tables.specs.Waiting.{waiting_in, waiting_of}
 use Rattle.end_tables.proofs.KeptLemmas.{tried_queue}
 use Rattle.end_tables.proofs.NumberLemmas.{none_behind}
 use Rattle.end_tables.proofs.QueueLemmas.{at_without, without_none}
-use Rattle.end_tables.proofs.WaitingLemmas.{changed_with, failed_waits, submitted_waits, waited, waiting_there}
-use Rattle.exchange_model.specs.Apply.{changed, failed_if_spent, is_one, marked, tried, unsent}
+use Rattle.end_tables.proofs.WaitingLemmas.{changed_with, failed_waits, pushed_waits, waited, waiting_there}
+use Rattle.exchange_model.specs.Apply.{changed, failed_if_spent, is_one, marked, tried}
 use Rattle.exchange_model.specs.Numbered.{AreNumberedFrom}
 use Rattle.exchange_model.specs.Questions.{due, is_pending, is_pending_mark, is_waiting, queue_of, sent_at}
 use Rattle.as4_effects.specs.declared.mark.Mark.{Mark}
 use Rattle.exchange_model.specs.declared.sent.Sent.{Sent}
 use Rattle.exchange_model.proofs.FoundLemmas.{sent_at_has}
+use Rattle.exchange_model.proofs.ListLemmas.{Has}
+use Rattle.exchange_model.proofs.NumberedLemmas.{itself, numbered_push}
 
 -- one that isn't there yet doesn't wait
 pub new_waits : (k : ℕ) (sent : List Sent) (waiting : List Waiting) → waiting ≡ waiting_in sent → AreNumberedFrom 0 sent → k ≡ length sent
@@ -27,17 +29,30 @@ new_waits k sent waiting step stand e =
     ap (waiting_at k) step ∙ waiting_there k sent stand
     ∙ ap (λ n. waited (sent_at n sent)) e ∙ ap waited (none_behind sent stand)
 
--- one that is handed in waits
-pub submitted_step : (submission : Submission) (queue : Queue) (sent new : List Sent) (waiting now : List Waiting)
-    → waiting ≡ waiting_in sent → AreNumberedFrom 0 sent → submission.number ≡ length sent → queue ≡ queue_of submission.route
-    → new ≡ sent ++ unsent submission ∷ []
-    → now ≡ inserted (record { queue = queue; due = submission.moment; number = submission.number }) waiting
+-- one more is the one of its number
+pushed_at : (sent : List Sent) (s : Sent) → AreNumberedFrom 0 sent → s.submission.number ≡ length sent
+    → sent_at s.submission.number (sent ++ s ∷ []) ≡ Some s
+pushed_at sent s stand e = itself 0 (sent ++ s ∷ []) s (numbered_push sent s stand e) (last_has sent)
+  where
+    last_has : (xs : List Sent) → Has (xs ++ s ∷ []) s
+    last_has [] = inl refl
+    last_has (x ∷ xs) = inr (last_has xs)
+
+-- and waits in its queue, where it waits
+pub pushed_queue : (sent new : List Sent) (s : Sent) (queue : Queue) → AreNumberedFrom 0 sent → s.submission.number ≡ length sent
+    → queue ≡ queue_of s.submission.route → new ≡ sent ++ s ∷ [] → queue ≡ queue_at s.submission.number new
+pushed_queue sent new s queue stand e q changes =
+    q ∙ ap queue_of_sent (sym (pushed_at sent s stand e)) ∙ ap (queue_at s.submission.number) (sym changes)
+
+pub pushed_step : (sent new : List Sent) (s : Sent) (waiting now : List Waiting) → waiting ≡ waiting_in sent → AreNumberedFrom 0 sent
+    → s.submission.number ≡ length sent → new ≡ sent ++ s ∷ [] → now ≡ with_again (sent_at s.submission.number new) waiting
     → now ≡ waiting_in new
-submitted_step submission queue sent new waiting now step stand e q changes puts =
+pushed_step sent new s waiting now step stand e changes puts =
     puts
-    ∙ ap (λ (x : Queue). inserted (record { queue = x; due = submission.moment; number = submission.number }) waiting) q
-    ∙ ap (inserted (waiting_of (unsent submission))) step
-    ∙ sym (submitted_waits sent submission stand e)
+    ∙ ap (λ xs. with_again (sent_at s.submission.number xs) waiting) changes
+    ∙ ap (λ o. with_again o waiting) (pushed_at sent s stand e)
+    ∙ ap (with_again (Some s)) step
+    ∙ sym (pushed_waits sent s stand e)
     ∙ ap waiting_in (sym changes)
 
 -- none that is given up waited
@@ -146,3 +161,10 @@ gone_out k waiting out e = ap (waiting_at k) e ∙ at_without k waiting
 -- a try leaves it in its queue
 pub tried_in : (k moment : ℕ) (sent new : List Sent) (queue : Queue) → queue ≡ queue_at k sent → new ≡ changed k (tried moment) sent → queue ≡ queue_at k new
 tried_in k moment sent new queue q changes = q ∙ sym (tried_queue k moment k sent) ∙ ap (queue_at k) (sym changes)
+
+-- what fits as the next one has the next number
+pub next_number : (k : ℕ) (sent : List Sent) (own : Bool) → IsTrue ((k == length sent) && own) → k ≡ length sent
+next_number k sent own fit = eqb-true _ _ (and_parts _ _ fit).0
+
+pub carried_number : (early : Bool) (k : ℕ) (sent : List Sent) (own tries : Bool) → IsTrue (early && (((k == length sent) && own) && tries)) → k ≡ length sent
+carried_number early k sent own tries fit = next_number k sent own (and_parts _ _ (and_parts _ _ fit).1).0

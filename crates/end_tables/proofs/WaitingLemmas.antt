@@ -1,12 +1,11 @@
 -- What becomes of what waits where a submission changes.
 use Rattle.std.proofs.Common.{◌≡◌, ℕ, suc, ◌+◌, ◌<◌, ◌≤◌, List, [], ◌∷◌, ◌++◌, true, false, cond, eqb, Option, Some, None, map, length, refl, ap, sym, ◌∙◌, arith, inl, inr, subst}
-use Rattle.std.proofs.lemmas.Bool.{eq-eqb, ne_eqb, cond-true, cond-false, cases_eq, cases_Bool, le-leb}
+use Rattle.std.proofs.lemmas.Bool.{eq-eqb, ne_eqb, cond-true, cond-false, cases_eq, cases_Bool}
 use Rattle.std.proofs.lemmas.Option.{none-some, same_Some}
 use Rattle.std.proofs.lemmas.Bool.Decides.{nat_tests}
-use Rattle.as4_effects.specs.declared.submission.Submission.{Submission}
 use Rattle.channels.specs.Queues.{inserted, waiting_at, without}
 use Rattle.channels.specs.declared.waiting.Waiting.{Waiting}
-use Rattle.exchange_model.specs.Apply.{changed, failed_if_spent, marked, unsent}
+use Rattle.exchange_model.specs.Apply.{changed, failed_if_spent, marked}
 use Rattle.exchange_model.specs.Numbered.{AreNumberedFrom}
 use Rattle.exchange_model.specs.Questions.{is_spent, is_waiting, sent_at}
 use Rattle.as4_effects.specs.declared.mark.Mark.TheVariants as mark
@@ -111,26 +110,24 @@ changed_with n k f (x ∷ sent) s h at e =
           changed_there k f x sent s (omega (arith, h.0)) e (changed_with (suc n) k f sent s h.1 there e)
     ]
 
--- a submission that is handed in waits last
-submitted_from : (n : ℕ) (sent : List Sent) (submission : Submission) → AreNumberedFrom n sent → submission.number ≡ n + length sent
-    → waiting_in (sent ++ unsent submission ∷ []) ≡ inserted (waiting_of (unsent submission)) (waiting_in sent)
-unfolding AreNumberedFrom inserted
-submitted_from n [] submission h e =
-    waits_first (unsent submission) [] (le-leb 0 submission.retries (omega arith)) ∙ ap (λ ws. waiting_of (unsent submission) ∷ ws) none_waits
-    ∙ ap (inserted (waiting_of (unsent submission))) (sym none_waits)
-submitted_from n (s ∷ sent) submission h e =
-    let rest = submitted_from (suc n) sent submission h.1 (omega arith) in
-    elim (cases_Bool (is_waiting s)) [
-      | inl w ↦ waits_first s (sent ++ unsent submission ∷ []) w
-          ∙ ap (λ ws. waiting_of s ∷ ws) rest
-          ∙ sym (inserted_after (waiting_of (unsent submission)) (waiting_of s) (waiting_in sent) (omega (arith, h.0)))
-          ∙ ap (inserted (waiting_of (unsent submission))) (sym (waits_first s sent w))
-      | inr w ↦ not_first s (sent ++ unsent submission ∷ []) w ∙ rest ∙ ap (inserted (waiting_of (unsent submission))) (sym (not_first s sent w))
+-- one more at the end waits last, where it waits
+pushed_from : (n : ℕ) (sent : List Sent) (s : Sent) → AreNumberedFrom n sent → s.submission.number ≡ n + length sent
+    → waiting_in (sent ++ s ∷ []) ≡ with_again (Some s) (waiting_in sent)
+unfolding AreNumberedFrom
+pushed_from n [] s h e = with_first s [] n (e ∙ omega arith) tt
+pushed_from n (x ∷ sent) s h e =
+    let rest = pushed_from (suc n) sent s h.1 (omega arith) in
+    elim (cases_Bool (is_waiting x)) [
+      | inl w ↦ waits_first x (sent ++ s ∷ []) w
+          ∙ ap (λ ws. waiting_of x ∷ ws) rest
+          ∙ sym (with_after s (waiting_of x) (waiting_in sent) (omega (arith, h.0)))
+          ∙ ap (with_again (Some s)) (sym (waits_first x sent w))
+      | inr w ↦ not_first x (sent ++ s ∷ []) w ∙ rest ∙ ap (with_again (Some s)) (sym (not_first x sent w))
     ]
 
-pub submitted_waits : (sent : List Sent) (submission : Submission) → AreNumberedFrom 0 sent → submission.number ≡ length sent
-    → waiting_in (sent ++ unsent submission ∷ []) ≡ inserted (waiting_of (unsent submission)) (waiting_in sent)
-submitted_waits sent submission h e = submitted_from 0 sent submission h (e ∙ omega arith)
+pub pushed_waits : (sent : List Sent) (s : Sent) → AreNumberedFrom 0 sent → s.submission.number ≡ length sent
+    → waiting_in (sent ++ s ∷ []) ≡ with_again (Some s) (waiting_in sent)
+pushed_waits sent s h e = pushed_from 0 sent s h (e ∙ omega arith)
 
 -- none that is spent waits
 spent_waits : (moment : ℕ) (s : Sent) → is_spent moment s ≡ true → is_waiting s ≡ false

@@ -2,6 +2,7 @@
 use Rattle.std.specs.Prelude.{◌≡◌, ℕ, List, Option, Some, None}
 use Rattle.as4_effects.specs.declared.effect.Effect.{Effect}
 use Rattle.as4_effects.specs.declared.effect.Effect.TheVariants as effect
+use Rattle.as4_effects.specs.declared.submission.Submission.{Submission}
 use Rattle.as4_effects.specs.declared.queue.Queue.{Queue}
 use Rattle.as4_effects.specs.declared.queue.Queue.TheVariants as queue
 use Rattle.channels.specs.declared.waiting.Place.{Place}
@@ -40,22 +41,32 @@ queue_for sent (effect.Delivered delivery) = queue.Push
 queue_for sent (effect.Receipted number) = queue_at number sent
 queue_for sent (effect.Refused number code) = queue_at number sent
 queue_for sent (effect.Confirmed upto) = queue.Push
+queue_for sent (effect.Carried carried) = queue_of carried.submission.route
+queue_for sent (effect.Kept kept) = queue.Push
+
+-- the tables have room for a submission
+abbrev pub HasRoomFor : Rooms → Submission → Type 0
+HasRoomFor rooms submission =
+    (rooms.outbox ≡ Some submission.header.id)
+    × (rooms.channels ≡ Some (record { queue = queue_of submission.route; number = submission.number }))
 
 -- the tables have room for the effect, at an end with these submissions
 unfoldable pub HasRoom : Rooms → List Sent → Effect → Type 0
-HasRoom rooms sent (effect.Submitted submission) =
-    (rooms.outbox ≡ Some submission.header.id)
-    × (rooms.channels ≡ Some (record { queue = queue_of submission.route; number = submission.number }))
+HasRoom rooms sent (effect.Submitted submission) = HasRoomFor rooms submission
 HasRoom rooms sent (effect.Ticked tick) = Unit {0}
 HasRoom rooms sent (effect.Tried number) = rooms.channels ≡ Some (record { queue = queue_at number sent; number = number })
 HasRoom rooms sent (effect.Delivered delivery) = rooms.inbox ≡ Some delivery.header.id
 HasRoom rooms sent (effect.Receipted number) = Unit {0}
 HasRoom rooms sent (effect.Refused number code) = Unit {0}
 HasRoom rooms sent (effect.Confirmed upto) = Unit {0}
+HasRoom rooms sent (effect.Carried carried) = HasRoomFor rooms carried.submission
+HasRoom rooms sent (effect.Kept kept) = rooms.inbox ≡ Some kept.header.id
 
 -- an effect that takes no room
 unfoldable pub TakesNoRoom : Effect → Type 0
 TakesNoRoom (effect.Submitted submission) = ⊥
 TakesNoRoom (effect.Tried number) = ⊥
 TakesNoRoom (effect.Delivered delivery) = ⊥
+TakesNoRoom (effect.Carried carried) = ⊥
+TakesNoRoom (effect.Kept kept) = ⊥
 TakesNoRoom other = Unit {0}

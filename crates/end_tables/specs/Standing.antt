@@ -1,16 +1,15 @@
 -- Effects that can be carried out at an end, one after another.
 use Rattle.std.specs.Prelude.{◌≡◌, ◌≤◌, List, [], ◌∷◌, None, length}
-use Rattle.std.specs.List.{AllByRecursion}
 use Rattle.as4_effects.specs.declared.effect.Effect.{Effect}
 use Rattle.end_tables.specs.Rooms.{TakesNoRoom}
 use Rattle.exchange_model.specs.Apply.{first_unfit}
 use Rattle.exchange_model.specs.End.{End}
 
--- one effect, or several that take no room
+-- effects of which the last alone may take room
 abbrev pub TakeOneRoom : List Effect → Type 0
 TakeOneRoom [] = Unit {0}
 TakeOneRoom (effect ∷ []) = Unit {0}
-TakeOneRoom (first ∷ second ∷ effects) = AllByRecursion TakesNoRoom (first ∷ second ∷ effects)
+TakeOneRoom (first ∷ second ∷ effects) = TakesNoRoom first × TakeOneRoom (second ∷ effects)
 
 -- effects of one event: each fits where those before it have led; no more of them than an error signal has errors
 pub record CanStand (end : End) (effects : List Effect) : Type 0 where

@@ -7,31 +7,35 @@
 //!     Ticked     those that are spent are given up: none of these waits
 //!     Delivered  the inbox has one more
 //!     Confirmed  those up to a number lose their payloads
+//!     Carried    the outbox has one more as it stood, which waits where it is to be sent again
+//!     Kept       the inbox has one more that was taken over
 //!
 //! `Outbox::len` is called where a proof needs what it says besides: that each submission stands at its number.
 
 ghost use Rattle.std.specs.Prelude.{◌≡◌, None, Some, IsTrue};
 ghost use Rattle.channels.specs.Queues.{waiting_at, without};
 ghost use Rattle.end_tables.specs.Again.{with_again};
-ghost use Rattle.end_tables.specs.Rooms.{HasRoom, queue_at, queue_for};
+ghost use Rattle.end_tables.specs.Rooms.{HasRoom, TakesNoRoom, queue_at, queue_for};
 ghost use Rattle.end_tables.specs.Waiting.{waiting_in};
 ghost use Rattle.exchange_model.specs.Apply.{after, is_fit};
 ghost use Rattle.exchange_model.specs.Questions.{sent_at};
 
 use crate::standing;
 use crate::tables::EndTables;
-use as4_effects::{Delivery, Effect, Queue, Submission, Tick};
+use as4_effects::{Carried, Delivery, Effect, Kept, Queue, Submission, Tick};
 use as4_values::Code;
 use channels::Channels;
 use outbox::Outbox;
 
 impl EndTables {
     /// Makes the change of an effect. Takes no memory.
+    #[tactic(auto, unfolding(crate::specs::Rooms::TakesNoRoom))]
     pub fn apply(&mut self, effect: Effect, queue: &Queue)
         requires fit { IsTrue (is_fit effect self.old.end) }
         requires room { HasRoom self.old.rooms self.old.end.sent effect }
         requires queue { queue.now ≡ queue_for self.old.end.sent effect }
-        ensures { self.new.end ≡ after effect self.old.end }
+        ensures end { self.new.end ≡ after effect self.old.end }
+        ensures rooms { TakesNoRoom effect → self.new.rooms ≡ self.old.rooms }
     {
         match effect {
             Effect::Submitted(submission) => self.submit(submission, queue),
@@ -41,7 +45,32 @@ impl EndTables {
             Effect::Receipted { number } => self.receipt(number, queue),
             Effect::Refused { number, code } => self.refuse(number, code, queue),
             Effect::Confirmed { upto } => self.confirm(upto),
+            Effect::Carried(carried) => self.carry(carried, queue),
+            Effect::Kept(kept) => self.keep(kept),
         }
+    }
+
+    #[tactic(auto, unfolding(exchange_model::specs::Apply::after, exchange_model::specs::Apply::is_fit, crate::specs::Rooms::HasRoom, crate::specs::Rooms::queue_for))]
+    fn carry(&mut self, carried: Carried, queue: &Queue)
+        requires fit { IsTrue (is_fit (Effect.Carried carried) self.old.end) }
+        requires room { HasRoom self.old.rooms self.old.end.sent (Effect.Carried carried) }
+        requires queue { queue.now ≡ queue_for self.old.end.sent (Effect.Carried carried) }
+        ensures { self.new.end ≡ after (Effect.Carried carried) self.old.end }
+    {
+        let number = carried.submission.number;
+        let _numbered = self.outbox.len();
+        self.outbox.carry(carried);
+        put_back(&self.outbox, &mut self.channels, queue, number);
+    }
+
+    #[tactic(auto, unfolding(exchange_model::specs::Apply::after, exchange_model::specs::Apply::is_fit, crate::specs::Rooms::HasRoom))]
+    fn keep(&mut self, kept: Kept)
+        requires fit { IsTrue (is_fit (Effect.Kept kept) self.old.end) }
+        requires room { HasRoom self.old.rooms self.old.end.sent (Effect.Kept kept) }
+        ensures { self.new.end ≡ after (Effect.Kept kept) self.old.end }
+    {
+        let Kept { header } = kept;
+        self.inbox.keep(header);
     }
 
     #[tactic(auto, unfolding(exchange_model::specs::Apply::after, exchange_model::specs::Apply::is_fit, crate::specs::Rooms::HasRoom, crate::specs::Rooms::queue_for))]
@@ -51,16 +80,17 @@ impl EndTables {
         requires queue { queue.now ≡ queue_for self.old.end.sent (Effect.Submitted submission) }
         ensures { self.new.end ≡ after (Effect.Submitted submission) self.old.end }
     {
-        let (number, due) = (submission.number, submission.moment);
+        let number = submission.number;
         let _numbered = self.outbox.len();
         self.outbox.commit_submit(submission);
-        self.channels.insert(queue, due, number);
+        put_back(&self.outbox, &mut self.channels, queue, number);
     }
 
     #[tactic(auto, unfolding(exchange_model::specs::Apply::after, exchange_model::specs::Apply::is_fit))]
     fn tick(&mut self, tick: Tick)
         requires { IsTrue (is_fit (Effect.Ticked tick) self.old.end) }
-        ensures { self.new.end ≡ after (Effect.Ticked tick) self.old.end }
+        ensures end { self.new.end ≡ after (Effect.Ticked tick) self.old.end }
+        ensures rooms { self.new.rooms ≡ self.old.rooms }
     {
         let _failed = self.outbox.fail_spent(tick.moment);
         self.moment = tick.moment;
@@ -93,7 +123,8 @@ impl EndTables {
     fn receipt(&mut self, number: u64, queue: &Queue)
         requires fit { IsTrue (is_fit (Effect.Receipted number) self.old.end) }
         requires queue { queue.now ≡ queue_for self.old.end.sent (Effect.Receipted number) }
-        ensures { self.new.end ≡ after (Effect.Receipted number) self.old.end }
+        ensures end { self.new.end ≡ after (Effect.Receipted number) self.old.end }
+        ensures rooms { self.new.rooms ≡ self.old.rooms }
     {
         let _numbered = self.outbox.len();
         take_out(&self.outbox, &mut self.channels, queue, number);
@@ -104,7 +135,8 @@ impl EndTables {
     fn refuse(&mut self, number: u64, code: Code, queue: &Queue)
         requires fit { IsTrue (is_fit (Effect.Refused number code) self.old.end) }
         requires queue { queue.now ≡ queue_for self.old.end.sent (Effect.Refused number code) }
-        ensures { self.new.end ≡ after (Effect.Refused number code) self.old.end }
+        ensures end { self.new.end ≡ after (Effect.Refused number code) self.old.end }
+        ensures rooms { self.new.rooms ≡ self.old.rooms }
     {
         let _numbered = self.outbox.len();
         take_out(&self.outbox, &mut self.channels, queue, number);
@@ -114,7 +146,8 @@ impl EndTables {
     #[tactic(auto, unfolding(exchange_model::specs::Apply::after, exchange_model::specs::Apply::is_fit))]
     fn confirm(&mut self, upto: u64)
         requires { IsTrue (is_fit (Effect.Confirmed upto) self.old.end) }
-        ensures { self.new.end ≡ after (Effect.Confirmed upto) self.old.end }
+        ensures end { self.new.end ≡ after (Effect.Confirmed upto) self.old.end }
+        ensures rooms { self.new.rooms ≡ self.old.rooms }
     {
         self.inbox.confirm(upto);
     }
@@ -135,7 +168,7 @@ fn take_out(outbox: &Outbox, channels: &mut Channels, queue: &Queue, number: u64
     }
 }
 
-/// Puts a submission back into its queue, where it still waits.
+/// Puts a submission into its queue, where it waits.
 fn put_back(outbox: &Outbox, channels: &mut Channels, queue: &Queue, number: u64)
     requires gone { waiting_at number channels.old.waiting ≡ None }
     requires queue { queue.now ≡ queue_at number outbox.now.sent }

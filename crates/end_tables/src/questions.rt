@@ -2,17 +2,17 @@
 //!
 //! `Outbox::len` is called where a proof needs what it says besides: that each submission stands at its number.
 
-ghost use Rattle.std.specs.Prelude.{◌≡◌, option_map, option_copied, IfSome};
+ghost use Rattle.std.specs.Prelude.{◌≡◌, ◌≤◌, option_map, option_copied, slice_get, IfSome, IsTrue};
 ghost use Rattle.std.specs.Option.{option_and_then};
 ghost use Rattle.end_tables.specs.Reading.{IsRead};
-ghost use Rattle.exchange_model.specs.Apply.{is_fit, is_one};
+ghost use Rattle.exchange_model.specs.Apply.{after, are_tries, as_carried, is_fit, is_next, is_one};
 ghost use Rattle.exchange_model.specs.Questions.{head_of, is_known, is_pending, sent_at, sent_of, standing_of};
 ghost use Rattle.outbox.specs.Submissions.{code_of};
 
 use crate::standing;
 use crate::tables::EndTables;
-use as4_effects::{Effect, Queue, Submission};
-use as4_values::{Code, MessageId};
+use as4_effects::{Carried, Effect, Mark, Queue, Submission};
+use as4_values::{Code, MAX_MOMENT, MessageId, UserHeader};
 use exchange_model::Standing;
 use inbox::Held;
 
@@ -40,6 +40,21 @@ impl EndTables {
         self.outbox.status(number)
     }
 
+    /// How often the submission of this number was handed out, and when last: 0 where it never was.
+    pub fn tried(&self, number: u64) -> Option<(u32, u64)>
+        ensures value { result ≡ option_map (λ s. (s.tries, s.last)) (sent_at number self.now.end.sent) }
+        ensures dated { IfSome result (λ tried. tried.1 ≤ MAX_MOMENT) }
+    {
+        self.outbox.tried(number)
+    }
+
+    /// What became of the submission of this number.
+    pub fn mark(&self, number: u64) -> Option<&Mark>
+        ensures { option_copied result ≡ option_map (λ s. s.mark) (sent_at number self.now.end.sent) }
+    {
+        self.outbox.mark(number)
+    }
+
     /// The code of the error with which the other end refused the submission.
     pub fn refused_code(&self, number: u64) -> Option<&Code>
         ensures { option_copied result ≡ option_and_then (λ s. code_of s.mark) (sent_at number self.now.end.sent) }
@@ -63,6 +78,18 @@ impl EndTables {
         self.channels.head(queue, self.moment)
     }
 
+    /// The number of the head that the queue has behind the receipt of a pending submission.
+    pub fn head_behind(&self, queue: &Queue, receipted: u64) -> Option<u64>
+        requires { IsTrue (is_fit (Effect.Receipted receipted) self.now.end) }
+        ensures value { result ≡ option_map (λ s. s.submission.number)
+            (head_of queue.now (after (Effect.Receipted receipted) self.now.end)) }
+        ensures found { IfSome result (λ number. option_map (λ s. s.submission) (sent_at number self.now.end.sent)
+            ≡ option_map (λ s. s.submission) (head_of queue.now (after (Effect.Receipted receipted) self.now.end))) }
+    {
+        let _numbered = self.outbox.len();
+        self.channels.head_without(queue, self.moment, receipted)
+    }
+
     /// Whether a message of this identifier came.
     pub fn holds(&self, id: &MessageId) -> bool
         ensures { result ≡ is_known id.now self.now.end.inbox }
@@ -78,16 +105,20 @@ impl EndTables {
         self.inbox.read(n)
     }
 
+    /// The header of the message that came under this number, from 0, taken over or not.
+    pub fn header(&self, n: u64) -> Option<&UserHeader>
+        ensures { option_copied result ≡ option_map (λ entry. entry.header) (slice_get self.now.end.inbox n) }
+    {
+        self.inbox.header(n)
+    }
+
     /// Whether the effect can stand here.
     #[tactic(auto, unfolding(exchange_model::specs::Apply::is_fit))]
     pub fn fits(&self, effect: &Effect) -> bool
         ensures { result ≡ is_fit effect.now self.now.end }
     {
         match effect {
-            Effect::Submitted(submission) => {
-                submission.number == self.outbox.len()
-                    && self.outbox.number_of(&submission.header.id).is_none()
-            }
+            Effect::Submitted(submission) => self.is_next(submission),
             Effect::Ticked(tick) => self.moment < tick.moment,
             Effect::Tried { number } => standing::waits(&self.outbox, *number),
             Effect::Delivered(delivery) => !self.inbox.holds(&delivery.header.id),
@@ -96,6 +127,31 @@ impl EndTables {
             Effect::Confirmed { upto } => {
                 self.inbox.confirmed() <= *upto && *upto < self.inbox.len()
             }
+            Effect::Carried(carried) => {
+                self.moment == 0 && self.is_next(&carried.submission) && has_tries(carried)
+            }
+            Effect::Kept(kept) => {
+                !self.inbox.holds(&kept.header.id) && self.inbox.confirmed() == self.inbox.len()
+            }
         }
     }
+
+    /// Whether the submission has the next number, and an identifier of its own.
+    fn is_next(&self, submission: &Submission) -> bool
+        ensures { result ≡ is_next submission.now self.now.end }
+    {
+        submission.number == self.outbox.len()
+            && self.outbox.number_of(&submission.header.id).is_none()
+    }
+}
+
+/// Whether a submission may have been sent so often, and last at that moment, and stand so.
+fn has_tries(carried: &Carried) -> bool
+    ensures { result ≡ are_tries (as_carried carried.now) }
+{
+    let most = carried.submission.retries + 1;
+    let failed = matches!(carried.standing, Mark::Failed);
+    carried.tries <= most
+        && (!failed || carried.tries == most)
+        && (carried.tries != 0 || carried.last == 0)
 }

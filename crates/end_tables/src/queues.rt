@@ -38,7 +38,9 @@ impl EndTables {
             Effect::Tried { number } => self.queue_at(*number),
             Effect::Receipted { number } => self.queue_at(*number),
             Effect::Refused { number, .. } => self.queue_at(*number),
-            Effect::Ticked(_) | Effect::Delivered(_) | Effect::Confirmed { .. } => Ok(Queue::Push),
+            Effect::Carried(carried) => queue_of(self.alloc, &carried.submission.route),
+            Effect::Ticked(_) | Effect::Delivered(_) | Effect::Confirmed { .. } | Effect::Kept(_) =>
+                Ok(Queue::Push),
         }
     }
 

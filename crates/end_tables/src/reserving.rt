@@ -21,10 +21,9 @@ impl EndTables {
         match effect {
             Effect::Submitted(submission) => self.reserve_submission(submission),
             Effect::Tried { number } => self.reserve_again(*number),
-            Effect::Delivered(delivery) => {
-                self.inbox.reserve(&delivery.header.id)?;
-                Ok(())
-            }
+            Effect::Delivered(delivery) => self.inbox.reserve(&delivery.header.id),
+            Effect::Carried(carried) => self.reserve_submission(&carried.submission),
+            Effect::Kept(kept) => self.inbox.reserve(&kept.header.id),
             _ => Ok(()),
         }
     }

@@ -6,6 +6,7 @@
 
 ghost use Rattle.std.specs.Prelude.{◌≡◌, ◌+◌, ◌≤◌, length};
 ghost use Rattle.end_tables.specs.Rooms.{new_tables};
+ghost use Rattle.exchange_model.specs.Fold.{resized};
 ghost use Rattle.exchange_model.specs.Numbered.{AreNumberedFrom};
 
 use as4_values::MAX_MOMENT;
@@ -16,9 +17,9 @@ use std::alloc::Global;
 use std::marker::Model;
 
 /// The most bytes that a journal has.
-pub const MAX_SIZE: u64 = 1 << 30;
+pub const MAX_SIZE: u64 = 1 << 32;
 
-const _: () = prove!(MAX_SIZE == 1073741824);
+const _: () = prove!(MAX_SIZE == 4294967296);
 
 /// The tables of one end. Contracts see a `Kept`: the end, and what the tables have room for.
 #[derive(Drop)]
@@ -47,7 +48,7 @@ impl Model for EndTables {
     } };
 
     ghost invariant = { λ t. (t.channels.waiting ≡ waiting_in t.outbox.sent) × (t.moment ≤ 253402300799999)
-        × (t.size ≤ 1073741824) × (9 ≤ t.size) };
+        × (t.size ≤ 4294967296) × (9 ≤ t.size) };
 }
 
 impl EndTables {
@@ -105,6 +106,16 @@ impl EndTables {
         ensures within { result ≤ length self.now.end.inbox }
     {
         self.inbox.confirmed()
+    }
+
+    /// The journal has so many bytes from now on.
+    pub fn resize(&mut self, size: u64)
+        requires begun { 9 ≤ size }
+        requires limited { size ≤ MAX_SIZE }
+        ensures end { self.new.end ≡ resized size self.old.end }
+        ensures rooms { self.new.rooms ≡ self.old.rooms }
+    {
+        self.size = size;
     }
 
     /// The journal has grown by so many bytes.

@@ -1,5 +1,5 @@
 -- Which entries have lost their payloads.
-use Rattle.std.proofs.Common.{◌≡◌, ℕ, zero, suc, ◌+◌, ◌<◌, ◌≤◌, List, [], ◌∷◌, ◌++◌, length, get_or, refl, ap, arith, add-one}
+use Rattle.std.proofs.Common.{◌≡◌, ℕ, zero, suc, ◌+◌, ◌<◌, ◌≤◌, List, [], ◌∷◌, ◌++◌, length, get_or, refl, sym, ap, ◌∙◌, arith, add-one}
 use Rattle.std.proofs.Math.ListN.{set}
 use Rattle.as4_values.specs.declared.payload.Payload.{Payload}
 use Rattle.exchange_model.specs.Apply.{emptied}
@@ -45,3 +45,19 @@ emptied_twice (suc n) (y ∷ xs) = ap (λ ys. record y { payloads = [] } ∷ ys)
 
 pub kept_emptied : (n : ℕ) (xs ys : List InboxEntry) → ys ≡ emptied n xs → emptied n ys ≡ ys
 kept_emptied n xs ys e = rw e (emptied_twice n xs)
+
+-- where all are empty, an empty one more leaves them so
+kept_suc : (n : ℕ) (xs : List InboxEntry) (x : InboxEntry) → n ≡ length xs → emptied n xs ≡ xs → x.payloads ≡ []
+    → emptied (suc n) (xs ++ x ∷ []) ≡ xs ++ x ∷ []
+unfolding emptied
+kept_suc zero [] x e kept none = ap (λ (p : List Payload). record x { payloads = p } ∷ []) (sym none)
+kept_suc zero (y ∷ xs) x e kept none = absurd (omega arith)
+kept_suc (suc n) [] x e kept none = absurd (omega arith)
+kept_suc (suc n) (y ∷ xs) x e kept none =
+    let first : record y { payloads = [] } ≡ y = cc in
+    let rest : emptied n xs ≡ xs = cc in
+    ap (λ ys. record y { payloads = [] } ∷ ys) (kept_suc n xs x (omega arith) rest none) ∙ ap (λ z. z ∷ (xs ++ x ∷ [])) first
+
+pub kept_all : (n : ℕ) (xs : List InboxEntry) (x : InboxEntry) → n ≡ length xs → emptied n xs ≡ xs → x.payloads ≡ []
+    → emptied (n + 1) (xs ++ x ∷ []) ≡ xs ++ x ∷ []
+kept_all n xs x e kept none = rw add-one (kept_suc n xs x e kept none)

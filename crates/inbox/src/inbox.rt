@@ -3,7 +3,7 @@
 //!     0 .. confirmed    taken over: the header stays, so that the identifier is held for good
 //!     confirmed .. len  header and payloads
 
-ghost use Rattle.std.specs.Prelude.{◌≡◌, ◌+◌, ◌<◌, ◌≤◌, ◌++◌, ◌∷◌, [], List, false, length, OnOk, IsSome, vec_len};
+ghost use Rattle.std.specs.Prelude.{◌≡◌, ◌+◌, ◌<◌, ◌≤◌, ◌++◌, ◌∷◌, [], List, false, length, option_copied, option_map, slice_get, OnOk, IsSome, vec_len};
 ghost use Rattle.std.specs.Vec.{vec_capacity};
 ghost use Rattle.exchange_model.specs.Apply.{emptied};
 ghost use Rattle.exchange_model.specs.Questions.{is_known};
@@ -63,18 +63,39 @@ impl Inbox {
     }
 
     /// Adds a message; takes no memory.
-    #[tactic(auto, using(crate::proofs::EmptiedLemmas::kept_push))]
     pub fn commit(&mut self, header: UserHeader, payloads: Seq<Payload>)
         requires room { self.old.room ≡ Some header.id }
         requires new { is_known header.id self.old.entries ≡ false }
         ensures entries { self.new.entries ≡ self.old.entries ++ record { header = header; payloads = payloads } ∷ [] }
         ensures confirmed { self.new.confirmed ≡ self.old.confirmed }
     {
+        self.push(InboxEntry { header, payloads });
+    }
+
+    /// Adds a message that came and was taken over; takes no memory.
+    #[tactic(auto, using(crate::proofs::EmptiedLemmas::kept_all))]
+    pub fn keep(&mut self, header: UserHeader)
+        requires room { self.old.room ≡ Some header.id }
+        requires new { is_known header.id self.old.entries ≡ false }
+        requires all { self.old.confirmed ≡ length self.old.entries }
+        ensures entries { self.new.entries ≡ self.old.entries ++ record { header = header; payloads = [] } ∷ [] }
+        ensures confirmed { self.new.confirmed ≡ self.old.confirmed + 1 }
+    {
+        let payloads = Seq::of(Vec::new(self.alloc));
+        self.push(InboxEntry { header, payloads });
+        self.confirmed += 1;
+    }
+
+    /// Adds an entry, and its room is used up.
+    #[tactic(auto, using(crate::proofs::EmptiedLemmas::kept_push))]
+    fn push(&mut self, entry: InboxEntry)
+        requires { IsSome self.old.room }
+        ensures entries { self.new.entries ≡ self.old.entries ++ entry ∷ [] }
+        ensures confirmed { self.new.confirmed ≡ self.old.confirmed }
+        ensures room { self.new.room ≡ None }
+    {
         self.room = None;
-        match self.entries.push(InboxEntry { header, payloads }) {
-            Ok(()) => {}
-            Err(_) => unreachable!(),
-        }
+        self.entries.push_reserved(entry);
     }
 
     /// Whether a message of this identifier came, taken over or not.
@@ -117,6 +138,14 @@ impl Inbox {
             },
             None => Held::NoEntry,
         }
+    }
+
+    /// The header of the message of this number, from 0, taken over or not.
+    pub fn header(&self, n: u64) -> Option<&UserHeader>
+        ensures { option_copied result ≡ option_map (λ entry. entry.header) (slice_get self.now.entries n) }
+    {
+        let entry = self.entries.get(n as usize)?;
+        Some(&entry.header)
     }
 
     /// The messages up to this one were taken over: their payloads go. Takes no memory.

@@ -1,14 +1,14 @@
 //! The outbox: the submission of each number stands at that place.
 
-ghost use Rattle.std.specs.Prelude.{◌≡◌, ◌≤◌, [], ◌∷◌, ◌++◌, IsTrue, length, map, count_by, option_map, option_copied, IfSome, OnOk};
+ghost use Rattle.std.specs.Prelude.{◌≡◌, ◌≤◌, [], ◌∷◌, ◌++◌, IsSome, IsTrue, length, map, count_by, option_map, option_copied, IfSome, OnOk};
 ghost use Rattle.std.specs.Option.{option_and_then};
 ghost use Rattle.exchange_model.specs.Questions.{due, is_pending, is_waiting, is_spent, sent_at, sent_of, standing_of};
-ghost use Rattle.exchange_model.specs.Apply.{unsent, tried, marked, changed, failed_if_spent, is_one};
+ghost use Rattle.exchange_model.specs.Apply.{unsent, as_carried, tried, marked, changed, failed_if_spent, is_one};
 ghost use Rattle.exchange_model.specs.Numbered.{AreNumberedFrom};
 ghost use Rattle.outbox.specs.Submissions.{code_of};
 
 use crate::marking;
-use as4_effects::Submission;
+use as4_effects::{Carried, Submission};
 use as4_values::{Code, MAX_MOMENT, MessageId, NoMemory, PlainData};
 use exchange_model::{Mark, Sent, Standing};
 use std::alloc::Global;
@@ -90,6 +90,24 @@ impl Outbox {
         Some(marking::due_of(sent))
     }
 
+    /// How often the submission was handed out, and when last, in milliseconds since 1970-01-01T00:00:00Z: 0 where it
+    /// never was.
+    pub fn tried(&self, number: u64) -> Option<(u32, u64)>
+        ensures value { result ≡ option_map (λ s. (s.tries, s.last)) (sent_at number self.now.sent) }
+        ensures dated { IfSome result (λ tried. tried.1 ≤ MAX_MOMENT) }
+    {
+        let sent = self.at(number)?;
+        Some((sent.tries, sent.last))
+    }
+
+    /// What became of the submission.
+    pub fn mark(&self, number: u64) -> Option<&Mark>
+        ensures { option_copied result ≡ option_map (λ s. s.mark) (sent_at number self.now.sent) }
+    {
+        let sent = self.at(number)?;
+        Some(&sent.mark)
+    }
+
     /// The code of the error with which the other end refused the submission.
     pub fn refused_code(&self, number: u64) -> Option<&Code>
         ensures { option_copied result ≡ option_and_then (λ s. code_of s.mark) (sent_at number self.now.sent) }
@@ -121,12 +139,43 @@ impl Outbox {
         requires new { sent_of submission.header.id self.old.sent ≡ None }
         ensures { self.new.sent ≡ self.old.sent ++ unsent submission ∷ [] }
     {
-        self.sent.push_reserved(Sent {
+        self.push(Sent {
             submission,
             tries: 0,
             last: 0,
             mark: Mark::Pending,
         });
+    }
+
+    /// Adds a submission as it was carried over; takes no memory.
+    pub fn carry(&mut self, carried: Carried)
+        requires room { self.old.room ≡ Some carried.submission.header.id }
+        requires next { carried.submission.number ≡ length self.old.sent }
+        requires new { sent_of carried.submission.header.id self.old.sent ≡ None }
+        ensures { self.new.sent ≡ self.old.sent ++ as_carried carried ∷ [] }
+    {
+        let Carried {
+            submission,
+            tries,
+            last,
+            standing,
+        } = carried;
+        self.push(Sent {
+            submission,
+            tries,
+            last,
+            mark: standing,
+        });
+    }
+
+    /// Adds one at the end, and its room is used up.
+    fn push(&mut self, sent: Sent)
+        requires room { IsSome self.old.room }
+        requires next { sent.submission.number ≡ length self.old.sent }
+        requires dated { sent.last ≤ MAX_MOMENT }
+        ensures { self.new.sent ≡ self.old.sent ++ sent ∷ [] }
+    {
+        self.sent.push_reserved(sent);
         self.room = None;
     }
 

@@ -1,27 +1,25 @@
-use Rattle.std.proofs.Common.{IsTrue, ◌&&◌, ◌==◌, length, not, true}
-use Rattle.std.proofs.lemmas.Bool.{and_parts, eqb-true}
-use Rattle.exchange_model.specs.Apply.{is_fit, is_one}
-use Rattle.exchange_model.specs.Questions.{sent_of}
+use Rattle.exchange_model.specs.Apply.{is_fit, unsent}
 use Rattle.end_tables.specs.Rooms.{queue_for}
-use Rattle.end_tables.proofs.StepLemmas.{new_waits, submitted_step}
+use Rattle.end_tables.proofs.StepLemmas.{new_waits, next_number, pushed_queue, pushed_step}
 use Rattle.end_tables.proofs.tables.EndTables.submit.Goals as goal
 
-pub insert-requires-clause-new : goal.insert-requires-clause-new
+pub put_back-requires-clause-gone : goal.put_back-requires-clause-gone
 unfolding is_fit
-insert-requires-clause-new c =
-    let submission = c.args.submission in
-    let sent = c.self.inside.outbox.sent in
-    let fit : IsTrue ((submission.number == length sent) && not (is_one (λ s. true) (sent_of submission.header.id sent))) = rw (← c.self.view_is) at c.requires.fit in
-    new_waits _ sent _ c.self.invariant.0 c.len-numbered.ensures.numbered (eqb-true _ _ (and_parts _ _ fit).0)
+put_back-requires-clause-gone c =
+    new_waits _ _ _ c.self.invariant.0 c.len-numbered.ensures.numbered (next_number _ c.self.inside.outbox.sent _ (rw (← c.self.view_is) at c.requires.fit))
+
+pub put_back-requires-clause-queue : goal.put_back-requires-clause-queue
+unfolding is_fit queue_for
+put_back-requires-clause-queue c =
+    pushed_queue c.self.inside.outbox.sent _ (unsent c.args.submission) _ c.len-numbered.ensures.numbered
+    (next_number _ c.self.inside.outbox.sent _ (rw (← c.self.view_is) at c.requires.fit)) c.requires.queue c.commit_submit.ensures
 
 pub invariant_of-self : goal.invariant_of-self
-unfolding is_fit queue_for
-invariant_of-self c =
-    let submission = c.args.submission in
-    let sent = c.self.inside.outbox.sent in
-    let fit : IsTrue ((submission.number == length sent) && not (is_one (λ s. true) (sent_of submission.header.id sent))) = rw (← c.self.view_is) at c.requires.fit in (
-      submitted_step submission _ sent _ _ _ c.self.invariant.0 c.len-numbered.ensures.numbered (eqb-true _ _ (and_parts _ _ fit).0) c.requires.queue c.commit_submit.ensures c.insert.ensures,
-      c.self.invariant.1,
-      c.self.invariant.2,
-      c.self.invariant.3,
-    )
+unfolding is_fit
+invariant_of-self c = (
+  pushed_step c.self.inside.outbox.sent _ (unsent c.args.submission) _ _ c.self.invariant.0 c.len-numbered.ensures.numbered
+      (next_number _ c.self.inside.outbox.sent _ (rw (← c.self.view_is) at c.requires.fit)) c.commit_submit.ensures c.put_back.ensures,
+  c.self.invariant.1,
+  c.self.invariant.2,
+  c.self.invariant.3,
+)

@@ -1,9 +1,0 @@
-use Rattle.std.proofs.Common.{arith}
-use Rattle.outbox.proofs.StandLemmas.{push_stands}
-use Rattle.outbox.proofs.outbox.Outbox.commit_submit.Goals as goal
-
-pub invariant_of-self : goal.invariant_of-self
-invariant_of-self c = (
-  rw c.push_reserved.ensures.items (push_stands _ _ (rw (← c.self.view_is) at c.requires.next) (omega arith) c.self.invariant.0),
-  λ some. absurd (cc),
-)
