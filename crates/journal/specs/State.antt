@@ -5,6 +5,7 @@ use Rattle.as4_disk.specs.Image.{Image}
 use Rattle.journal.specs.declared.version.Version.TheVariants.{Two}
 use Rattle.journal.specs.declared.journal.Journal.{Journal}
 use Rattle.journal.specs.Leaf.{limit_of, front_of}
+use Rattle.journal.specs.Reading.{IsAhead}
 use Rattle.journal.specs.Settled.{IsSettled, Reads}
 use Rattle.journal.specs.declared.fault.JournalFault.{JournalFault}
 use Rattle.journal.specs.declared.fault.JournalFault.TheVariants.{Disk, NotJournal, Full, NoMemory}
@@ -27,7 +28,8 @@ IsDiskFault NoMemory = ⊥
 IsDiskFault (NotJournal at) = ⊥
 IsDiskFault (Full size need) = ⊥
 
--- These records were read so far, and the journal stands at the next gate. Where that is open, the leaf isn't new.
+-- These records were read so far, and the journal stands at the next gate, of which something may have been read ahead.
+-- Where that gate is open, the leaf isn't new.
 pub record HasRead {D : Type 0} (seen : D → Option Image) (may_leave : D → Image → Type 0) (journal : Journal D) (bodies : List (List ℕ)) : Type 0 where
   pub next : ℕ
   pub rest : List ℕ
@@ -35,6 +37,7 @@ pub record HasRead {D : Type 0} (seen : D → Option Image) (may_leave : D → I
   pub place : journal.gate ≡ length (front_of journal.version bodies)
   pub within : length (front_of journal.version bodies) < limit_of journal.version
   pub made : next ≡ 1 → 9 < length (front_of journal.version bodies ++ next ∷ rest)
+  pub ahead : IsAhead journal.version (next ∷ rest) journal.ahead
 
 -- All records were read, and these are they: each crash leaves them, with a closed gate 0 behind.
 pub record HasRecords {D : Type 0} (seen : D → Option Image) (may_leave : D → Image → Type 0) (journal : Journal D) (bodies : List (List ℕ)) : Type 0 where

@@ -46,6 +46,7 @@ impl<D: Disk> Journal<D> {
         match add_record(&mut self.disk, self.is_second, gate, frame) {
             Ok(()) => {
                 self.gate = gate + need;
+                self.ahead = None;
                 Ok(gate)
             }
             Err(DiskFailed) => {

@@ -2,7 +2,7 @@
 ghost use Rattle.std.specs.Prelude.{◌≡◌, ◌≢◌, ◌++◌, ◌∷◌, ◌<◌, ◌≤◌, IfOk, IfErr, IsErrOf, List, ℕ, length};
 ghost use Rattle.as4_disk.specs.Runs.{Quiet};
 
-use crate::reading::read_body;
+use crate::reading::{Next, read_next};
 use crate::store::leaf_part;
 use crate::{Journal, JournalFault};
 use as4_disk::{Disk, ReadFault};
@@ -35,9 +35,10 @@ impl<D: Disk> Journal<D> {
         }
         let before = self.disk.faults();
         let part = leaf_part(self.is_second);
-        match read_body(alloc, &mut self.disk, part, self.version, gate) {
-            Ok(Some(body)) => Ok(body),
-            Ok(None) => Ok(nothing),
+        match read_next(alloc, &mut self.disk, part, self.version, gate, None) {
+            Ok(Next::Record(body, _)) => Ok(body),
+            Ok(Next::Closed(_)) => Ok(nothing),
+            Ok(Next::Broken) => Ok(nothing),
             Err(ReadFault::NoMemory) => Err(JournalFault::NoMemory),
             Err(ReadFault::Disk) => {
                 let after = self.disk.faults();

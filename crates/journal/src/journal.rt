@@ -24,6 +24,8 @@ pub struct Journal<D> {
     pub(crate) version: Version,
     // The place of the next gate to be read, and then of the closed gate.
     pub(crate) gate: u64,
+    // That gate and the length behind it, where they were read with the record before.
+    pub(crate) ahead: Option<[u8; 9]>,
     // While a fold is open, the place of its next gate in the other leaf.
     pub(crate) fold: Option<u64>,
     ghost in_range: { gate < 2 ^ 32 },
@@ -61,6 +63,7 @@ impl<D: Disk> Journal<D> {
                 is_second,
                 version,
                 gate: 8,
+                ahead: None,
                 fold: None,
             }),
             Ok(None) => Err((JournalFault::NotJournal { at: 0 }, disk)),
@@ -95,6 +98,7 @@ impl<D: Disk> Journal<D> {
             is_second: _,
             version: _,
             gate: _,
+            ahead: _,
             fold: _,
         } = self;
         disk

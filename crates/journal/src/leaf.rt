@@ -4,7 +4,7 @@ ghost use Rattle.journal.specs.Leaf.{Lists, IsBroken};
 ghost use Rattle.journal.specs.Reading.{IsBodyAt, HasNoBody};
 
 use crate::LeafRefusal;
-use crate::reading::length_in;
+use crate::reading::body_len;
 use crate::starting::version_in;
 use crate::version::Version;
 use as4_values::{Octets, Seq};
@@ -58,16 +58,8 @@ fn body_in(version: Version, gate: u64, behind: &[u8]) -> Option<&[u8]>
     ensures none { IfNone result (HasNoBody version gate behind.now) }
 {
     let width = version.width() as usize;
-    if behind.len() < width {
-        return None;
-    }
-    let len = length_in(version, &behind[..width]);
-    if version.limit().saturating_sub(gate + 1 + version.width()) <= len {
-        return None;
-    }
+    let head = &behind[..width.min(behind.len())];
+    let len = body_len(version, gate, behind.len() as u64, head)?;
     let rest = &behind[width..];
-    if rest.len() as u64 <= len {
-        return None;
-    }
     Some(&rest[..len as usize])
 }

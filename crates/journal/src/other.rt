@@ -88,6 +88,23 @@ pub(crate) fn empty_other<D: Disk>(disk: &mut D, is_second: bool) -> Result<(), 
     Ok(())
 }
 
+/// Closes the leaf that isn't picked by a gate 0, and settles it.
+fn close_other<D: Disk>(disk: &mut D, is_second: bool, at: u64) -> Result<(), DiskFailed>
+    requires { Told (D.seen disk.old) (λ b. at ≤ length (b (leaf_of (not is_second)))) }
+    ensures kept { OnOk result ((leaf other : List ℕ) → at ≡ length other
+        → IsSettled D.seen D.may_leave disk.old is_second leaf → Reads D.seen disk.old is_second other
+        → IsSettled D.seen D.may_leave disk.new is_second leaf
+        × ReadsSettled D.seen D.may_leave disk.new is_second (other ++ 0 ∷ [])) }
+    ensures any_moment { (leaf other : List ℕ) → IsSettled D.seen D.may_leave disk.old is_second leaf
+        → Reads D.seen disk.old is_second other
+        → LeavesOnly D.moment D.left_since disk.old disk.new (λ c. picked_leaf c ≡ leaf) }
+    ensures cause { HasCause (D.fault_count disk.old) (D.fault_count disk.new) result }
+{
+    write_other(disk, is_second, at, &[0])?;
+    sync_other(disk, is_second)?;
+    Ok(())
+}
+
 /// Closes the leaf that isn't picked by a gate 0, settles it, and picks it.
 pub(crate) fn finish_other<D: Disk>(
     disk: &mut D,
@@ -104,8 +121,7 @@ pub(crate) fn finish_other<D: Disk>(
         (λ c. picked_leaf c ≡ leaf) (λ c. (picked_leaf c ≡ leaf) ⊎ (picked_leaf c ≡ other ++ 0 ∷ [])) }
     ensures cause { HasCause (D.fault_count disk.old) (D.fault_count disk.new) result }
 {
-    write_other(disk, is_second, at, &[0])?;
-    sync_other(disk, is_second)?;
+    close_other(disk, is_second, at)?;
     pick_other(disk, is_second)?;
     Ok(())
 }

@@ -4,7 +4,7 @@ ghost use Rattle.as4_flow.specs.Told.{Told};
 ghost use Rattle.as4_flow.specs.Faults.{Rose};
 ghost use Rattle.as4_disk.specs.Runs.{LeavesOnly, Quiet};
 ghost use Rattle.journal.specs.Leaf.{front_of, limit_of};
-ghost use Rattle.journal.specs.Reading.{IsWithin};
+ghost use Rattle.journal.specs.Reading.{IsWithin, IsAhead};
 ghost use Rattle.journal.specs.Store.{Reopens};
 ghost use Rattle.journal.specs.Settled.{IsSettled};
 ghost use Rattle.journal.specs.Passing.{Passes, IsQuiet};
@@ -22,10 +22,11 @@ pub(crate) fn pass<D: Disk>(
     is_second: bool,
     version: Version,
     gate: u64,
+    ahead: Option<[u8; 9]>,
 ) -> Result<Next, ReadFault>
     requires { gate < 2 ^ 32 }
     ensures passes { IfOk result (λ next. (bodies : _) (byte : _) (rest : _) → gate ≡ length (front_of version bodies)
-        → length (front_of version bodies) < limit_of version
+        → length (front_of version bodies) < limit_of version → IsAhead version (byte ∷ rest) ahead
         → IsSettled D.seen D.may_leave disk.old is_second (front_of version bodies ++ byte ∷ rest)
         → Passes D.seen D.may_leave disk.new is_second version bodies byte rest next) }
     ensures within { IfOk result (λ next. IsWithin version gate next) }
@@ -35,14 +36,14 @@ pub(crate) fn pass<D: Disk>(
         → Quiet D.moment D.left_since D.seen D.may_leave disk.old disk.new }
 
     ensures any_moment { (bodies : _) (byte : _) (rest : _) → gate ≡ length (front_of version bodies)
-        → length (front_of version bodies) < limit_of version
+        → length (front_of version bodies) < limit_of version → IsAhead version (byte ∷ rest) ahead
         → IsSettled D.seen D.may_leave disk.old is_second (front_of version bodies ++ byte ∷ rest)
         → Told (D.seen disk.old) (λ b. LeavesOnly D.moment D.left_since disk.old disk.new (Reopens b)) }
     ensures cause { IsErrOf result ReadFault.Disk → Rose (D.fault_count disk.old) (D.fault_count disk.new) }
     ensures counted { D.fault_count disk.old ≤ D.fault_count disk.new }
 {
-    match read_next(alloc, disk, leaf_part(is_second), version, gate)? {
-        Next::Record(body) => Ok(Next::Record(body)),
+    match read_next(alloc, disk, leaf_part(is_second), version, gate, ahead)? {
+        Next::Record(body, ahead) => Ok(Next::Record(body, ahead)),
         Next::Closed(0) => Ok(Next::Closed(0)),
         Next::Closed(byte) => {
             write_picked(disk, is_second, gate, &[0])?;

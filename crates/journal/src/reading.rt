@@ -1,117 +1,169 @@
 //! What stands at a gate of a leaf: a record, a closed gate, or neither.
-ghost use Rattle.std.specs.Prelude.{◌≡◌, ◌≢◌, ◌+◌, ◌<◌, ◌≤◌, ◌^◌, length, drop, IfOk, IfSome, IfNone, IsErrOf};
+ghost use Rattle.std.specs.Prelude.{◌≡◌, ℕ, ◌+◌, ◌<◌, ◌≤◌, ◌^◌, List, length, take, drop, IfOk, IfSome, IfNone, OnOk, IsErrOf};
 ghost use Rattle.as4_flow.specs.Told.{Told};
 ghost use Rattle.as4_flow.specs.Faults.{Rose};
-ghost use Rattle.as4_disk.specs.Runs.{Quiet};
+ghost use Rattle.as4_disk.specs.Runs.{Quiet, HasCause};
 ghost use Rattle.journal.specs.Leaf.{width_of, limit_of};
-ghost use Rattle.journal.specs.Reading.{IsNext, IsWithin, IsLength, HasLength, HasNoBody, IsBodyAt, gate_behind};
+ghost use Rattle.journal.specs.Reading.{IsNext, IsThere, IsWithin, IsAhead, IsLength, IsHead, HasNoBody, IsBodyAt};
 
 use crate::version::Version;
-use as4_disk::{Disk, Part, ReadFault, read_some};
+use as4_disk::{Disk, DiskFailed, Part, ReadFault};
 use as4_values::Octets;
 use std::alloc::Global;
 
 /// What stands at a gate.
 #[derive(Drop)]
 pub enum Next {
-    /// An open gate, a record with this body, and another gate.
-    Record(Octets),
+    /// An open gate, a record with this body, and another gate; and, where the leaf has both, that gate and the length
+    /// behind it.
+    Record(Octets, Option<[u8; 9]>),
     /// A gate that is closed, as this byte.
     Closed(u8),
     /// An open gate behind which no whole record stands.
     Broken,
 }
 
-/// Reads what stands at a gate.
+/// Reads what stands at a gate: one device call for the part's length, one for the gate and the length behind it unless
+/// they were read ahead, and one for the body and what stands behind it.
 pub(crate) fn read_next<D: Disk>(
     alloc: Global,
     disk: &mut D,
     part: Part,
     version: Version,
     gate: u64,
+    ahead: Option<[u8; 9]>,
 ) -> Result<Next, ReadFault>
     requires { gate < 2 ^ 32 }
-    ensures next { IfOk result (λ next. Told (D.seen disk.old) (λ b. IsNext version gate (b part) next)) }
+    ensures next { IfOk result (λ next. Told (D.seen disk.old) (λ b.
+        IsAhead version (drop gate (b part)) ahead → IsNext version gate (b part) next)) }
+    ensures there { IfOk result (λ next. Told (D.seen disk.old) (λ b. IsThere gate (b part) next)) }
     ensures within { IfOk result (λ next. IsWithin version gate next) }
 
     ensures quiet { Quiet D.moment D.left_since D.seen D.may_leave disk.old disk.new }
     ensures cause { IsErrOf result ReadFault.Disk → Rose (D.fault_count disk.old) (D.fault_count disk.new) }
     ensures counted { D.fault_count disk.old ≤ D.fault_count disk.new }
 {
-    let Some(first) = read_some(alloc, disk, part, gate, 1)? else {
+    let size = disk.len(part)?;
+    if size <= gate {
         return Ok(Next::Broken);
-    };
-    let byte = first[0];
-    drop(first);
+    }
+    let most = 1 + version.width();
+    let mut room = [0; 9];
+    let head = &mut room[..(size - gate).min(most) as usize];
+    read_head(disk, part, gate, ahead, head)?;
+    let byte = head[0];
     if byte != 1 {
         return Ok(Next::Closed(byte));
     }
-    match read_body(alloc, disk, part, version, gate)? {
-        Some(body) => Ok(Next::Record(body)),
-        None => Ok(Next::Broken),
-    }
+    let Some(len) = body_len(version, gate, size - gate - 1, &head[1..]) else {
+        return Ok(Next::Broken);
+    };
+    let at = gate + most;
+    let bytes = read_there(alloc, disk, part, at, (len + most).min(size - at))?;
+    let (body, ahead) = split_body(version, bytes, len as usize);
+    Ok(Next::Record(body, ahead))
 }
 
-/// Reads the body of the record at an open gate, where a whole record stands there.
-pub(crate) fn read_body<D: Disk>(
-    alloc: Global,
+/// Reads the gate and the bytes behind it, as many as there is room for, unless they were read ahead.
+fn read_head<D: Disk>(
     disk: &mut D,
     part: Part,
-    version: Version,
     gate: u64,
-) -> Result<Option<Octets>, ReadFault>
-    requires { gate < 2 ^ 32 }
-    ensures body { IfOk result (λ found. IfSome found (λ body. Told (D.seen disk.old) (λ b.
-        IsBodyAt version gate (drop (gate + 1) (b part)) body))) }
-    ensures within { IfOk result (λ found. IfSome found (λ body. gate_behind version gate body < limit_of version)) }
-    ensures none { IfOk result (λ found. IfNone found (Told (D.seen disk.old) (λ b.
-        HasNoBody version gate (drop (gate + 1) (b part))))) }
+    ahead: Option<[u8; 9]>,
+    head: &mut [u8],
+) -> Result<(), DiskFailed>
+    requires there { Told (D.seen disk.old) (λ b. gate + length head.old ≤ length (b part)) }
+    requires room { length head.old ≤ 9 }
+    ensures head { OnOk result (Told (D.seen disk.old) (λ b. (version : Version)
+        → length head.old ≤ 1 + width_of version → IsAhead version (drop gate (b part)) ahead
+        → head.new ≡ take (length head.old) (drop gate (b part)))) }
 
     ensures quiet { Quiet D.moment D.left_since D.seen D.may_leave disk.old disk.new }
-    ensures cause { IsErrOf result ReadFault.Disk → Rose (D.fault_count disk.old) (D.fault_count disk.new) }
-    ensures counted { D.fault_count disk.old ≤ D.fault_count disk.new }
+    ensures cause { HasCause (D.fault_count disk.old) (D.fault_count disk.new) result }
 {
-    let Some(len) = read_length(alloc, disk, part, version, gate + 1)? else {
-        return Ok(None);
-    };
-    let at = gate + 1 + version.width();
-    if version.limit().saturating_sub(at) <= len {
-        return Ok(None);
+    match ahead {
+        Some(ahead) => {
+            head.copy_from_slice(&ahead[..head.len()]);
+            Ok(())
+        }
+        None => disk.read_at(part, gate, head),
     }
-    let Some(mut bytes) = read_some(alloc, disk, part, at, len + 1)? else {
-        return Ok(None);
-    };
-    bytes.truncate(len as usize);
-    Ok(Some(Octets::of(bytes)))
 }
 
-/// Reads the length of a body, where the leaf has as many bytes there.
-pub(crate) fn read_length<D: Disk>(
+/// Reads bytes that the part has, where it tells.
+fn read_there<D: Disk>(
     alloc: Global,
     disk: &mut D,
     part: Part,
-    version: Version,
     at: u64,
-) -> Result<Option<u64>, ReadFault>
-    ensures length { IfOk result (λ found. IfSome found (λ len. Told (D.seen disk.old) (λ b.
-        HasLength version len (drop at (b part))))) }
-    ensures none { IfOk result (λ found. IfNone found (Told (D.seen disk.old) (λ b.
-        length (drop at (b part)) < width_of version))) }
+    count: u64,
+) -> Result<Vec<u8>, ReadFault>
+    requires there { Told (D.seen disk.old) (λ b. at + count ≤ length (b part)) }
+    ensures bytes { IfOk result (λ bytes. Told (D.seen disk.old) (λ b. bytes.items ≡ take count (drop at (b part)))) }
+    ensures len { IfOk result (λ bytes. length bytes.items ≡ count) }
 
     ensures quiet { Quiet D.moment D.left_since D.seen D.may_leave disk.old disk.new }
     ensures cause { IsErrOf result ReadFault.Disk → Rose (D.fault_count disk.old) (D.fault_count disk.new) }
     ensures counted { D.fault_count disk.old ≤ D.fault_count disk.new }
 {
-    let Some(bytes) = read_some(alloc, disk, part, at, version.width())? else {
-        return Ok(None);
-    };
-    let len = length_in(version, bytes.as_slice());
-    drop(bytes);
-    Ok(Some(len))
+    let mut bytes = vec![in alloc; 0; count as usize]?;
+    disk.read_at(part, at, &mut bytes)?;
+    Ok(bytes)
 }
 
-/// A length of this version.
-pub(crate) fn length_in(version: Version, bytes: &[u8]) -> u64
+/// The body of this length, and what was read behind it, where that is a gate and a length.
+fn split_body(version: Version, bytes: Vec<u8>, len: usize) -> (Octets, Option<[u8; 9]>)
+    requires { len ≤ length bytes.items }
+    ensures body { result.0 ≡ take len bytes.items }
+    ensures ahead { IfSome result.1 (λ head. (length bytes.items ≡ len + (1 + width_of version))
+        × (drop len bytes.items ≡ take (1 + width_of version) head)) }
+{
+    let ahead = head_of(version, &bytes[len..]);
+    let mut bytes = bytes;
+    bytes.truncate(len);
+    (Octets::of(bytes), ahead)
+}
+
+/// These bytes, where they are a gate and a length, at the front of 9.
+fn head_of(version: Version, bytes: &[u8]) -> Option<[u8; 9]>
+    ensures { IfSome result (λ head. (length bytes.now ≡ 1 + width_of version)
+        × (bytes.now ≡ take (1 + width_of version) head)) }
+{
+    if bytes.len() as u64 != 1 + version.width() {
+        return None;
+    }
+    let mut head = [0; 9];
+    head[..bytes.len()].copy_from_slice(bytes);
+    Some(head)
+}
+
+/// How long the body behind an open gate is, where a whole record stands there: of the bytes behind the gate, `head` is
+/// the front that a length takes, and there are `count` of them.
+pub(crate) fn body_len(version: Version, gate: u64, count: u64, head: &[u8]) -> Option<u64>
+    requires { gate < 2 ^ 32 }
+    ensures body { IfSome result (λ len. (behind : List ℕ) → IsHead version count head.now behind
+        → IsBodyAt version gate behind (take len (drop (width_of version) behind))) }
+    ensures within { IfSome result (λ len. gate + 1 + width_of version + len < limit_of version) }
+    ensures there { IfSome result (λ len. width_of version + len < count) }
+    ensures none { IfNone result ((behind : List ℕ) → IsHead version count head.now behind
+        → HasNoBody version gate behind) }
+{
+    let width = version.width();
+    if head.len() as u64 != width {
+        return None;
+    }
+    let len = length_in(version, head);
+    if version.limit().saturating_sub(gate + 1 + width) <= len {
+        return None;
+    }
+    if count.saturating_sub(width) <= len {
+        return None;
+    }
+    Some(len)
+}
+
+// A length of this version.
+fn length_in(version: Version, bytes: &[u8]) -> u64
     requires { length bytes.now ≡ width_of version }
     ensures { IsLength version result bytes.now }
 {

@@ -49,8 +49,12 @@ impl<D: Disk> Journal<D> {
     {
         let before = self.disk.faults();
         let gate = self.gate;
-        match pass(alloc, &mut self.disk, self.is_second, self.version, gate) {
-            Ok(Next::Record(body)) => {
+        let ahead = self.ahead;
+        self.ahead = None;
+        let (is_second, version) = (self.is_second, self.version);
+        match pass(alloc, &mut self.disk, is_second, version, gate, ahead) {
+            Ok(Next::Record(body, ahead)) => {
+                self.ahead = ahead;
                 self.gate = gate + 1 + self.version.width() + body.bytes().len() as u64;
                 Ok(Some((gate, body)))
             }

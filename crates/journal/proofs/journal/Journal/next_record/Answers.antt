@@ -10,26 +10,26 @@ use Rattle.journal.proofs.StoreLemmas.{settled_told}
 use Rattle.journal.proofs.journal.Journal.next_record.Goals as goal
 
 pub returns-in-Ok-Record-clause-any_moment : goal.returns-in-Ok-Record-clause-any_moment
-returns-in-Ok-Record-clause-any_moment g c bodies read b told = c.pass.ensures.any_moment bodies read.next read.rest read.place read.within read.settled b told
+returns-in-Ok-Record-clause-any_moment g c bodies read b told = c.pass.ensures.any_moment bodies read.next read.rest read.place read.within read.ahead read.settled b told
 
 pub returns-in-Ok-Closed-clause-any_moment : goal.returns-in-Ok-Closed-clause-any_moment
-returns-in-Ok-Closed-clause-any_moment g c bodies read b told = c.pass.ensures.any_moment bodies read.next read.rest read.place read.within read.settled b told
+returns-in-Ok-Closed-clause-any_moment g c bodies read b told = c.pass.ensures.any_moment bodies read.next read.rest read.place read.within read.ahead read.settled b told
 
 pub returns-in-Ok-Broken-clause-any_moment : goal.returns-in-Ok-Broken-clause-any_moment
-returns-in-Ok-Broken-clause-any_moment g c bodies read b told = c.pass.ensures.any_moment bodies read.next read.rest read.place read.within read.settled b told
+returns-in-Ok-Broken-clause-any_moment g c bodies read b told = c.pass.ensures.any_moment bodies read.next read.rest read.place read.within read.ahead read.settled b told
 
 pub returns-in-Err-NoMemory-clause-any_moment : goal.returns-in-Err-NoMemory-clause-any_moment
-returns-in-Err-NoMemory-clause-any_moment g c bodies read b told = c.pass.ensures.any_moment bodies read.next read.rest read.place read.within read.settled b told
+returns-in-Err-NoMemory-clause-any_moment g c bodies read b told = c.pass.ensures.any_moment bodies read.next read.rest read.place read.within read.ahead read.settled b told
 
 pub returns-in-Err-Disk-clause-any_moment : goal.returns-in-Err-Disk-clause-any_moment
-returns-in-Err-Disk-clause-any_moment g c bodies read b told = c.pass.ensures.any_moment bodies read.next read.rest read.place read.within read.settled b told
+returns-in-Err-Disk-clause-any_moment g c bodies read b told = c.pass.ensures.any_moment bodies read.next read.rest read.place read.within read.ahead read.settled b told
 
 pub returns-in-Ok-Record-clause-record : goal.returns-in-Ok-Record-clause-record
 returns-in-Ok-Record-clause-record g c bodies read =
     let version = c.args.self.now.version in
     let body = c.in-Ok-Record.body in
     let P : Next → Type 0 = λ n. Passes g.D.Disk.seen g.D.Disk.may_leave c.pass.new.disk c.args.self.now.is_second version bodies read.next read.rest n in
-    let found = subst P c.in-Ok-Record.field-0-is (c.in-Ok-Record.ensures.passes bodies read.next read.rest read.place read.within read.settled) in
+    let found = subst P c.in-Ok-Record.field-0-is (c.in-Ok-Record.ensures.passes bodies read.next read.rest read.place read.within read.ahead read.settled) in
     let len : length c.bytes.result.now ≡ length body = ap length c.bytes.ensures in
     record {
       next = found.0;
@@ -37,6 +37,7 @@ returns-in-Ok-Record-clause-record g c bodies read =
       settled = found.2;
       place = omega (arith, read.place, len, c.width.ensures, length-front_more version bodies body);
       within = found.3;
+      ahead = found.4;
       made = λ is_open. omega (arith, length-append (front_of version (bodies ++ body ∷ [])) (found.0 ∷ found.1), length-front_more version bodies body, length-front version bodies);
     }
 
@@ -44,7 +45,7 @@ pub returns-in-Ok-Closed-clause-all : goal.returns-in-Ok-Closed-clause-all
 returns-in-Ok-Closed-clause-all g c bodies read b told =
     let version = c.args.self.now.version in
     let P : Next → Type 0 = λ n. Passes g.D.Disk.seen g.D.Disk.may_leave c.pass.new.disk c.args.self.now.is_second version bodies read.next read.rest n in
-    let found = subst P c.in-Ok-Closed.field-0-is (c.in-Ok-Closed.ensures.passes bodies read.next read.rest read.place read.within read.settled) in
+    let found = subst P c.in-Ok-Closed.field-0-is (c.in-Ok-Closed.ensures.passes bodies read.next read.rest read.place read.within read.ahead read.settled) in
     let bytes = (settled_told g.D.Disk.seen g.D.Disk.may_leave c.args.self.now.disk c.args.self.now.is_second (front_of version bodies ++ read.next ∷ read.rest) b read.settled told).2 in
     inr (version, read.next, read.rest, record { bytes = bytes; closed = found.0; within = read.within })
 
@@ -57,7 +58,7 @@ returns-in-Ok-Broken-clause-not_journal g c place is =
     broken bodies read b told same =
         let version = c.args.self.now.version in
         let P : Next → Type 0 = λ n. Passes g.D.Disk.seen g.D.Disk.may_leave c.pass.new.disk c.args.self.now.is_second version bodies read.next read.rest n in
-        let found = subst P c.in-Ok-Broken.field-0-is (c.in-Ok-Broken.ensures.passes bodies read.next read.rest read.place read.within read.settled) in
+        let found = subst P c.in-Ok-Broken.field-0-is (c.in-Ok-Broken.ensures.passes bodies read.next read.rest read.place read.within read.ahead read.settled) in
         let bytes = (settled_told g.D.Disk.seen g.D.Disk.may_leave c.args.self.now.disk c.args.self.now.is_second (front_of version bodies ++ read.next ∷ read.rest) b read.settled told).2 in (
           omega (arith, read.made found.0, ap length bytes),
           inr (

@@ -20,6 +20,7 @@ returns-in-Ok-Some-clause-read g c b told =
         place = omega (arith, length-front c.in-Ok-Some.version []);
         within = front_within c.in-Ok-Some.version;
         made = found.0.made;
+        ahead = tt;
       },
       found.1,
     )
