@@ -1,13 +1,15 @@
 -- The rows of a message that comes.
-use Rattle.std.proofs.Common.{◌≡◌, ℕ, List, [], ◌∷◌, true, false, Option, Some, None, option_map, refl, ap, sym, ◌∙◌}
-use Rattle.std.specs.Prelude.{IsSome}
+use Rattle.std.proofs.Common.{◌≡◌, ℕ, ◌⊎◌, inl, inr, List, [], ◌∷◌, true, false, Option, Some, None, option_map, refl, ap, sym, subst, ◌∙◌}
+use Rattle.std.specs.Prelude.{IsSome, MatchOption}
 use Rattle.std.specs.Option.{IfSome}
+use Rattle.std.proofs.lemmas.Option.{same_Some}
 use Rattle.as4_effects.specs.declared.delivery.Delivery.{Delivery}
 use Rattle.as4_effects.specs.declared.effect.Effect.TheVariants as effect
 use Rattle.as4_effects.specs.declared.queue.Queue.{Queue}
 use Rattle.as4_values.specs.declared.header.UserHeader.{UserHeader}
 use Rattle.as4_values.specs.declared.message.Message.TheVariants as message
 use Rattle.as4_values.specs.declared.payload.Payload.{Payload}
+use Rattle.as4_effects.specs.declared.submission.Submission.{Submission}
 use Rattle.as4_values.specs.declared.signal.Signal.{Signal}
 use Rattle.end_tables.specs.Standing.{CanStand}
 use Rattle.exchange_model.specs.Apply.{is_fit, is_one}
@@ -15,12 +17,13 @@ use Rattle.exchange_model.specs.End.{End}
 use Rattle.as4_codes.specs.ErrorCodes.{error_row, error_table}
 use Rattle.exchange_model.specs.Questions.{head_of, is_known, is_pending, sent_at}
 use Rattle.as4_codes.specs.Signals.{IsReceiptOf}
-use Rattle.exchange_model.specs.Table.{Delivers, Gives, Settles, message_of}
+use Rattle.exchange_model.specs.Table.{Delivers, Errs, Gives, IsOther, ReceiptComes, Settles, message_of}
 use Rattle.exchange_model.specs.declared.event.Event.{Event}
 use Rattle.exchange_model.specs.declared.outcome.Outcome.{Outcome}
 use Rattle.exchange_model.specs.declared.reply.Reply.TheVariants as reply
 use Rattle.exchange_model.specs.declared.sent.Sent.{Sent}
 use Rattle.exchange_model.proofs.FoundLemmas.{sent_at_has}
+use Rattle.machine_rows.specs.Naming.{IsFor, IsRefusedBy, referred}
 use Rattle.machine_rows.proofs.HeadLemmas.{head_fits}
 use Rattle.machine_rows.proofs.StandLemmas.{delivery_fits, gives_stands}
 
@@ -44,6 +47,51 @@ code_10_is_known = refl
 pub code_302_is_known : IsSome (error_row 302)
 unfolding error_row error_table
 code_302_is_known = refl
+
+-- those by which a receipt is refused
+pub refused_is_known : (ref_to : Option (List ℕ)) (copy : Option UserHeader) (sent : List Sent) (code : ℕ) → IsRefusedBy ref_to copy sent code
+    → IsSome (error_row code)
+refused_is_known ref_to copy sent code refused = by_named (referred ref_to sent) refused
+  where
+    by_named : (o : Option Sent) → MatchOption o (code ≡ 3) (λ s. IsOther copy s.submission.header × (code ≡ 302)) → IsSome (error_row code)
+    by_named None e = subst (λ n. IsSome (error_row n)) (sym e) code_3_is_known
+    by_named (Some s) other = subst (λ n. IsSome (error_row n)) (sym other.1) code_302_is_known
+
+-- a receipt whose reference names a submission, with no copy of another header
+pub is_for : (ref_to : Option (List ℕ)) (copy : Option UserHeader) (sent : List Sent) (number : ℕ) (submission : Submission)
+    → sent_at number sent ≡ referred ref_to sent → Some submission ≡ option_map (λ (s : Sent). s.submission) (sent_at number sent)
+    → (IsOther copy submission.header → ⊥) → (s : Sent) × (sent_at number sent ≡ Some s) × IsFor ref_to copy sent s
+is_for ref_to copy sent number submission found got own = by_found (sent_at number sent) refl got
+  where
+    by_found : (o : Option Sent) → sent_at number sent ≡ o → Some submission ≡ option_map (λ (s : Sent). s.submission) o
+        → (s : Sent) × (sent_at number sent ≡ Some s) × IsFor ref_to copy sent s
+    by_found None e g = absurd cc
+    by_found (Some s) e g = (
+      s,
+      e,
+      record {
+        names = sym found ∙ e;
+        own = λ other. own (subst (λ (u : Submission). IsOther copy u.header) (sym (same_Some submission s.submission g)) other);
+      },
+    )
+
+-- a receipt that is refused
+pub refused_comes : (end : End) (event : Event) (id : List ℕ) (ref_to : Option (List ℕ)) (copy : Option UserHeader) (code : ℕ) (outcome : Outcome)
+    → IsRefusedBy ref_to copy end.sent code → Errs code id event outcome → ReceiptComes end event id ref_to copy outcome
+unfolding ReceiptComes
+refused_comes end event id ref_to copy code outcome refused errs = by_named (referred ref_to end.sent) refused
+  where
+    by_named : (o : Option Sent) → MatchOption o (code ≡ 3) (λ s. IsOther copy s.submission.header × (code ≡ 302))
+        → MatchOption o (Errs 3 id event outcome)
+        (λ s. (IsOther copy s.submission.header × Errs 302 id event outcome) ⊎ ((IsOther copy s.submission.header → ⊥) × Settles s outcome))
+    by_named None e = subst (λ n. Errs n id event outcome) e errs
+    by_named (Some s) other = inl (other.0, subst (λ n. Errs n id event outcome) other.1 errs)
+
+-- a receipt that is for a submission
+pub settled_comes : (end : End) (event : Event) (id : List ℕ) (ref_to : Option (List ℕ)) (copy : Option UserHeader) (s : Sent) (outcome : Outcome)
+    → IsFor ref_to copy end.sent s → Settles s outcome → ReceiptComes end event id ref_to copy outcome
+unfolding ReceiptComes
+settled_comes end event id ref_to copy s outcome is_for settles = rw is_for.names (inr (is_for.own, settles))
 
 -- a message that came for the first time is delivered
 pub delivers : (event : Event) (header : UserHeader) (payloads : List Payload) (d : Delivery) (signal : Signal) (outcome : Outcome)

@@ -1,7 +1,7 @@
 -- Refusals of pending submissions, of numbers that differ, fit one after another.
 use Rattle.std.proofs.Common.{◌≡◌, ℕ, ◌≤◌, List, [], ◌∷◌, Bool, true, false, cond, eqb, Option, Some, None, option_map, length, map, refl, ap, sym, ◌∙◌, arith, inl, inr, suc}
 use Rattle.std.specs.Prelude.{not}
-use Rattle.std.specs.List.{AllByRecursion, cons_option, filter, filter_map}
+use Rattle.std.specs.List.{cons_option, filter, filter_map}
 use Rattle.std.specs.Option.{IfSome, option_or}
 use Rattle.std.proofs.lemmas.Bool.{cases_Bool, ne_eqb}
 use Rattle.std.proofs.lemmas.List.{length-map}
@@ -141,15 +141,11 @@ few_refusals ref_to sent [] = omega arith
 few_refusals ref_to sent (item ∷ items) =
     omega (arith, few_consed (refusal_of ref_to sent item) (filter_map (refusal_of ref_to sent) items), few_refusals ref_to sent items)
 
-no_room : (refusals : List Refusal) → AllByRecursion TakesNoRoom (map effect_of refusals)
-unfolding TakesNoRoom
-no_room [] = tt
-no_room (r ∷ refusals) = (tt, no_room refusals)
-
 one_room : (refusals : List Refusal) → TakeOneRoom (map effect_of refusals)
+unfolding TakesNoRoom
 one_room [] = tt
 one_room (r ∷ []) = tt
-one_room (r ∷ q ∷ refusals) = no_room (r ∷ q ∷ refusals)
+one_room (r ∷ q ∷ refusals) = (tt, one_room (q ∷ refusals))
 
 -- what an error signal changes can stand
 pub all_stand : (ref_to : Option (List ℕ)) (end : End) (items : List ErrorItem) → AreNumberedFrom 0 end.sent → length items ≤ 256

@@ -1,6 +1,9 @@
+pub mod BundledLemmas
 pub mod ComingRows
+pub mod FitLemmas
 pub mod FreeLemmas
 pub mod FreshLemmas
 pub mod HeadLemmas
+pub mod OnceLemmas
 pub mod OwnRows
 pub mod StandLemmas

@@ -15,8 +15,8 @@ use Rattle.as4_values.specs.declared.signal_body.Severity.TheVariants.{Failure, 
 use Rattle.exchange_model.specs.Questions.{is_pending, sent_of}
 use Rattle.exchange_model.specs.Refusing.{Refusal, once, refusal_by, refusal_of, refusal_with, refusals_of}
 use Rattle.exchange_model.specs.declared.sent.Sent.{Sent}
-use Rattle.refusals.proofs.FitLemmas.{effect_of, is_other}
-use Rattle.refusals.specs.Naming.{has_number}
+use Rattle.machine_rows.proofs.FitLemmas.{effect_of, is_other}
+use Rattle.machine_rows.specs.Naming.{has_number}
 
 -- one of the refusals has this number
 abbrev has : ℕ → List Refusal → Bool

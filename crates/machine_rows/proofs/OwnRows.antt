@@ -1,9 +1,9 @@
 -- The rows of what this end's producer, consumer and transport ask.
-use Rattle.std.proofs.Common.{◌≡◌, ℕ, ◌<◌, List, [], ◌∷◌, length, Option, Some, None, option_map, refl, ap, sym, ◌∙◌, subst}
-use Rattle.std.specs.Prelude.{MatchOption}
+use Rattle.std.proofs.Common.{◌≡◌, ℕ, ◌<◌, ◌≤◌, List, [], ◌∷◌, length, Option, Some, None, option_map, refl, ap, sym, ◌∙◌, subst}
+use Rattle.std.specs.Prelude.{MatchOption, slice_get}
 use Rattle.std.specs.List.{count_by}
 use Rattle.std.specs.Option.{option_and_then}
-use Rattle.std.proofs.lemmas.Bool.{lt-leb}
+use Rattle.std.proofs.lemmas.Bool.{le-ltb, lt-leb}
 use Rattle.std.proofs.lemmas.Option.{same_Some}
 use Rattle.as4_effects.specs.declared.effect.Effect.TheVariants as effect
 use Rattle.as4_effects.specs.declared.queue.Queue.TheVariants as queue
@@ -12,6 +12,9 @@ use Rattle.as4_effects.specs.declared.effect.Tick.{Tick}
 use Rattle.as4_values.specs.Identifiers.{submission_id}
 use Rattle.as4_values.specs.declared.mode.Mode.{Mode}
 use Rattle.as4_values.specs.declared.payload.Load.{Load}
+use Rattle.as4_values.specs.declared.header.UserHeader.{UserHeader}
+use Rattle.as4_values.specs.declared.message.Pair.{Pair}
+use Rattle.as4_values.specs.declared.payload.Payload.{Payload}
 use Rattle.as4_values.specs.declared.message.Message.{Message}
 use Rattle.as4_values.specs.declared.message.Message.TheVariants as message
 use Rattle.as4_values.specs.declared.route.Route.{Route}
@@ -19,9 +22,9 @@ use Rattle.as4_values.specs.declared.route.Route.TheVariants as route
 use Rattle.as4_values.specs.declared.signal.Signal.{Signal}
 use Rattle.exchange_model.specs.End.{End}
 use Rattle.exchange_model.specs.Questions.{head_of, is_spent, sent_at, standing_of}
-use Rattle.as4_codes.specs.Signals.{IsPullOf}
+use Rattle.as4_codes.specs.Signals.{IsPullOf, IsPairOf}
 use Rattle.exchange_model.specs.Submitting.{IsSubmissionOf, address_of}
-use Rattle.exchange_model.specs.Table.{AsksBy, Gives, Rests, Takes, TakesIn, Ticks, message_of, standing_reply, mark_reply}
+use Rattle.exchange_model.specs.Table.{AsksBy, AsksWithBy, Gives, Rests, Takes, TakesIn, Ticks, message_of, standing_reply, mark_reply}
 use Rattle.exchange_model.specs.declared.event.Event.{Event}
 use Rattle.exchange_model.specs.declared.outcome.Outcome.{Outcome}
 use Rattle.exchange_model.specs.declared.reply.Reply.{Reply}
@@ -123,6 +126,13 @@ pub asks_pull : (mpc address copied : List ℕ) (by : Route) (event : Event) (si
     → Rests (reply.Request copied (message.Signal signal)) outcome → AsksBy by event outcome
 asks_pull mpc address copied by event signal outcome is same pull rests =
     rw is (signal, pull, rests ∙ ap (λ a. record { effects = []; reply = reply.Request a (message.Signal signal) }) same)
+
+-- AskWith
+pub asks_pair : (by : Route) (end : End) (event : Event) (n : ℕ) (mpc address : List ℕ) (header : UserHeader) (payloads : List Payload) (outcome : Outcome)
+    → by ≡ route.Pull mpc address → end.confirmed ≤ n → slice_get end.inbox n ≡ Some (record { header = header; payloads = payloads })
+    → (pair : Pair) × IsPairOf header mpc event.stamp event.nonce pair × Rests (reply.Request address (message.Pair pair)) outcome
+    → AsksWithBy by end event n outcome
+asks_pair by end event n mpc address header payloads outcome is later at pair = rw (is, le-ltb end.confirmed n later, at) pair
 
 -- Submit
 pub takes_in : (mode : Mode) (end : End) (event : Event) (conversation : Option (List ℕ)) (loads : List Load) (s : Submission)

@@ -1,16 +1,18 @@
 //! What an end has to send is asked for (One-Way/Push and One-Way/Pull, ebMS 3.0 Core, section 2.2).
 ghost use Rattle.std.specs.Prelude.{◌≡◌, [], IfOk, IsOk};
-ghost use Rattle.exchange_model.specs.Table.{Takes, Asks, AsksBy, message_of};
+ghost use Rattle.as4_codes.specs.Signals.{IsPairOf};
+ghost use Rattle.as4_values.specs.declared.message.Pair.{Pair as PairValue};
+ghost use Rattle.exchange_model.specs.Table.{Takes, Asks, AsksBy, AsksWith, AsksWithBy, Rests, message_of};
 ghost use Rattle.exchange_model.specs.Submitting.{address_of};
 ghost use Rattle.exchange_model.specs.declared.outcome.Outcome.{Outcome as OutcomeValue};
 ghost use Rattle.end_tables.specs.Standing.{CanStand};
 ghost use Rattle.machine_rows.specs.Free.{IsFree};
 
 use crate::rows::{gives, rests, room_for_one};
-use as4_codes::pull_request;
+use as4_codes::{pull_request, receipt_with_pull};
 use as4_effects::{Effect, Queue, Submission};
-use as4_values::{Message, NoMemory, PlainData, Route, Text, try_clone_two};
-use end_tables::EndTables;
+use as4_values::{Message, NoMemory, PlainData, Route, Text, UserHeader, try_clone_two};
+use end_tables::{EndTables, Held};
 use exchange_model::{Event, Outcome, Reply};
 use pmodes::Modes;
 use std::alloc::Global;
@@ -105,6 +107,78 @@ fn ask_by(alloc: Global, route: &Route, event: &Event) -> Result<Outcome, NoMemo
                     message: Message::Signal(signal),
                 },
             ))
+        }
+    }
+}
+
+/// The row of `AskWith`.
+#[tactic(auto, unfolding(exchange_model::specs::Table::AsksWith))]
+pub fn ask_with(
+    alloc: Global,
+    modes: &Modes,
+    tables: &EndTables,
+    event: &Event,
+    name: &Text,
+    n: u64,
+) -> Result<Outcome, NoMemory>
+    ensures row { IfOk result (AsksWith modes.now tables.now.end event.now name.now n) }
+    ensures rests { IfOk result (λ outcome. outcome.effects ≡ []) }
+    ensures free { (row : OutcomeValue) → AsksWith modes.now tables.now.end event.now name.now n row → IsFree row → IsOk result }
+{
+    match modes.named(name) {
+        None => Ok(rests(alloc, Reply::NoMode)),
+        Some(mode) => ask_with_by(alloc, &mode.route, tables, event, n),
+    }
+}
+
+fn ask_with_by(
+    alloc: Global,
+    route: &Route,
+    tables: &EndTables,
+    event: &Event,
+    n: u64,
+) -> Result<Outcome, NoMemory>
+    ensures row { IfOk result (AsksWithBy route.now tables.now.end event.now n) }
+    ensures rests { IfOk result (λ outcome. outcome.effects ≡ []) }
+    ensures free { (row : OutcomeValue) → AsksWithBy route.now tables.now.end event.now n row → IsFree row → IsOk result }
+{
+    let Route::Pull { mpc, address } = route else {
+        return Ok(rests(alloc, Reply::NoMode));
+    };
+    match tables.read(n) {
+        Held::Gone => Ok(rests(alloc, Reply::Gone)),
+        Held::NoEntry => Ok(rests(alloc, Reply::NoEntry)),
+        Held::Entry { header, .. } => request_with(alloc, header, mpc, address, event),
+    }
+}
+
+/// The request for a channel's next message, with the receipt of this header.
+fn request_with(
+    alloc: Global,
+    header: &UserHeader,
+    mpc: &Text,
+    address: &Text,
+    event: &Event,
+) -> Result<Outcome, NoMemory>
+    ensures row { IfOk result (λ outcome. (pair : PairValue) × IsPairOf header.now mpc.now event.now.stamp event.now.nonce pair
+        × Rests (Reply.Request address.now (Message.Pair pair)) outcome) }
+    ensures rests { IfOk result (λ outcome. outcome.effects ≡ []) }
+{
+    match (
+        address.try_clone(alloc),
+        receipt_with_pull(alloc, header, mpc, event.stamp, event.nonce),
+    ) {
+        (Ok(address), Ok(pair)) => Ok(rests(
+            alloc,
+            Reply::Request {
+                address,
+                message: Message::Pair(pair),
+            },
+        )),
+        (address, pair) => {
+            drop(address);
+            drop(pair);
+            Err(NoMemory)
         }
     }
 }

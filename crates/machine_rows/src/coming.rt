@@ -1,12 +1,14 @@
 //! A message of the other end comes.
-ghost use Rattle.std.specs.Prelude.{◌≡◌, ◌↔◌, IfOk, IfSome, IsSome, IsTrue, option_map};
+ghost use Rattle.std.specs.Prelude.{◌≡◌, ◌↔◌, Some, IfOk, IfErr, IfSome, IsSome, IsTrue, option_map};
 ghost use Rattle.exchange_model.specs.Coming.{is_deliverable};
 ghost use Rattle.exchange_model.specs.Table.{UserComes, Delivers, Gives, PullComes, ReceiptComes, Settles, SignalComes, IsOther, message_of};
 ghost use Rattle.exchange_model.specs.Questions.{head_of, sent_at};
 ghost use Rattle.end_tables.specs.Standing.{CanStand};
-ghost use Rattle.machine_rows.specs.Naming.{referred};
+ghost use Rattle.exchange_model.specs.declared.sent.Sent.{Sent};
+ghost use Rattle.machine_rows.specs.Naming.{IsFor, IsRefusedBy, referred};
 
 use crate::asking::message_of;
+use crate::refusing::refusals_of;
 use crate::rows::{errs, gives, receipts, rests, room_for_one};
 use as4_codes::receipt;
 use as4_effects::{Delivery, Effect, Queue};
@@ -17,7 +19,6 @@ use as4_values::{
 use end_tables::EndTables;
 use exchange_model::{Event, Outcome, Reply};
 use pmodes::Modes;
-use refusals::refusals_of;
 use std::alloc::Global;
 
 /// The row of a user message that comes.
@@ -104,7 +105,7 @@ pub fn signal(
 
 /// The row of a pull request that comes.
 #[tactic(auto, unfolding(exchange_model::specs::Table::PullComes))]
-fn pull(
+pub fn pull(
     alloc: Global,
     modes: &Modes,
     tables: &EndTables,
@@ -149,7 +150,7 @@ fn send(alloc: Global, tables: &EndTables, number: u64) -> Result<Outcome, NoMem
 }
 
 /// The row of a receipt that comes.
-#[tactic(auto, unfolding(exchange_model::specs::Table::ReceiptComes))]
+#[tactic(auto, using(crate::proofs::ComingRows::refused_comes, crate::proofs::ComingRows::settled_comes, crate::proofs::ComingRows::refused_is_known))]
 fn receipt_of(
     alloc: Global,
     tables: &EndTables,
@@ -161,16 +162,32 @@ fn receipt_of(
     ensures row { IfOk result (ReceiptComes tables.now.end event.now id.now ref_to.now copy.now) }
     ensures stands { IfOk result (λ outcome. CanStand tables.now.end outcome.effects) }
 {
+    match receipt_for(tables, ref_to, copy) {
+        Err(code) => errs(alloc, code, id, event),
+        Ok(number) => settle(alloc, tables, number),
+    }
+}
+
+/// The number of the submission that a receipt is for, or the code of the error that it gives.
+pub fn receipt_for(
+    tables: &EndTables,
+    ref_to: &Option<MessageId>,
+    copy: &Option<UserHeader>,
+) -> Result<u64, u16>
+    ensures found { IfOk result (λ number. (s : Sent) × (sent_at number tables.now.end.sent ≡ Some s)
+        × IsFor ref_to.now copy.now tables.now.end.sent s) }
+    ensures refused { IfErr result (IsRefusedBy ref_to.now copy.now tables.now.end.sent) }
+{
     let Some(number) = named(tables, ref_to) else {
-        return errs(alloc, 3, id, event);
+        return Err(3);
     };
     let Some(submission) = tables.get(number) else {
         unreachable!()
     };
     if is_other(copy, &submission.header) {
-        return errs(alloc, 302, id, event);
+        return Err(302);
     }
-    settle(alloc, tables, number)
+    Ok(number)
 }
 
 /// The number of the submission that the reference names.

@@ -6,7 +6,7 @@ ghost use Rattle.exchange_model.specs.Table.{RowOf, Comes};
 ghost use Rattle.exchange_model.specs.declared.outcome.Outcome.{Outcome as OutcomeValue};
 ghost use Rattle.machine_rows.specs.Free.{IsFree};
 
-use crate::{asking, coming, consuming, submitting};
+use crate::{asking, bundled, coming, consuming, submitting};
 use as4_values::{Message, NoMemory};
 use end_tables::EndTables;
 use exchange_model::{Event, Outcome, What};
@@ -36,6 +36,7 @@ pub fn row_of(
         What::Tick => submitting::tick(alloc, tables, event),
         What::Take => asking::take(alloc, tables),
         What::Ask { mode } => asking::ask(alloc, modes, event, mode),
+        What::AskWith { mode, n } => asking::ask_with(alloc, modes, tables, event, mode, *n),
         What::Came(message) => row_of_message(alloc, modes, tables, event, message),
         What::Read { n } => consuming::read(alloc, tables, *n),
         What::Confirm { upto } => consuming::confirm(alloc, tables, *upto),
@@ -62,5 +63,6 @@ fn row_of_message(
             coming::user(alloc, modes, tables, event, header, payloads)
         }
         Message::Signal(signal) => coming::signal(alloc, modes, tables, event, signal),
+        Message::Pair(pair) => bundled::pair(alloc, modes, tables, event, pair),
     }
 }

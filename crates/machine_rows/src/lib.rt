@@ -2,11 +2,14 @@
 #![tactic(auto)]
 
 mod asking;
+mod bundled;
 mod coming;
 mod consuming;
 mod events;
+mod refusing;
 mod rows;
 mod submitting;
 
 pub use events::row_of;
+pub use refusing::refusals_of;
 pub use rows::rests;

@@ -11,7 +11,7 @@ ghost use Rattle.std.specs.List.{list_any};
 ghost use Rattle.std.specs.Option.{option_or};
 ghost use Rattle.end_tables.specs.Standing.{CanStand};
 ghost use Rattle.exchange_model.specs.Refusing.{refusal_of, refusals_of};
-ghost use Rattle.refusals.specs.Naming.{has_number};
+ghost use Rattle.machine_rows.specs.Naming.{has_number};
 
 use as4_effects::Effect;
 use as4_values::{ErrorItem, MessageId, NoMemory, PlainData, Seq, Severity};

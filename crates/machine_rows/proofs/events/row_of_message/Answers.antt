@@ -6,3 +6,6 @@ returns-in-User-clause-free c row h free = absurd (comes _ _ _ _ row h free)
 
 pub returns-in-Signal-clause-free : goal.returns-in-Signal-clause-free
 returns-in-Signal-clause-free c row h free = absurd (comes _ _ _ _ row h free)
+
+pub returns-in-Pair-clause-free : goal.returns-in-Pair-clause-free
+returns-in-Pair-clause-free c row h free = absurd (comes _ _ _ _ row h free)

@@ -1,7 +1,7 @@
 use Rattle.std.proofs.Common.{◌≡◌, false, take}
 use Rattle.std.specs.List.{list_any}
-use Rattle.refusals.proofs.refusing.has_number.Given as goal
-use Rattle.refusals.specs.Naming.{has_number}
+use Rattle.machine_rows.proofs.refusing.has_number.Given as goal
+use Rattle.machine_rows.specs.Naming.{has_number}
 
 -- none of the effects so far refuses it
 abbrev pub invariant-loop-effect : goal.invariant-loop-effect

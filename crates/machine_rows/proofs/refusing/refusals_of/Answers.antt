@@ -2,11 +2,11 @@ use Rattle.std.proofs.Common.{◌≡◌, false, true, ap, sym, ◌∙◌}
 use Rattle.std.specs.List.{list_any}
 use Rattle.std.proofs.lemmas.List.{take_all}
 use Rattle.exchange_model.specs.Refusing.{refusals_of}
-use Rattle.refusals.proofs.FitLemmas.{all_stand}
-use Rattle.refusals.proofs.OnceLemmas.{IsNext, refuses_again, refuses_first, refuses_none, refuses_one}
-use Rattle.refusals.proofs.refusing.refusals_of.Goals as goal
-use Rattle.refusals.proofs.refusing.refusals_of.Goals.{then-not-has_number+in_ok-code+in_ok-push, else-not-has_number}
-use Rattle.refusals.specs.Naming.{has_number}
+use Rattle.machine_rows.proofs.FitLemmas.{all_stand}
+use Rattle.machine_rows.proofs.OnceLemmas.{IsNext, refuses_again, refuses_first, refuses_none, refuses_one}
+use Rattle.machine_rows.proofs.refusing.refusals_of.Goals as goal
+use Rattle.machine_rows.proofs.refusing.refusals_of.Goals.{then-not-has_number+in_ok-code+in_ok-push, else-not-has_number}
+use Rattle.machine_rows.specs.Naming.{has_number}
 
 pub loop-item-init : goal.loop-item-init
 loop-item-init c = c.new-effects.ensures.items ∙ sym (refuses_first _ _)

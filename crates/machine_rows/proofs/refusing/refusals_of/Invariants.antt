@@ -1,6 +1,6 @@
 use Rattle.std.proofs.Common.{◌≡◌, take}
 use Rattle.exchange_model.specs.Refusing.{refusals_of}
-use Rattle.refusals.proofs.refusing.refusals_of.Given as goal
+use Rattle.machine_rows.proofs.refusing.refusals_of.Given as goal
 
 -- the refusals of the items so far
 abbrev pub invariant-loop-item : goal.invariant-loop-item
