@@ -84,14 +84,18 @@ settled_of s = by_pending (is_pending s)
 -- no mode names its channel
 pub unnamed_pair : (modes : List Mode) (end : End) (event : Event) (receipt pull : Signal) (copy : Option UserHeader) (mpc : List ℕ) (s : Sent)
     (outcome : Outcome) → receipt.body ≡ body.Receipt copy → pull.body ≡ body.Pull mpc
-    → IsFor receipt.ref_to copy end.sent s → channel_mode modes mpc ≡ None → Errs 1 pull.id event outcome
+    → IsFor receipt.ref_to copy end.sent s → is_some (channel_mode modes mpc) ≡ false → Errs 1 pull.id event outcome
     → PairComes modes end event receipt pull outcome
 unfolding PullComes
-unnamed_pair modes end event receipt pull copy mpc s outcome is_receipt is_pull is_for none errs =
+unnamed_pair modes end event receipt pull copy mpc s outcome is_receipt is_pull is_for unnamed errs =
     let settled = settled_of s in
     pair_by modes end event receipt pull copy mpc s settled.0 outcome outcome is_receipt is_pull is_for settled.1 settled.2
-    (rw none errs) (joined (is_some (channel_mode modes mpc)) settled.0.effects (ap is_some none))
+    (rw (is_none (channel_mode modes mpc) unnamed) errs) (joined (is_some (channel_mode modes mpc)) settled.0.effects unnamed)
   where
+    is_none : (o : Option Mode) → is_some o ≡ false → o ≡ None
+    is_none None e = refl
+    is_none (Some mode) e = absurd cc
+
     joined : (b : Bool) (effects : List Effect) → b ≡ false
         → outcome ≡ record { effects = if b then effects ++ outcome.effects else []; reply = outcome.reply }
     joined true effects e = absurd cc
@@ -114,13 +118,13 @@ late_pair modes end event receipt pull copy mpc s outcome is_receipt is_pull is_
     (rw settled refl) refl row (both (is_some (channel_mode modes mpc)) [] outcome outcome named refl)
 
 -- its receipt settles a pending submission
-pub behind_pair : (modes : List Mode) (end : End) (event : Event) (receipt pull : Signal) (copy : Option UserHeader) (mpc : List ℕ) (mode : Mode) (s : Sent)
+pub behind_pair : (modes : List Mode) (end : End) (event : Event) (receipt pull : Signal) (copy : Option UserHeader) (mpc : List ℕ) (s : Sent)
     (outcome : Outcome) → receipt.body ≡ body.Receipt copy → pull.body ≡ body.Pull mpc
-    → IsFor receipt.ref_to copy end.sent s → channel_mode modes mpc ≡ Some mode → is_pending s ≡ true
+    → IsFor receipt.ref_to copy end.sent s → is_some (channel_mode modes mpc) ≡ true → is_pending s ≡ true
     → IsBehind end event pull.id mpc s.submission.number outcome → PairComes modes end event receipt pull outcome
 unfolding PullComes
-behind_pair modes end event receipt pull copy mpc mode s outcome is_receipt is_pull is_for named pending row =
-    by_head (head_of (queue.Channel mpc) mid) refl row
+behind_pair modes end event receipt pull copy mpc s outcome is_receipt is_pull is_for named pending row =
+    by_mode (channel_mode modes mpc) refl named
   where
     mid : End
     mid = after (effect.Receipted s.submission.number) end
@@ -131,14 +135,18 @@ behind_pair modes end event receipt pull copy mpc mode s outcome is_receipt is_p
     with pulled pulls is =
         pair_by modes end event receipt pull copy mpc s (record { effects = effect.Receipted s.submission.number ∷ []; reply = reply.Quiet })
         pulled outcome is_receipt is_pull is_for (rw pending refl) refl pulls
-        (both (is_some (channel_mode modes mpc)) (effect.Receipted s.submission.number ∷ []) pulled outcome (ap is_some named) is)
+        (both (is_some (channel_mode modes mpc)) (effect.Receipted s.submission.number ∷ []) pulled outcome named is)
 
-    by_head : (o : Option Sent) → head_of (queue.Channel mpc) mid ≡ o → IsServedBehind event pull.id s.submission.number o outcome
-        → PairComes modes end event receipt pull outcome
-    by_head None e empty =
-        with (record { effects = []; reply = reply.Answer (message.Signal empty.0) }) (rw (named, e) (empty.0, empty.1, refl)) empty.2
-    by_head (Some t) e served =
-        with (record { effects = effect.Tried t.submission.number ∷ []; reply = reply.Answer (message_of t.submission) }) (rw (named, e) refl) served
+    by_head : (mode : Mode) → channel_mode modes mpc ≡ Some mode → (o : Option Sent) → head_of (queue.Channel mpc) mid ≡ o
+        → IsServedBehind event pull.id s.submission.number o outcome → PairComes modes end event receipt pull outcome
+    by_head mode m None e empty =
+        with (record { effects = []; reply = reply.Answer (message.Signal empty.0) }) (rw (m, e) (empty.0, empty.1, refl)) empty.2
+    by_head mode m (Some t) e served =
+        with (record { effects = effect.Tried t.submission.number ∷ []; reply = reply.Answer (message_of t.submission) }) (rw (m, e) refl) served
+
+    by_mode : (o : Option Mode) → channel_mode modes mpc ≡ o → is_some o ≡ true → PairComes modes end event receipt pull outcome
+    by_mode None m e = absurd cc
+    by_mode (Some mode) m e = by_head mode m (head_of (queue.Channel mpc) mid) refl row
 
 -- a receipt and then a try of the head that a queue has behind it
 pub both_stand : (q : Queue) (n k : ℕ) (end : End) → AreNumberedFrom 0 end.sent → is_fit (effect.Receipted n) end ≡ true

@@ -132,7 +132,7 @@ pub asks_pair : (by : Route) (end : End) (event : Event) (n : ℕ) (mpc address 
     → by ≡ route.Pull mpc address → end.confirmed ≤ n → slice_get end.inbox n ≡ Some (record { header = header; payloads = payloads })
     → (pair : Pair) × IsPairOf header mpc event.stamp event.nonce pair × Rests (reply.Request address (message.Pair pair)) outcome
     → AsksWithBy by end event n outcome
-asks_pair by end event n mpc address header payloads outcome is later at pair = rw (is, le-ltb end.confirmed n later, at) pair
+asks_pair by end event n mpc address header payloads outcome is later at pair = rw (is, le-ltb n end.confirmed later, at) pair
 
 -- Submit
 pub takes_in : (mode : Mode) (end : End) (event : Event) (conversation : Option (List ℕ)) (loads : List Load) (s : Submission)

@@ -7,8 +7,9 @@
 //!                                      says that there is none
 //!
 //! `EndTables::submitted` is called where a proof needs what it says besides: that each submission stands at its number.
-ghost use Rattle.std.specs.Prelude.{◌≡◌, ◌∷◌, [], IfOk, IfSome, IsSome, IsTrue};
+ghost use Rattle.std.specs.Prelude.{◌≡◌, ◌∷◌, [], IfOk, IfSome, IsSome, IsTrue, is_some};
 ghost use Rattle.as4_effects.specs.declared.effect.Effect.TheVariants.{Receipted, Tried};
+ghost use Rattle.as4_values.specs.ModeMatch.{channel_mode};
 ghost use Rattle.end_tables.specs.Standing.{CanStand};
 ghost use Rattle.exchange_model.specs.Apply.{is_fit};
 ghost use Rattle.exchange_model.specs.Questions.{sent_at};
@@ -47,13 +48,19 @@ pub fn pair(
         Err(code) => return errs(alloc, code, &pair.receipt.id, event),
         Ok(number) => number,
     };
-    if modes.channel(mpc).is_none() {
+    if !is_named(modes, mpc) {
         return errs(alloc, 1, &pair.pull.id, event);
     }
     if !tables.is_pending(number) {
         return pull(alloc, modes, tables, event, &pair.pull.id, mpc);
     }
     behind(alloc, tables, event, &pair.pull.id, mpc, number)
+}
+
+fn is_named(modes: &Modes, mpc: &Text) -> bool
+    ensures { result ≡ is_some (channel_mode modes.now mpc.now) }
+{
+    modes.channel(mpc).is_some()
 }
 
 /// The submission of this number is receipted, and the pull request is served behind that.
