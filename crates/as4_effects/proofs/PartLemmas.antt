@@ -20,6 +20,7 @@ use Rattle.as4_effects.specs.declared.carried.Carried.{Carried}
 use Rattle.as4_effects.specs.declared.delivery.Delivery.{Delivery}
 use Rattle.as4_effects.specs.declared.effect.Tick.{Tick}
 use Rattle.as4_effects.specs.declared.kept.Kept.{Kept}
+use Rattle.as4_effects.specs.declared.mark.Mark.{Mark}
 use Rattle.as4_effects.specs.declared.submission.Submission.{Submission}
 
 pub party_told : (a b : Party) → party_parts a ≡ party_parts b → a ≡ b
@@ -126,10 +127,16 @@ pub tick_told : (a b : Tick) → a.moment ≡ b.moment → a ≡ b
 tick_told = told_by (λ t. t.moment) (λ m. m ≤ 253402300799999) (λ m is. record { moment = m; dated = is }) (λ m. hlevel props) (λ t. t.dated) (λ t. refl)
 
 pub carried_told : (a b : Carried) → carried_parts a ≡ carried_parts b → a ≡ b
-carried_told =
-    told_by carried_parts (λ t. t.1.0 ≤ 253402300799999)
+carried_told a b e =
+    let of : Submission × (ℕ × (Tick × Mark)) → Carried =
+    λ t. record { submission = t.0; tries = t.1.0; last = t.1.1.0.moment; standing = t.1.1.1; dated = t.1.1.0.dated } in
+    ap of e
+
+pub carried_same : (a b : Carried) → a.submission ≡ b.submission → a.tries ≡ b.tries → a.last ≡ b.last → a.standing ≡ b.standing → a ≡ b
+carried_same a b submission tries last standing =
+    told_by {X = (Submission × ℕ) × (ℕ × Mark)} (λ c. ((c.submission, c.tries), (c.last, c.standing))) (λ t. t.1.0 ≤ 253402300799999)
     (λ t is. record { submission = t.0.0; tries = t.0.1; last = t.1.0; standing = t.1.1; dated = is })
-    (λ t. hlevel props) (λ c. c.dated) (λ c. refl)
+    (λ t. hlevel props) (λ c. c.dated) (λ c. refl) a b cc
 
 pub kept_told : (a b : Kept) → a.header ≡ b.header → a ≡ b
 kept_told = told_by (λ k. k.header) (λ h. IsTrue (fits_an_effect (kept_body h))) (λ h is. record { header = h; fits = is }) (λ h. hlevel props) (λ k. k.fits) (λ k. refl)

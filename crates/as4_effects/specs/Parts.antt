@@ -11,6 +11,7 @@ use Rattle.as4_values.specs.declared.payload.Payload.{Payload}
 use Rattle.as4_values.specs.declared.route.Route.{Route}
 use Rattle.as4_effects.specs.declared.carried.Carried.{Carried}
 use Rattle.as4_effects.specs.declared.delivery.Delivery.{Delivery}
+use Rattle.as4_effects.specs.declared.effect.Tick.{Tick}
 use Rattle.as4_effects.specs.declared.mark.Mark.{Mark}
 use Rattle.as4_effects.specs.declared.submission.Submission.{Submission}
 
@@ -52,5 +53,5 @@ submission_parts s = (((s.number, s.header), (s.payloads, s.route)), (s.retries,
 abbrev pub delivery_parts : Delivery → UserHeader × List Payload
 delivery_parts d = (d.header, d.payloads)
 
-abbrev pub carried_parts : Carried → (Submission × ℕ) × (ℕ × Mark)
-carried_parts c = ((c.submission, c.tries), (c.last, c.standing))
+abbrev pub carried_parts : Carried → Submission × (ℕ × (Tick × Mark))
+carried_parts c = (c.submission, (c.tries, (record { moment = c.last; dated = c.dated }, c.standing)))

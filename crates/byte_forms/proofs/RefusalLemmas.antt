@@ -1,8 +1,8 @@
 -- When bytes begin with the body of no value.
 use Rattle.std.proofs.Common.{◌≡◌, ℕ, ◌+◌, ◌<◌, ◌^◌, List, [], ◌∷◌, ◌++◌, length, append_assoc, length-append, ap, sym, ◌∙◌, arith}
 use Rattle.std.specs.List.{flat_map}
-use Rattle.byte_forms.specs.Bytes.{number_body, text_body, list_body}
-use Rattle.byte_forms.specs.Forms.{IsCounted, IsList, Each, Once, Refuses}
+use Rattle.byte_forms.specs.Bytes.{number_body, text_body, list_body, pair_body}
+use Rattle.byte_forms.specs.Forms.{IsCounted, IsList, IsPair, Each, Once, Refuses}
 use Rattle.byte_forms.proofs.NumberLemmas.{number_length, number_once, regroup}
 use Rattle.byte_forms.proofs.OnceLemmas.{text_once}
 
@@ -45,6 +45,24 @@ octets_refused is octets bytes rest counted fits e unfit = record {
 pub refused_within : {X : Type 0} (is within : X → Type 0) (body : X → List ℕ) (bytes : List ℕ) → ((x : X) → within x → is x)
     → Refuses is body bytes → Refuses within body bytes
 refused_within is within body bytes kept refused = record { none = λ x r held f. refused.none x r (kept x held) f }
+
+-- what is written of a value doesn't stand there
+pub refused_by : {X Y : Type 0} (is : X → Type 0) (body : X → List ℕ) (other : Y → Type 0) (also : Y → List ℕ) (f : Y → X) (bytes : List ℕ)
+    → ((y : Y) → other y → is (f y)) → ((y : Y) → also y ≡ body (f y)) → Refuses is body bytes → Refuses other also bytes
+refused_by is body other also f bytes kept same refused =
+    record { none = λ y r a e. refused.none (f y) r (kept y a) (e ∙ ap (λ l. l ++ r) (same y)) }
+
+-- a pair whose first value doesn't stand there, and one whose second doesn't stand behind it
+pub pair_refused : {X Y : Type 0} (is : X → Type 0) (body : X → List ℕ) (also : Y → Type 0) (behind : Y → List ℕ) (bytes : List ℕ)
+    → Refuses is body bytes → Refuses (IsPair is also) (pair_body body behind) bytes
+pair_refused is body also behind bytes refused =
+    record { none = λ p r a e. refused.none p.0 (behind p.1 ++ r) a.0 (e ∙ append_assoc (body p.0) (behind p.1) r) }
+
+pub pair_refused_behind : {X Y : Type 0} (is : X → Type 0) (body : X → List ℕ) (also : Y → Type 0) (behind : Y → List ℕ) (bytes rest : List ℕ) (x : X)
+    → Once is body → is x → bytes ≡ body x ++ rest → Refuses also behind rest → Refuses (IsPair is also) (pair_body body behind) bytes
+pair_refused_behind is body also behind bytes rest x once held f refused = record {
+  none = λ p r a e. refused.none p.1 r a.1 (once x p.0 rest (behind p.1 ++ r) held a.0 (sym f ∙ (e ∙ append_assoc (body p.0) (behind p.1) r))).1;
+}
 
 -- so many items, where one is missing
 items_refused : {X : Type 0} (is : X → Type 0) (body : X → List ℕ) → Once is body

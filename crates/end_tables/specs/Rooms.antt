@@ -1,5 +1,5 @@
 -- What an end's tables have room for.
-use Rattle.std.specs.Prelude.{◌≡◌, ℕ, List, Option, Some, None}
+use Rattle.std.specs.Prelude.{◌≡◌, ℕ, List, Option, Some, None, IsSome}
 use Rattle.as4_effects.specs.declared.effect.Effect.{Effect}
 use Rattle.as4_effects.specs.declared.effect.Effect.TheVariants as effect
 use Rattle.as4_effects.specs.declared.submission.Submission.{Submission}
@@ -61,6 +61,11 @@ HasRoom rooms sent (effect.Refused number code) = Unit {0}
 HasRoom rooms sent (effect.Confirmed upto) = Unit {0}
 HasRoom rooms sent (effect.Carried carried) = HasRoomFor rooms carried.submission
 HasRoom rooms sent (effect.Kept kept) = rooms.inbox ≡ Some kept.header.id
+
+-- the submission that the effect sends again was handed in
+unfoldable pub IsThere : List Sent → Effect → Type 0
+IsThere sent (effect.Tried number) = IsSome (sent_at number sent)
+IsThere sent other = Unit {0}
 
 -- an effect that takes no room
 unfoldable pub TakesNoRoom : Effect → Type 0

@@ -1,9 +1,8 @@
 //! Room for effects: what takes memory is done before a change, and may fail.
 
-ghost use Rattle.std.specs.Prelude.{◌≡◌, Some, IsTrue, OnOk};
-ghost use Rattle.end_tables.specs.Rooms.{HasRoom, queue_at};
-ghost use Rattle.exchange_model.specs.Apply.{is_fit, is_one};
-ghost use Rattle.exchange_model.specs.Questions.{is_waiting, queue_of, sent_at};
+ghost use Rattle.std.specs.Prelude.{◌≡◌, Some, IsSome, OnOk};
+ghost use Rattle.end_tables.specs.Rooms.{HasRoom, IsThere, queue_at};
+ghost use Rattle.exchange_model.specs.Questions.{queue_of, sent_at};
 
 use crate::queues::queue_of;
 use crate::tables::EndTables;
@@ -12,9 +11,9 @@ use as4_values::NoMemory;
 
 impl EndTables {
     /// Makes room for the effect, and changes nothing else.
-    #[tactic(auto, unfolding(crate::specs::Rooms::HasRoom, exchange_model::specs::Apply::is_fit))]
+    #[tactic(auto, unfolding(crate::specs::Rooms::HasRoom, crate::specs::Rooms::IsThere))]
     pub fn reserve(&mut self, effect: &Effect) -> Result<(), NoMemory>
-        requires fit { IsTrue (is_fit effect.now self.old.end) }
+        requires there { IsThere self.old.end.sent effect.now }
         ensures ok { OnOk result (HasRoom self.new.rooms self.new.end.sent effect.now) }
         ensures end { self.new.end ≡ self.old.end }
     {
@@ -43,7 +42,7 @@ impl EndTables {
 
     /// Makes room for a submission in its queue.
     fn reserve_again(&mut self, number: u64) -> Result<(), NoMemory>
-        requires { IsTrue (is_one is_waiting (sent_at number self.old.end.sent)) }
+        requires { IsSome (sent_at number self.old.end.sent) }
         ensures ok { OnOk result (self.new.rooms.channels
             ≡ Some (record { queue = queue_at number self.old.end.sent; number = number })) }
         ensures end { self.new.end ≡ self.old.end }

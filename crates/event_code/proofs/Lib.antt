@@ -1,11 +1,8 @@
 pub mod BodyLemmas
-pub mod EffectReading
-pub mod HeaderReading
-pub mod MessageReading
+pub mod KindReading
+pub mod KindLemmas
 pub mod NumberLemmas
-pub mod OneBody
-pub mod PayloadReading
+pub mod Passing
 pub mod RecordReading
-pub mod Refusals
-pub mod UserHeaderReading
-pub mod ValueReading
+pub mod StandingLemmas
+pub mod TextReading

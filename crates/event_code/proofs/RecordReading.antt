@@ -1,17 +1,13 @@
 -- Bodies of records, and bytes that are none.
 use Rattle.std.proofs.Common.{◌≡◌, ℕ, ◌<◌, ◌≤◌, ◌^◌, List, [], ◌∷◌, ◌++◌, length, append-nil, length-append, refl, ap, sym, ◌∙◌, arith}
-use Rattle.std.specs.Prelude.{Result, Err}
 use Rattle.std.specs.List.{flat_map}
-use Rattle.event_code.specs.declared.refusal.BodyRefusal.{BodyRefusal}
-use Rattle.event_code.specs.declared.refusal.BodyRefusal.TheVariants.{NotBody}
-use Rattle.as4_effects.proofs.LengthLemmas.{number_length}
+use Rattle.byte_forms.proofs.NumberLemmas.{number_length, number_once}
+use Rattle.byte_forms.proofs.OnceLemmas.{items_once}
+use Rattle.byte_forms.specs.Forms.{Each, Once, Refuses}
 use Rattle.as4_effects.specs.Bodies.{number_body}
 use Rattle.as4_effects.specs.Effects.{effect_body, effects_body, effects_limit}
 use Rattle.as4_effects.specs.declared.effect.Effect.{Effect}
-use Rattle.event_code.specs.Reading.{Each, Refuses}
 use Rattle.event_code.specs.Spelled.{IsSpelledEffect, AreSpelled}
-use Rattle.event_code.proofs.OneBody.{number_first, items_once}
-use Rattle.event_code.proofs.EffectReading.{effect_once}
 
 -- the bytes are the body of none
 abbrev pub IsNoBody : List ℕ → Type 0
@@ -27,7 +23,7 @@ count_of : (bytes rest : List ℕ) (count : ℕ) → count < 256 ^ 2 → bytes �
     → (effects : List Effect) → length effects ≤ effects_limit → bytes ≡ effects_body effects → (count ≡ length effects) × (rest ≡ flat_map effect_body effects)
 unfolding effects_body
 count_of bytes rest count fits e effects within f =
-    number_first 2 count (length effects) rest (flat_map effect_body effects) fits (omega (arith, within)) (sym e ∙ f)
+    number_once 2 count (length effects) rest (flat_map effect_body effects) fits (omega (arith, within)) (sym e ∙ f)
 
 pub wrong_count : (bytes rest : List ℕ) (count : ℕ) → count < 256 ^ 2 → bytes ≡ number_body 2 count ++ rest → ((1 ≤ count) × (count ≤ effects_limit) → ⊥) → IsNoBody bytes
 wrong_count bytes rest count fits e wrong effects some within spelled f =
@@ -40,11 +36,11 @@ no_items bytes rest count fits e refused effects some within spelled f =
     let parts = count_of bytes rest count fits e effects within f in
     refused.none effects [] (sym parts.0, spelled) (parts.1 ∙ sym (append-nil (flat_map effect_body effects)))
 
-pub bytes_behind : (bytes rest last : List ℕ) (count : ℕ) (items : List Effect) → count < 256 ^ 2 → bytes ≡ number_body 2 count ++ rest
+pub bytes_behind : Once IsSpelledEffect effect_body → (bytes rest last : List ℕ) (count : ℕ) (items : List Effect) → count < 256 ^ 2 → bytes ≡ number_body 2 count ++ rest
     → length items ≡ count → Each IsSpelledEffect items → rest ≡ flat_map effect_body items ++ last → (length last ≡ 0 → ⊥) → IsNoBody bytes
-bytes_behind bytes rest last count items fits e counted each g more effects some within spelled f =
+bytes_behind once bytes rest last count items fits e counted each g more effects some within spelled f =
     let parts = count_of bytes rest count fits e effects within f in
-    let ends = items_once IsSpelledEffect effect_body effect_once items effects last [] (counted ∙ parts.0) each spelled
+    let ends = items_once IsSpelledEffect effect_body once items effects last [] (counted ∙ parts.0) each spelled
     (sym g ∙ parts.1 ∙ sym (append-nil (flat_map effect_body effects))) in
     more (ap length ends.1)
 
@@ -58,13 +54,10 @@ unfolding effects_body
 whole_body bytes rest last count items e counted g done =
     rw (e, g, no_bytes last done, append-nil, counted) refl
 
-pub one_body : (e f : List Effect) → length e ≤ effects_limit → length f ≤ effects_limit → AreSpelled e → AreSpelled f → effects_body e ≡ effects_body f → e ≡ f
+pub one_body : Once IsSpelledEffect effect_body → (e f : List Effect) → length e ≤ effects_limit → length f ≤ effects_limit → AreSpelled e → AreSpelled f → effects_body e ≡ effects_body f → e ≡ f
 unfolding effects_body
-one_body e f within_e within_f spelled_e spelled_f same =
-    let parts = number_first 2 (length e) (length f) (flat_map effect_body e) (flat_map effect_body f) (omega (arith, within_e)) (omega (arith, within_f)) same in
-    let ends = items_once IsSpelledEffect effect_body effect_once e f [] [] parts.0 spelled_e spelled_f
+one_body once e f within_e within_f spelled_e spelled_f same =
+    let parts = number_once 2 (length e) (length f) (flat_map effect_body e) (flat_map effect_body f) (omega (arith, within_e)) (omega (arith, within_f)) same in
+    let ends = items_once IsSpelledEffect effect_body once e f [] [] parts.0 spelled_e spelled_f
     (append-nil (flat_map effect_body e) ∙ parts.1 ∙ sym (append-nil (flat_map effect_body f))) in
     ends.0
-
-pub err_same : {T : Type 0} (r : Result T BodyRefusal) (y : BodyRefusal) → r ≡ Err y → r ≡ Err NotBody → y ≡ NotBody
-err_same r y a b = cc

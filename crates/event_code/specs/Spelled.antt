@@ -15,11 +15,14 @@ use Rattle.as4_values.specs.declared.header.UserHeader.{UserHeader}
 use Rattle.as4_values.specs.declared.payload.Payload.{Payload}
 use Rattle.as4_values.specs.declared.route.Route.{Route}
 use Rattle.as4_values.specs.declared.route.Route.TheVariants.{Push, Pull}
+use Rattle.as4_effects.specs.declared.carried.Carried.{Carried as CarriedValue}
 use Rattle.as4_effects.specs.declared.effect.Effect.{Effect}
-use Rattle.as4_effects.specs.declared.effect.Effect.TheVariants.{Submitted, Ticked, Tried, Delivered, Receipted, Refused, Confirmed}
+use Rattle.as4_effects.specs.declared.effect.Effect.TheVariants.{Submitted, Ticked, Tried, Delivered, Receipted, Refused, Confirmed, Carried, Kept}
 use Rattle.as4_effects.specs.declared.delivery.Delivery.{Delivery}
+use Rattle.as4_effects.specs.declared.mark.Mark.{Mark}
+use Rattle.as4_effects.specs.declared.mark.Mark.TheVariants.{Refused as RefusedBy}
 use Rattle.as4_effects.specs.declared.submission.Submission.{Submission}
-use Rattle.event_code.specs.Reading.{IsCounted, Each}
+use Rattle.byte_forms.specs.Forms.{IsCounted, Each}
 
 abbrev pub IsTextIfSome : Option (List ℕ) → Type 0
 IsTextIfSome text = IfSome text IsText
@@ -74,6 +77,13 @@ IsSpelledSubmission s = IsSpelledHeader s.header × IsSpelledRoute s.route
 unfoldable pub IsSpelledDelivery : Delivery → Type 0
 IsSpelledDelivery d = IsSpelledHeader d.header
 
+unfoldable pub IsSpelledMark : Mark → Type 0
+IsSpelledMark (RefusedBy code) = IsWord ErrorCode code
+IsSpelledMark mark = Unit {0}
+
+unfoldable pub IsSpelledCarried : CarriedValue → Type 0
+IsSpelledCarried c = IsSpelledSubmission c.submission × (c.tries < 2 ^ 32) × IsSpelledMark c.standing
+
 unfoldable pub IsSpelledEffect : Effect → Type 0
 IsSpelledEffect (Submitted submission) = IsSpelledSubmission submission
 IsSpelledEffect (Ticked tick) = Unit {0}
@@ -82,6 +92,8 @@ IsSpelledEffect (Delivered delivery) = IsSpelledDelivery delivery
 IsSpelledEffect (Receipted number) = number < 2 ^ 64
 IsSpelledEffect (Refused number code) = (number < 2 ^ 64) × IsWord ErrorCode code
 IsSpelledEffect (Confirmed upto) = upto < 2 ^ 64
+IsSpelledEffect (Carried carried) = IsSpelledCarried carried
+IsSpelledEffect (Kept kept) = IsSpelledHeader kept.header
 
 -- each effect is such a value
 abbrev pub AreSpelled : List Effect → Type 0

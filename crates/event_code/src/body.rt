@@ -1,16 +1,17 @@
 //! The body of a record: the count of its effects and then each of them.
 
 ghost use Rattle.std.specs.Prelude.{◌≡◌, ◌≤◌, ◌+◌, ◌*◌, [], ◌∷◌, length, IfOk};
+ghost use Rattle.std.specs.List.{sum_by};
 ghost use Rattle.as4_effects.specs.Bodies.{number_body};
-ghost use Rattle.as4_effects.specs.Effects.{effect_body, effects_body, effects_limit};
-ghost use Rattle.as4_effects.specs.Sound.{effect_limit};
+ghost use Rattle.as4_effects.specs.Effects.{submission_body, standing_body, effect_body, effects_body, carried_limit, most_bytes_of, effects_limit};
+ghost use Rattle.as4_effects.specs.Marks.{mark_body};
 ghost use Rattle.as4_effects.specs.declared.effect.Tick.{Tick};
 ghost use Rattle.event_code.specs.Spelled.{AreSpelled};
 ghost use Rattle.as4_effects.specs.declared.effect.Effect.TheVariants.{Ticked, Confirmed};
 
 use crate::spelled::Spelled;
 use crate::written::{Written, push_all, push_number};
-use as4_effects::{Effect, Measured};
+use as4_effects::{Carried, Effect, Mark, Measured};
 use as4_values::{NoMemory, Octets, Seq};
 use std::alloc::Global;
 
@@ -18,11 +19,13 @@ use std::alloc::Global;
 #[tactic(auto, using(crate::proofs::BodyLemmas::counted_exactly, crate::proofs::BodyLemmas::counted_within, crate::proofs::BodyLemmas::refused_length, as4_effects::proofs::LengthLemmas::number_length), unfolding(as4_effects::specs::Effects::effect_body))]
 fn effect_len(effect: &Effect) -> u64
     ensures exact { result ≡ length (effect_body effect.now) }
-    ensures limited { result ≤ effect_limit }
+    ensures limited { result ≤ most_bytes_of effect.now }
 {
     match effect {
         Effect::Submitted(submission) => submission.add_len(0),
         Effect::Delivered(delivery) => delivery.add_len(0),
+        Effect::Kept(kept) => kept.add_len(0),
+        Effect::Carried(carried) => carried_len(carried),
         Effect::Refused { code, .. } => 13 + code.bytes().len() as u64,
         Effect::Ticked(_) => 9,
         Effect::Tried { .. } => 9,
@@ -31,12 +34,34 @@ fn effect_len(effect: &Effect) -> u64
     }
 }
 
+/// How many bytes a submission has as it stands: at most 81 more than it alone.
+#[tactic(auto, using(crate::proofs::BodyLemmas::counted_exactly, crate::proofs::BodyLemmas::counted_within, crate::proofs::BodyLemmas::standing_length))]
+fn carried_len(carried: &Carried) -> u64
+    ensures exact { result ≡ length (8 ∷ standing_body carried.now) }
+    ensures more { result ≤ length (submission_body carried.now.submission) + 81 }
+    ensures limited { result ≤ carried_limit }
+{
+    carried.submission.add_len(0) + 12 + mark_len(&carried.standing)
+}
+
+#[tactic(auto, using(crate::proofs::BodyLemmas::mark_length), unfolding(as4_effects::specs::Marks::mark_body))]
+fn mark_len(mark: &Mark) -> u64
+    ensures exact { result ≡ length (mark_body mark.now) }
+    ensures limited { result ≤ 69 }
+{
+    match mark {
+        Mark::Refused { code } => 5 + code.bytes().len() as u64,
+        _ => 1,
+    }
+}
+
 /// How many bytes the body of these effects has.
-#[tactic(auto, using(crate::proofs::BodyLemmas::more_length, crate::proofs::BodyLemmas::body_length))]
+#[tactic(auto, using(crate::proofs::BodyLemmas::more_length, crate::proofs::BodyLemmas::more_most, crate::proofs::BodyLemmas::most_within, crate::proofs::BodyLemmas::body_length, crate::proofs::BodyLemmas::body_most))]
 pub fn body_len(effects: &Seq<Effect>) -> u64
     requires { length effects.now ≤ effects_limit }
     ensures exact { result ≡ length (effects_body effects.now) }
-    ensures limited { result ≤ 2 + effect_limit * length effects.now }
+    ensures most { result ≤ 2 + sum_by most_bytes_of effects.now }
+    ensures limited { result ≤ 2 + carried_limit * length effects.now }
 {
     let mut len = 2;
     for effect in effects.items() {

@@ -4,8 +4,8 @@
 mod body;
 mod read_effect;
 mod read_header;
+mod read_messages;
 mod read_payload;
-mod read_user_header;
 mod read_values;
 mod reading;
 mod record;

@@ -2,11 +2,11 @@
 //! as it stands.
 
 ghost use Rattle.std.specs.Prelude.{◌≡◌, ℕ, List, length};
+ghost use Rattle.byte_forms.specs.Forms.{IsCounted};
 ghost use Rattle.as4_effects.specs.Bodies.{text_body};
 ghost use Rattle.as4_values.specs.Texts.{IsText};
 ghost use Rattle.as4_values.specs.Word.{IsWord};
 ghost use Rattle.as4_values.specs.declared.word.Word.TheVariants.{Identifier, ErrorCode};
-ghost use Rattle.event_code.specs.Reading.{IsCounted};
 ghost use Rattle.event_code.specs.Spelled.{IsSpelledStamp};
 
 use crate::reading::Readable;
@@ -30,6 +30,7 @@ impl Readable for Octets {
         }
     }
 
+    #[tactic(auto, using(byte_forms::proofs::OnceLemmas::text_once))]
     fn once() {}
 }
 
@@ -48,6 +49,7 @@ impl Readable for Text {
         }
     }
 
+    #[tactic(auto, using(as4_effects::proofs::CountLemmas::texts_once))]
     fn once() {}
 }
 
@@ -96,5 +98,6 @@ impl Readable for StampText {
         }
     }
 
+    #[tactic(auto, using(as4_effects::proofs::CountLemmas::stamps_once), unfolding(crate::specs::Spelled::IsSpelledStamp))]
     fn once() {}
 }

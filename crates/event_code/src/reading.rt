@@ -1,9 +1,10 @@
-//! Reading values off the front of bytes, each as `as4_effects` says that its bytes are.
+//! Reading values off the front of bytes, each as `as4_effects` says that its bytes are: numbers, pairs, options and
+//! counted lists, and what is made of such parts.
 
-ghost use Rattle.std.specs.Prelude.{◌≡◌, ℕ, ◌≤◌, ◌<◌, ◌^◌, ◌++◌, List, length, IfOk, IfErr, IfSome};
+ghost use Rattle.std.specs.Prelude.{◌≡◌, ℕ, ◌≤◌, ◌<◌, ◌^◌, ◌++◌, ◌↔◌, List, length, IfOk, IfSome, IsErrOf};
 ghost use Rattle.std.specs.List.{flat_map};
-ghost use Rattle.as4_effects.specs.Bodies.{number_body, option_body, list_body};
-ghost use Rattle.event_code.specs.Reading.{IsPair, pair_body, IsList, Each, Once, Refuses};
+ghost use Rattle.byte_forms.specs.Bytes.{number_body, option_body, list_body, pair_body};
+ghost use Rattle.byte_forms.specs.Forms.{IsPair, IsList, Each, Once, Refuses};
 
 use crate::refusal::BodyRefusal;
 use crate::rest::Rest;
@@ -21,11 +22,52 @@ pub trait Readable: Drop {
     /// Reads a value off the front.
     fn read(alloc: Global, rest: &mut Rest) -> Result<Self, BodyRefusal>
         ensures found { IfOk result (λ value. is_one value × (rest.old ≡ body value ++ rest.new)) }
-        ensures not_body { IfErr result (λ e. e ≡ BodyRefusal.NotBody → Refuses is_one body rest.old) };
+        ensures not_body { IsErrOf result BodyRefusal.NotBody → Refuses is_one body rest.old };
 
     /// No bytes begin with two values.
     fn once()
         ensures { Once is_one body };
+}
+
+/// What is read by its parts, whose bytes are its own.
+pub trait Parted: Drop {
+    type Parts: Readable;
+
+    /// Its bytes.
+    ghost whole_body: { Self → List ℕ };
+
+    /// What holds of each value of the type.
+    ghost is_whole: { Self → Type 0 };
+
+    ghost parts: { Self → Self.Parts };
+
+    /// The value of these parts.
+    fn of_parts(alloc: Global, these: Self::Parts) -> Result<Self, BodyRefusal>
+        ensures made { IfOk result (λ value. Self.parts value ≡ these) }
+        ensures not_body { IsErrOf result BodyRefusal.NotBody → (value : Self) → is_whole value → Self.parts value ≡ these → ⊥ };
+
+    ghost told: { (a b : Self) → Self.parts a ≡ Self.parts b → a ≡ b };
+
+    ghost kept: { (value : Self) → is_whole value ↔ Self.Parts.is_one (Self.parts value) };
+
+    ghost same: { (value : Self) → whole_body value ≡ Self.Parts.body (Self.parts value) };
+}
+
+/// Reads the parts of a value and makes it.
+pub fn read_by_parts<T: Parted>(alloc: Global, rest: &mut Rest) -> Result<T, BodyRefusal>
+    ensures found { IfOk result (λ value. T.is_whole value × (rest.old ≡ T.whole_body value ++ rest.new)) }
+    ensures not_body { IsErrOf result BodyRefusal.NotBody → Refuses T.is_whole T.whole_body rest.old }
+{
+    T::Parts::once();
+    let parts = T::Parts::read(alloc, rest)?;
+    T::of_parts(alloc, parts)
+}
+
+/// No bytes begin with two values, since none begin with their parts twice.
+pub fn once_by_parts<T: Parted>()
+    ensures { Once T.is_whole T.whole_body }
+{
+    T::Parts::once();
 }
 
 impl Readable for u32 {
@@ -46,7 +88,7 @@ impl Readable for u64 {
     ghost is_one = { λ number. number < 256 ^ 8 };
 
     fn read(_alloc: Global, rest: &mut Rest) -> Result<u64, BodyRefusal> {
-        rest.take_number(8)
+        Ok(rest.take_number(8)?)
     }
 
     fn once() {}
@@ -111,8 +153,8 @@ pub fn read_items<T: Readable>(
 ) -> Result<Vec<T>, BodyRefusal>
     ensures found { IfOk result (λ items. (length items.items ≡ count) × Each T.is_one items.items
         × (rest.old ≡ flat_map T.body items.items ++ rest.new)) }
-    ensures not_body { IfErr result (λ e. e ≡ BodyRefusal.NotBody
-        → Refuses (λ items. (length items ≡ count) × Each T.is_one items) (flat_map T.body) rest.old) }
+    ensures not_body { IsErrOf result BodyRefusal.NotBody
+        → Refuses (λ items. (length items ≡ count) × Each T.is_one items) (flat_map T.body) rest.old }
 {
     T::once();
     let mut items = Vec::new(alloc);

@@ -5,7 +5,7 @@ ghost use Rattle.as4_effects.specs.Effects.{effects_body, effects_limit};
 ghost use Rattle.as4_effects.specs.declared.effect.Effect.{Effect};
 ghost use Rattle.event_code.specs.Spelled.{AreSpelled};
 
-use crate::reading::read_items;
+use crate::reading::{Readable, read_items};
 use crate::refusal::BodyRefusal;
 use crate::rest::Rest;
 use as4_effects::Effect;
@@ -30,6 +30,7 @@ pub fn read_body(alloc: Global, bytes: &[u8]) -> Result<Seq<Effect>, BodyRefusal
         return Err(BodyRefusal::NotBody);
     }
     let effects = read_items(alloc, &mut rest, count)?;
+    Effect::once();
     if !rest.is_empty() {
         return Err(BodyRefusal::NotBody);
     }
@@ -47,4 +48,6 @@ fn may_count(count: u64) -> bool
 pub fn one_body()
     ensures { (e f : List Effect) → length e ≤ effects_limit → length f ≤ effects_limit → AreSpelled e → AreSpelled f
         → effects_body e ≡ effects_body f → e ≡ f }
-{}
+{
+    Effect::once();
+}

@@ -1,8 +1,8 @@
 //! The bytes that are still to be read, and numbers and octets off their front.
 
 ghost use Rattle.std.specs.Prelude.{◌≡◌, ℕ, ◌<◌, ◌≤◌, ◌==◌, ◌^◌, ◌++◌, ◌∷◌, [], List, length, IfErr, IfOk, OnErr};
-ghost use Rattle.as4_effects.specs.Bodies.{number_body, text_body};
-ghost use Rattle.event_code.specs.Reading.{IsCounted, Refuses};
+ghost use Rattle.byte_forms.specs.Bytes.{number_body, text_body};
+ghost use Rattle.byte_forms.specs.Forms.{IsCounted, Refuses};
 
 use crate::refusal::BodyRefusal;
 use std::marker::Model;

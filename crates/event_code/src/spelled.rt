@@ -1,14 +1,14 @@
 //! What each value of the program is by its type, as a fact for those who write it.
-#![tactic(auto, unfolding(crate::specs::Spelled::IsSpelledStamp, crate::specs::Spelled::IsSpelledParty, crate::specs::Spelled::IsSpelledSide, crate::specs::Spelled::IsSpelledAgreement, crate::specs::Spelled::IsSpelledService, crate::specs::Spelled::IsSpelledProperty, crate::specs::Spelled::IsSpelledPart, crate::specs::Spelled::IsSpelledRoute, crate::specs::Spelled::IsSpelledSubmission, crate::specs::Spelled::IsSpelledDelivery, crate::specs::Spelled::IsSpelledEffect))]
+#![tactic(auto, unfolding(crate::specs::Spelled::IsSpelledStamp, crate::specs::Spelled::IsSpelledParty, crate::specs::Spelled::IsSpelledSide, crate::specs::Spelled::IsSpelledAgreement, crate::specs::Spelled::IsSpelledService, crate::specs::Spelled::IsSpelledProperty, crate::specs::Spelled::IsSpelledPart, crate::specs::Spelled::IsSpelledRoute, crate::specs::Spelled::IsSpelledMark, crate::specs::Spelled::IsSpelledSubmission, crate::specs::Spelled::IsSpelledDelivery, crate::specs::Spelled::IsSpelledCarried, crate::specs::Spelled::IsSpelledEffect))]
 
 ghost use Rattle.std.specs.Prelude.{IfSome};
 ghost use Rattle.as4_values.specs.Texts.{IsText};
 ghost use Rattle.as4_values.specs.Word.{IsWord};
 ghost use Rattle.as4_values.specs.declared.word.Word.TheVariants.{Identifier, ErrorCode};
-ghost use Rattle.event_code.specs.Reading.{Each};
-ghost use Rattle.event_code.specs.Spelled.{IsSpelledStamp, IsSpelledParty, IsSpelledSide, IsSpelledAgreement, IsSpelledService, IsSpelledProperty, IsSpelledPart, IsSpelledHeader, IsSpelledRoute, IsSpelledSubmission, IsSpelledDelivery, IsSpelledEffect};
+ghost use Rattle.byte_forms.specs.Forms.{Each};
+ghost use Rattle.event_code.specs.Spelled.{IsSpelledStamp, IsSpelledParty, IsSpelledSide, IsSpelledAgreement, IsSpelledService, IsSpelledProperty, IsSpelledPart, IsSpelledHeader, IsSpelledRoute, IsSpelledMark, IsSpelledSubmission, IsSpelledDelivery, IsSpelledCarried, IsSpelledEffect};
 
-use as4_effects::{Delivery, Effect, Submission};
+use as4_effects::{Carried, Delivery, Effect, Kept, Mark, Submission};
 use as4_values::{
     Agreement, Code, MessageId, PartInfo, Party, Property, Route, Seq, Service, Side, StampText,
     Text, UserHeader,
@@ -188,6 +188,34 @@ impl Spelled for Delivery {
     }
 }
 
+impl Spelled for Mark {
+    ghost is_spelled = { IsSpelledMark };
+
+    fn show(&self) {
+        if let Mark::Refused { code } = self {
+            code.show();
+        }
+    }
+}
+
+impl Spelled for Carried {
+    ghost is_spelled = { IsSpelledCarried };
+
+    fn show(&self) {
+        self.submission.show();
+        let _tries = self.tries;
+        self.standing.show();
+    }
+}
+
+impl Spelled for Kept {
+    ghost is_spelled = { λ kept. IsSpelledHeader kept.header };
+
+    fn show(&self) {
+        self.header.show();
+    }
+}
+
 impl Spelled for Effect {
     ghost is_spelled = { IsSpelledEffect };
 
@@ -208,6 +236,8 @@ impl Spelled for Effect {
             Effect::Confirmed { upto } => {
                 let _upto = *upto;
             }
+            Effect::Carried(carried) => carried.show(),
+            Effect::Kept(kept) => kept.show(),
             Effect::Ticked(_) => {}
         }
     }

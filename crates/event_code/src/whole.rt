@@ -1,7 +1,7 @@
 //! Whether fields are those of a submission or a delivery.
 
 ghost use Rattle.std.specs.Prelude.{◌↔◌, IsTrue, IfOk};
-ghost use Rattle.event_code.specs.Whole.{AreNumbers, AreMatched, IsSubmission, IsDelivery};
+ghost use Rattle.as4_effects.specs.Whole.{AreNumbers, AreMatched, IsSubmission, IsDelivery};
 
 use as4_effects::{delivery_fits, is_id_of, is_route, pairs, submission_fits};
 use as4_values::{MAX_MOMENT, NoMemory, Payload, Route, Seq, UserHeader};

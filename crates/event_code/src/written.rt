@@ -1,11 +1,12 @@
 //! Writes values as they stand in the body of an effect.
-#![tactic(auto, unfolding(as4_effects::specs::Bodies::text_body, as4_effects::specs::Bodies::party_body, as4_effects::specs::Bodies::side_body, as4_effects::specs::Bodies::agreement_body, as4_effects::specs::Bodies::service_body, as4_effects::specs::Bodies::property_body, as4_effects::specs::Bodies::part_body, as4_effects::specs::Bodies::header_body, as4_effects::specs::Bodies::payload_body, as4_effects::specs::Bodies::route_body, as4_effects::specs::Effects::effect_body))]
+#![tactic(auto, unfolding(as4_effects::specs::Bodies::text_body, as4_effects::specs::Bodies::party_body, as4_effects::specs::Bodies::side_body, as4_effects::specs::Bodies::agreement_body, as4_effects::specs::Bodies::service_body, as4_effects::specs::Bodies::property_body, as4_effects::specs::Bodies::part_body, as4_effects::specs::Bodies::header_body, as4_effects::specs::Bodies::payload_body, as4_effects::specs::Bodies::route_body, as4_effects::specs::Effects::effect_body, as4_effects::specs::Marks::mark_body))]
 
 ghost use Rattle.std.specs.Prelude.{◌≡◌, ◌∷◌, ◌++◌, ◌≤◌, OnOk};
 ghost use Rattle.std.specs.List.{flat_map};
 ghost use Rattle.as4_effects.specs.Bodies.{number_body, text_body};
+ghost use Rattle.as4_effects.specs.Effects.{fields_body};
 
-use as4_effects::{Delivery, Effect, Measured, Submission};
+use as4_effects::{Carried, Delivery, Effect, Kept, Mark, Measured, Submission};
 use as4_values::{
     Agreement, Code, MessageId, NoMemory, Octets, PartInfo, Party, Payload, Property, Route, Seq,
     Service, Side, StampText, Text, UserHeader,
@@ -182,16 +183,23 @@ impl Written for Route {
     }
 }
 
+/// Adds the fields of a submission.
+fn push_fields(out: &mut Vec<u8>, submission: &Submission) -> Result<(), NoMemory>
+    ensures { OnOk result (out.new.items ≡ out.old.items ++ fields_body submission.now) }
+{
+    push_number(out, 8, submission.number)?;
+    submission.header.push_to(out)?;
+    submission.payloads.push_to(out)?;
+    submission.route.push_to(out)?;
+    push_number(out, 4, submission.retries as u64)?;
+    push_number(out, 8, submission.period)?;
+    push_number(out, 8, submission.moment)
+}
+
 impl Written for Submission {
     fn push_to(&self, out: &mut Vec<u8>) -> Result<(), NoMemory> {
         out.push(1)?;
-        push_number(out, 8, self.number)?;
-        self.header.push_to(out)?;
-        self.payloads.push_to(out)?;
-        self.route.push_to(out)?;
-        push_number(out, 4, self.retries as u64)?;
-        push_number(out, 8, self.period)?;
-        push_number(out, 8, self.moment)
+        push_fields(out, self)
     }
 }
 
@@ -200,6 +208,38 @@ impl Written for Delivery {
         out.push(4)?;
         self.header.push_to(out)?;
         self.payloads.push_to(out)
+    }
+}
+
+impl Written for Mark {
+    fn push_to(&self, out: &mut Vec<u8>) -> Result<(), NoMemory> {
+        match self {
+            Mark::Pending => out.push(0)?,
+            Mark::Receipted => out.push(1)?,
+            Mark::Failed => out.push(2)?,
+            Mark::Refused { code } => {
+                out.push(3)?;
+                code.push_to(out)?;
+            }
+        }
+        Ok(())
+    }
+}
+
+impl Written for Carried {
+    fn push_to(&self, out: &mut Vec<u8>) -> Result<(), NoMemory> {
+        out.push(8)?;
+        push_fields(out, &self.submission)?;
+        push_number(out, 4, self.tries as u64)?;
+        push_number(out, 8, self.last)?;
+        self.standing.push_to(out)
+    }
+}
+
+impl Written for Kept {
+    fn push_to(&self, out: &mut Vec<u8>) -> Result<(), NoMemory> {
+        out.push(9)?;
+        self.header.push_to(out)
     }
 }
 
@@ -224,6 +264,8 @@ impl Written for Effect {
                 code.push_to(out)
             }
             Effect::Confirmed { upto } => push_numbered(out, 7, *upto),
+            Effect::Carried(carried) => carried.push_to(out),
+            Effect::Kept(kept) => kept.push_to(out),
         }
     }
 }

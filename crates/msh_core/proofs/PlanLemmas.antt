@@ -1,14 +1,13 @@
 -- A plan is carried out effect by effect.
-use Rattle.std.proofs.Common.{◌≡◌, ℕ, zero, suc, ◌+◌, ◌<◌, List, [], ◌∷◌, Bool, true, false, Option, Some, None, option_map, length, map, drop, get_or, refl, sym, ◌∙◌, arith}
+use Rattle.std.proofs.Common.{◌≡◌, ℕ, zero, suc, ◌+◌, ◌-◌, ◌<◌, List, [], ◌∷◌, Bool, true, false, Option, Some, None, option_map, length, map, drop, get_or, refl, sym, subst, ◌∙◌, arith}
 use Rattle.std.proofs.Math.Seq.{drop-cons}
 use Rattle.std.specs.Prelude.{if◌then◌else◌}
-use Rattle.std.specs.List.{AllByRecursion}
 use Rattle.as4_effects.specs.declared.effect.Effect.{Effect}
 use Rattle.as4_effects.specs.declared.effect.Effect.TheVariants as effect
 use Rattle.as4_effects.specs.declared.queue.Queue.{Queue}
-use Rattle.end_tables.specs.Rooms.{Rooms, HasRoom, TakesNoRoom, queue_for}
+use Rattle.end_tables.specs.Rooms.{Rooms, HasRoom, IsThere, TakesNoRoom, queue_for}
 use Rattle.end_tables.specs.Standing.{TakeOneRoom}
-use Rattle.end_tables.proofs.KeptLemmas.{kept_queue}
+use Rattle.end_tables.proofs.KeptLemmas.{fit_there, kept_queue, room_stays, there_before}
 use Rattle.exchange_model.specs.Apply.{after, first_unfit, is_fit}
 use Rattle.exchange_model.specs.End.{End}
 use Rattle.exchange_model.specs.declared.sent.Sent.{Sent}
@@ -38,7 +37,7 @@ kept_queues e [] end h = refl
 kept_queues e (f ∷ rest) end h =
     rw (kept_queue e f end h, kept_queues e rest end h) refl
 
--- and they have room wherever they are
+-- and have room wherever they are
 no_room : (e : Effect) (rooms : Rooms) (sent : List Sent) → TakesNoRoom e → HasRoom rooms sent e
 unfolding TakesNoRoom HasRoom
 no_room (effect.Submitted submission) rooms sent h = absurd h
@@ -48,6 +47,38 @@ no_room (effect.Delivered delivery) rooms sent h = absurd h
 no_room (effect.Receipted number) rooms sent h = tt
 no_room (effect.Refused number code) rooms sent h = tt
 no_room (effect.Confirmed upto) rooms sent h = tt
+no_room (effect.Carried carried) rooms sent h = absurd h
+no_room (effect.Kept kept) rooms sent h = absurd h
+
+-- the room of others stays behind such an effect
+rooms_stay : (e : Effect) (end : End) (rooms : Rooms) (rest : List Effect) → TakesNoRoom e → HaveRoom rooms end.sent rest
+    → HaveRoom rooms (after e end).sent rest
+rooms_stay e end rooms [] h room = tt
+rooms_stay e end rooms (f ∷ rest) h room = (room_stays e f end rooms h room.0, rooms_stay e end rooms rest h room.1)
+
+-- the last of more is the last of the rest
+last_of_rest : (e f : Effect) (rest : List Effect) (d : Effect)
+    → get_or (e ∷ f ∷ rest) (length (e ∷ f ∷ rest) - 1) d ≡ get_or (f ∷ rest) (length (f ∷ rest) - 1) d
+last_of_rest e f rest d =
+    let whole : length (e ∷ f ∷ rest) - 1 ≡ suc (length rest) = omega arith in
+    let part : length (f ∷ rest) - 1 ≡ length rest = omega arith in rw (whole, part) refl
+
+-- the last of some effects was there before them
+pub last_there : (effects : List Effect) (end : End) (d : Effect) → first_unfit effects end ≡ None → TakeOneRoom effects → 0 < length effects
+    → IsThere end.sent (get_or effects (length effects - 1) d)
+last_there [] end d fit one some = absurd (omega arith)
+last_there (e ∷ []) end d fit one some = fit_there e end (first_fits e [] end fit).0
+last_there (e ∷ f ∷ rest) end d fit one some =
+    rw (last_of_rest e f rest d) (there_before e (get_or (f ∷ rest) (length (f ∷ rest) - 1) d) end one.0
+        (last_there (f ∷ rest) (after e end) d (first_fits e (f ∷ rest) end fit).1 one.1 (omega arith)))
+
+-- where the last has room, all have
+pub last_has : (effects : List Effect) (rooms : Rooms) (sent : List Sent) (d : Effect) → TakeOneRoom effects
+    → HasRoom rooms sent (get_or effects (length effects - 1) d) → HaveRoom rooms sent effects
+last_has [] rooms sent d one room = tt
+last_has (e ∷ []) rooms sent d one room = (room, tt)
+last_has (e ∷ f ∷ rest) rooms sent d one room =
+    (no_room e rooms sent one.0, last_has (f ∷ rest) rooms sent d one.1 (rw (last_of_rest e f rest d) at room))
 
 cons_parts : {X : Type 0} (x y : X) (xs ys : List X) → x ∷ xs ≡ y ∷ ys → (x ≡ y) × (xs ≡ ys)
 cons_parts x y xs ys e = grind arith
@@ -56,22 +87,23 @@ nothing_left : {X : Type 0} {x : X} {rest : List X} (at : ℕ) → drop at [] �
 nothing_left zero e = absurd cc
 nothing_left (suc at) e = absurd cc
 
-others : (f : Effect) (rest : List Effect) → AllByRecursion TakesNoRoom (f ∷ rest) → TakeOneRoom (f ∷ rest)
-others f [] h = tt
-others f (g ∷ rest) h = h
+one_room_of : (e : Effect) (rest : List Effect) → TakeOneRoom (e ∷ rest) → TakeOneRoom rest
+one_room_of e [] one = tt
+one_room_of e (f ∷ rest) one = one.1
 
 -- behind an effect the rest can go on
-rest_goes : (end : End) (later : Rooms) (e : Effect) (rest : List Effect) (queues : List Queue) → first_unfit rest (after e end) ≡ None
-    → TakeOneRoom (e ∷ rest) → queues ≡ map (queue_for end.sent) rest → CanGo (after e end) later rest queues
-rest_goes end later e [] queues fit one_room placed = record { fit = fit; placed = placed; room = tt; one_room = tt }
-rest_goes end later e (f ∷ rest) queues fit one_room placed = record {
+rest_goes : (end : End) (rooms later : Rooms) (e : Effect) (rest : List Effect) (queues : List Queue) → first_unfit rest (after e end) ≡ None
+    → TakeOneRoom (e ∷ rest) → queues ≡ map (queue_for end.sent) rest → HaveRoom rooms end.sent rest → (TakesNoRoom e → later ≡ rooms)
+    → CanGo (after e end) later rest queues
+rest_goes end rooms later e [] queues fit one placed room stays = record { fit = fit; placed = placed; room = tt; one_room = tt }
+rest_goes end rooms later e (f ∷ rest) queues fit one placed room stays = record {
   fit = fit;
-  placed = placed ∙ sym (kept_queues e (f ∷ rest) end one_room.0);
-  room = no_room f later (after e end).sent one_room.1.0;
-  one_room = others f rest one_room.1;
+  placed = placed ∙ sym (kept_queues e (f ∷ rest) end one.0);
+  room = subst (λ r. HaveRoom r (after e end).sent (f ∷ rest)) (sym (stays one.0)) (rooms_stay e end rooms (f ∷ rest) one.0 room);
+  one_room = one.1;
 }
 
--- the first of what is left can be made, with the queue at its place; behind it the rest can go on, whatever room is left
+-- the first of what is left can be made, with the queue at its place; behind it the rest can go on, where it keeps the room of the others
 pub record GoesOn (end : End) (rooms later : Rooms) (e : Effect) (rest : List Effect) (at : ℕ) (queues : List Queue) : Type 0 where
   pub fit : is_fit e end ≡ true
   pub room : HasRoom rooms end.sent e
@@ -86,8 +118,8 @@ place_below (y ∷ xs) zero x rest e = omega arith
 place_below (y ∷ xs) (suc at) x rest e = let below : at < length xs = place_below xs at x rest e in omega arith
 
 pub goes_on : (end : End) (rooms later : Rooms) (e : Effect) (rest : List Effect) (at : ℕ) (queues : List Queue)
-    → CanGo end rooms (e ∷ rest) (drop at queues) → GoesOn end rooms later e rest at queues
-goes_on end rooms later e rest at queues can =
+    → CanGo end rooms (e ∷ rest) (drop at queues) → (TakesNoRoom e → later ≡ rooms) → GoesOn end rooms later e rest at queues
+goes_on end rooms later e rest at queues can stays =
     let fits = first_fits e rest end can.fit in
     let below : at < length queues =
     place_below queues at (queue_for end.sent e) (map (queue_for end.sent) rest) can.placed in
@@ -95,9 +127,9 @@ goes_on end rooms later e rest at queues can =
     λ d. cons_parts _ _ _ _ (sym (drop-cons queues at d below) ∙ can.placed) in
     record {
       fit = fits.0;
-      room = can.room;
+      room = can.room.0;
       below = below;
       queue = λ d. (parts d).0;
       on = let one : at + 1 ≡ suc at = omega arith in
-          rw one (rest_goes end later e rest (drop (suc at) queues) fits.1 can.one_room (parts (queue_for end.sent e)).1);
+          rw one (rest_goes end rooms later e rest (drop (suc at) queues) fits.1 can.one_room (parts (queue_for end.sent e)).1 can.room.1 stays);
     }

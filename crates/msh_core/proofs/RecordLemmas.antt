@@ -18,6 +18,8 @@ size_after (effect.Delivered delivery) end = refl
 size_after (effect.Receipted number) end = refl
 size_after (effect.Refused number code) end = refl
 size_after (effect.Confirmed upto) end = refl
+size_after (effect.Carried carried) end = refl
+size_after (effect.Kept kept) end = refl
 
 pub size_kept : (effects : List Effect) (end : End) → (after_all effects end).size ≡ end.size
 size_kept [] end = refl
@@ -29,11 +31,11 @@ right_of true b e h = absurd cc
 
 -- where its record has room, the journal can grow
 pub room_to_grow : (effects : List Effect) (end later : End) → (length effects == 0) ≡ false → has_room end effects ≡ true
-    → later ≡ after_all effects end → later.size + record_len effects ≤ 1073741824
+    → later ≡ after_all effects end → later.size + record_len effects ≤ 4294967296
 unfolding has_room
 room_to_grow effects end later some room same =
     let kept : later.size ≡ end.size = ap (λ (x : End). x.size) same ∙ size_kept effects end in
-    let fits : end.size + record_len effects ≤ 1073741824 = leb-true _ _ (right_of (length effects == 0) _ some room) in omega arith
+    let fits : end.size + record_len effects ≤ 4294967296 = leb-true _ _ (right_of (length effects == 0) _ some room) in omega arith
 
 -- and is then the end after the record
 pub grown : (effects : List Effect) (end later new : End) → (length effects == 0) ≡ false → later ≡ after_all effects end
@@ -55,7 +57,7 @@ pub are_some : (effects : List Effect) → 1 ≤ length effects → (length effe
 are_some effects some = ne_eqb (length effects) 0 (λ none. omega arith)
 
 -- of whose record it is said that it has room
-pub room_for_record : (effects : List Effect) (end later : End) → end.size + record_len effects ≤ 1073741824
-    → later ≡ after_all effects end → later.size + record_len effects ≤ 1073741824
+pub room_for_record : (effects : List Effect) (end later : End) → end.size + record_len effects ≤ 4294967296
+    → later ≡ after_all effects end → later.size + record_len effects ≤ 4294967296
 room_for_record effects end later fits same =
     let kept : later.size ≡ end.size = ap (λ (x : End). x.size) same ∙ size_kept effects end in omega (arith, fits)

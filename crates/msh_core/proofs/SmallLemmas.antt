@@ -47,23 +47,23 @@ rests_step : (modes : List Mode) (end : End) (event : Event) (r : Reply) → Row
     → Step modes end event (record { effects = []; reply = r })
 rests_step modes end event r row = record { row = record { effects = []; reply = r }; decided = row; limited = rests_limited end r }
 
--- the record of a number has 16 bytes
-tick_len : (tick : Tick) → record_len (effect.Ticked tick ∷ []) ≡ 16
+-- the record of a number has 20 bytes
+tick_len : (tick : Tick) → record_len (effect.Ticked tick ∷ []) ≡ 20
 unfolding record_len effects_body effect_body
 tick_len tick = simp (length-append, number_length) refl
 
-confirm_len : (upto : ℕ) → record_len (effect.Confirmed upto ∷ []) ≡ 16
+confirm_len : (upto : ℕ) → record_len (effect.Confirmed upto ∷ []) ≡ 20
 unfolding record_len effects_body effect_body
 confirm_len upto = simp (length-append, number_length) refl
 
--- one effect whose record has 16 bytes: there is room for it, or none
-one_limited : (end : End) (e : Effect) (r : Reply) → record_len (e ∷ []) ≡ 16 → nat_le (end.size + 16) 1073741824 ≡ true
+-- one effect whose record has 20 bytes: there is room for it, or none
+one_limited : (end : End) (e : Effect) (r : Reply) → record_len (e ∷ []) ≡ 20 → nat_le (end.size + 20) 4294967296 ≡ true
     → IsLimited end (record { effects = e ∷ []; reply = r }) (record { effects = e ∷ []; reply = r })
 unfolding has_room
 one_limited end e r len room = let has : has_room end (e ∷ []) ≡ true = rw (len, room) refl in at_true _ _ _ has refl
 
-full_limited : (end : End) (e : Effect) (r : Reply) → record_len (e ∷ []) ≡ 16 → nat_le (end.size + 16) 1073741824 ≡ false
-    → IsLimited end (record { effects = e ∷ []; reply = r }) (record { effects = []; reply = reply.Full end.size 16 })
+full_limited : (end : End) (e : Effect) (r : Reply) → record_len (e ∷ []) ≡ 20 → nat_le (end.size + 20) 4294967296 ≡ false
+    → IsLimited end (record { effects = e ∷ []; reply = r }) (record { effects = []; reply = reply.Full end.size 20 })
 unfolding has_room
 full_limited end e r len full = let lacks : has_room end (e ∷ []) ≡ false = rw (len, full) refl in
     at_false _ _ _ lacks (ap (λ n. record { effects = []; reply = reply.Full end.size n }) (sym len))
@@ -87,11 +87,11 @@ unfolding Ticks ticked
 tick_row machine event tick same later = at_false _ _ _ (lt-leb _ _ later) (tick, same, refl)
 
 pub tick_full : (machine : Machine) (event : Event) → event.what ≡ what.Tick → machine.end.moment < event.stamp
-    → nat_le (machine.end.size + 16) 1073741824 ≡ false → PlansFor machine event (plan.Rest (reply.Full machine.end.size 16))
+    → nat_le (machine.end.size + 20) 4294967296 ≡ false → PlansFor machine event (plan.Rest (reply.Full machine.end.size 20))
 unfolding ticked
 tick_full machine event is later full =
     let tick : Tick = record { moment = event.stamp; dated = event.dated } in
-    let outcome : Outcome = record { effects = []; reply = reply.Full machine.end.size 16 } in (
+    let outcome : Outcome = record { effects = []; reply = reply.Full machine.end.size 20 } in (
       outcome,
       refl,
       record {
@@ -102,7 +102,7 @@ tick_full machine event is later full =
     )
 
 pub tick_made : (machine : Machine) (event : Event) → event.what ≡ what.Tick → machine.end.moment < event.stamp
-    → nat_le (machine.end.size + 16) 1073741824 ≡ true → PlansFor machine event (plan.Tick event.stamp)
+    → nat_le (machine.end.size + 20) 4294967296 ≡ true → PlansFor machine event (plan.Tick event.stamp)
 unfolding ticked
 tick_made machine event is later room =
     let tick : Tick = record { moment = event.stamp; dated = event.dated } in (
@@ -141,11 +141,11 @@ unfolding Confirms confirmed
 confirm_row machine upto left within = at_false _ _ _ (le-ltb _ _ left) (at_false _ _ _ (lt-leb _ _ within) refl)
 
 pub confirm_full : (machine : Machine) (event : Event) (upto : ℕ) → event.what ≡ what.Confirm upto → machine.end.confirmed ≤ upto
-    → upto < length machine.end.inbox → nat_le (machine.end.size + 16) 1073741824 ≡ false
-    → PlansFor machine event (plan.Rest (reply.Full machine.end.size 16))
+    → upto < length machine.end.inbox → nat_le (machine.end.size + 20) 4294967296 ≡ false
+    → PlansFor machine event (plan.Rest (reply.Full machine.end.size 20))
 unfolding confirmed
 confirm_full machine event upto is left within full =
-    let outcome : Outcome = record { effects = []; reply = reply.Full machine.end.size 16 } in (
+    let outcome : Outcome = record { effects = []; reply = reply.Full machine.end.size 20 } in (
       outcome,
       refl,
       record {
@@ -156,7 +156,7 @@ confirm_full machine event upto is left within full =
     )
 
 pub confirm_made : (machine : Machine) (event : Event) (upto : ℕ) → event.what ≡ what.Confirm upto → machine.end.confirmed ≤ upto
-    → upto < length machine.end.inbox → nat_le (machine.end.size + 16) 1073741824 ≡ true
+    → upto < length machine.end.inbox → nat_le (machine.end.size + 20) 4294967296 ≡ true
     → PlansFor machine event (plan.Confirm upto)
 unfolding confirmed
 confirm_made machine event upto is left within room = (
@@ -176,7 +176,7 @@ ticks_alike tick other end same = ap (λ m. record end { sent = map (failed_if_s
 
 -- with its record, a tick leads where the outcome says
 pub tick_done : (end new : End) (moment failed : ℕ) (made : Tick) (outcome : Outcome) → made.moment ≡ moment
-    → new ≡ record (after (effect.Ticked made) end) { size = (after (effect.Ticked made) end).size + 16 }
+    → new ≡ record (after (effect.Ticked made) end) { size = (after (effect.Ticked made) end).size + 20 }
     → failed ≡ count_by (is_spent moment) end.sent → StandsFor end (plan.Tick moment) outcome
     → (new ≡ applied outcome.effects end) × (reply.Ticked failed ≡ outcome.reply)
 unfolding applied
@@ -184,14 +184,14 @@ tick_done end new moment failed made outcome same grows counts stands =
     let tick = stands.0 in
     let after_is : after (effect.Ticked made) end ≡ after (effect.Ticked tick) end =
     ticks_alike made tick end (same ∙ sym stands.1) in (
-      grows ∙ ap (λ (x : End). record x { size = x.size + 16 }) after_is
+      grows ∙ ap (λ (x : End). record x { size = x.size + 20 }) after_is
           ∙ ap (λ n. record (after (effect.Ticked tick) end) { size = (after (effect.Ticked tick) end).size + n }) (sym (tick_len tick))
           ∙ ap (λ (o : Outcome). applied o.effects end) (sym stands.2),
       ap reply.Ticked counts ∙ ap (λ (o : Outcome). o.reply) (sym stands.2),
     )
 
 pub confirm_done : (end new : End) (upto : ℕ) (outcome : Outcome)
-    → new ≡ record (after (effect.Confirmed upto) end) { size = (after (effect.Confirmed upto) end).size + 16 }
+    → new ≡ record (after (effect.Confirmed upto) end) { size = (after (effect.Confirmed upto) end).size + 20 }
     → StandsFor end (plan.Confirm upto) outcome
     → (new ≡ applied outcome.effects end) × (reply.Confirmed upto ≡ outcome.reply)
 unfolding applied

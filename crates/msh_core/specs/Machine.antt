@@ -1,5 +1,6 @@
 -- The machine of one end, and what it plans for an event.
-use Rattle.std.specs.Prelude.{◌≡◌, List, [], ◌∷◌, true, map}
+use Rattle.std.specs.Prelude.{◌≡◌, List, true, map}
+use Rattle.std.specs.List.{AllByRecursion}
 use Rattle.as4_effects.specs.declared.effect.Effect.{Effect}
 use Rattle.as4_effects.specs.declared.queue.Queue.{Queue}
 use Rattle.as4_values.specs.declared.mode.Mode.{Mode}
@@ -22,10 +23,9 @@ pub record Planned : Type 0 where
   pub outcome : Outcome
   pub queues : List Queue
 
--- there is room for the first of these; the others take none
+-- there is room for each of these
 abbrev pub HaveRoom : Rooms → List Sent → List Effect → Type 0
-HaveRoom rooms sent [] = Unit {0}
-HaveRoom rooms sent (effect ∷ effects) = HasRoom rooms sent effect
+HaveRoom rooms sent effects = AllByRecursion (HasRoom rooms sent) effects
 
 -- the plan is what this machine gives to an event, as it stands, and can be carried out
 pub record IsReady (machine : Machine) (plan : Planned) : Type 0 where

@@ -27,12 +27,12 @@ abbrev pub PlansFor : Machine → Event → SmallPlan → Type 0
 PlansFor machine event p =
     (outcome : Outcome) × StandsFor machine.end p outcome × Step machine.modes machine.end event outcome
 
--- the plan can be carried out; its record has 16 bytes
+-- the plan can be carried out; its record has 20 bytes
 abbrev pub CanGo : End → SmallPlan → Type 0
 CanGo end (plan.Tick moment) =
-    (end.moment < moment) × (moment ≤ 253402300799999) × (end.size + 16 ≤ journal_limit)
+    (end.moment < moment) × (moment ≤ 253402300799999) × (end.size + 20 ≤ journal_limit)
 CanGo end (plan.Confirm upto) =
-    (end.confirmed ≤ upto) × (upto < length end.inbox) × (end.size + 16 ≤ journal_limit)
+    (end.confirmed ≤ upto) × (upto < length end.inbox) × (end.size + 20 ≤ journal_limit)
 CanGo end (plan.Rest r) = Unit {0}
 
 -- the plan is what this machine gives to an event, as it stands, and can be carried out

@@ -1,5 +1,5 @@
 //! Effects are made one after another, with the room and the queues that were got for them.
-ghost use Rattle.std.specs.Prelude.{◌≡◌, IfOk, map};
+ghost use Rattle.std.specs.Prelude.{◌≡◌, IfOk, OnOk, map};
 ghost use Rattle.end_tables.specs.Rooms.{queue_for};
 ghost use Rattle.end_tables.specs.Standing.{CanStand};
 ghost use Rattle.exchange_model.specs.Apply.{after_all};
@@ -10,7 +10,7 @@ use as4_values::{NoMemory, Seq};
 use end_tables::EndTables;
 use std::alloc::Global;
 
-/// Makes room for the effects, and finds the queue in which each moves a submission.
+/// Makes room for the effects, of which the last alone may take some, and finds the queue in which each moves a submission.
 pub fn room_for(
     alloc: Global,
     tables: &mut EndTables,
@@ -21,10 +21,22 @@ pub fn room_for(
     ensures queues { IfOk result (λ queues. queues ≡ map (queue_for tables.new.end.sent) effects.now) }
     ensures end { tables.new.end ≡ tables.old.end }
 {
-    if let Some(effect) = effects.items().first() {
-        tables.reserve(effect)?;
-    }
+    reserve_last(tables, effects)?;
     queues_for(alloc, tables, effects)
+}
+
+/// Makes room for the last of the effects: the others take none.
+fn reserve_last(tables: &mut EndTables, effects: &Seq<Effect>) -> Result<(), NoMemory>
+    requires { CanStand tables.old.end effects.now }
+    ensures room { OnOk result (HaveRoom tables.new.rooms tables.new.end.sent effects.now) }
+    ensures end { tables.new.end ≡ tables.old.end }
+{
+    let items = effects.items();
+    let len = items.len();
+    if len == 0 {
+        return Ok(());
+    }
+    tables.reserve(&items[len - 1])
 }
 
 /// The queue in which each effect moves a submission.

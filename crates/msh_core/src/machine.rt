@@ -24,9 +24,9 @@ use std::alloc::Global;
 use std::marker::Model;
 
 /// How many bytes a journal has at most.
-pub const MAX_JOURNAL: u64 = 1_073_741_824;
+pub const MAX_JOURNAL: u64 = 4_294_967_296;
 
-const _: () = prove!(MAX_JOURNAL == 1073741824);
+const _: () = prove!(MAX_JOURNAL == 4294967296);
 
 /// One end with its processing modes. It asks no clock, disk or peer: what happens comes in as events.
 #[derive(Drop)]
@@ -170,7 +170,7 @@ fn lacking(tables: &EndTables, effects: &Seq<Effect>) -> Option<u64>
 pub(crate) fn record_len(effects: &Seq<Effect>) -> u64
     requires { length effects.now ≤ effects_limit }
     ensures value { result ≡ record_len effects.now }
-    ensures few { result ≤ 549755813895 }
+    ensures few { result ≤ 549755894795 }
 {
-    body_len(effects) + 5
+    body_len(effects) + 9
 }

@@ -5,7 +5,7 @@ ghost use Rattle.end_tables.specs.Rooms.{HasRoom, queue_for};
 ghost use Rattle.exchange_model.specs.Apply.{after, after_all, applied, first_unfit, is_fit, record_len};
 ghost use Rattle.msh_core.specs.declared.replaying.ReplayRefusal.TheVariants.{NoMemory as NoMemoryLeft};
 
-use crate::machine::{Core, record_len};
+use crate::machine::{Core, MAX_JOURNAL, record_len};
 use as4_effects::{Effect, Queue};
 use as4_values::{NoMemory, Seq};
 use end_tables::EndTables;
@@ -31,7 +31,7 @@ impl Core {
     pub fn replay(&mut self, effects: Seq<Effect>) -> Result<(), ReplayRefusal>
         requires some { 1 ≤ length effects }
         requires counted { length effects ≤ effects_limit }
-        requires limited { self.old.end.size + record_len effects ≤ 1073741824 }
+        requires limited { self.old.end.size + record_len effects ≤ MAX_JOURNAL }
         ensures ok { OnOk result (self.new.end ≡ applied effects self.old.end) }
         ensures fit { OnOk result (first_unfit effects self.old.end ≡ None) }
         ensures unfit { (index : ℕ) → result ≡ Err (ReplayRefusal.Unfit index) → first_unfit effects self.old.end ≡ Some index }

@@ -10,7 +10,7 @@ use as4_values::MAX_MOMENT;
 use exchange_model::{Reply, What};
 
 /// How many bytes the record of a tick or of a confirmation has.
-const SMALL_RECORD: u64 = 16;
+const SMALL_RECORD: u64 = 20;
 
 /// What an end is about to do at a tick or a confirmation.
 #[derive(Drop)]
@@ -60,14 +60,14 @@ impl Core {
 
     /// Whether the journal has room for a small record.
     fn has_small_room(&self) -> bool
-        ensures { result ≡ nat_le (self.now.end.size + 16) 1073741824 }
+        ensures { result ≡ nat_le (self.now.end.size + 20) MAX_JOURNAL }
     {
         self.tables.size() + SMALL_RECORD <= MAX_JOURNAL
     }
 
     /// The journal has no room for a small record.
     fn small_full(&self) -> SmallPlan
-        ensures { result ≡ SmallPlan.Rest (Reply.Full self.now.end.size 16) }
+        ensures { result ≡ SmallPlan.Rest (Reply.Full self.now.end.size 20) }
     {
         let size = self.tables.size();
         let need = SMALL_RECORD;

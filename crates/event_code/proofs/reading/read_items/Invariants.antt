@@ -1,6 +1,6 @@
 use Rattle.std.proofs.Common.{◌≡◌, ◌++◌, length}
 use Rattle.std.specs.List.{flat_map}
-use Rattle.event_code.specs.Reading.{Each}
+use Rattle.byte_forms.specs.Forms.{Each}
 use Rattle.event_code.proofs.reading.read_items.Given as goal
 
 -- so many items are read

@@ -1,8 +1,9 @@
 use Rattle.std.proofs.Common.{◌∙◌, length, sym, ap, subst, arith}
-use Rattle.std.proofs.lemmas.Result.{err_from_is_err_and}
 use Rattle.std.proofs.lemmas.Bool.{iff_false, eqb-true, eq-eqb, false≢true}
 use Rattle.as4_effects.specs.Effects.{effects_body}
-use Rattle.event_code.proofs.RecordReading.{IsNoBody, no_count, wrong_count, no_items, bytes_behind, whole_body, err_same}
+use Rattle.std.proofs.lemmas.Result.{err_from_is_err_and}
+use Rattle.event_code.proofs.Passing.{passed}
+use Rattle.event_code.proofs.RecordReading.{IsNoBody, no_count, wrong_count, no_items, bytes_behind, whole_body}
 use Rattle.event_code.proofs.record.read_body.Goals as goal
 
 pub returns-in_err-count-clause-not_body : goal.returns-in_err-count-clause-not_body
@@ -17,18 +18,16 @@ returns-then-not-may_count-clause-not_body c = λ _.
 
 pub returns-in_err-effects-clause-not_body : goal.returns-in_err-effects-clause-not_body
 returns-in_err-effects-clause-not_body c = λ is.
-    let p = err_from_is_err_and c.from_residual-in_err-effects.result c.from_residual-in_err-effects.ensures.1 in
     let count = c.in_ok-count.ensures.found in
     subst IsNoBody c.of-rest.ensures
-    (no_items c.of-rest.result c.take_number.new.self c.in_ok-count.count count.0 count.1
-    (c.in_err-effects.ensures.not_body (sym p.2 ∙ err_same c.from_residual-in_err-effects.result p.0 p.1 is)))
+    (no_items c.of-rest.result c.take_number.new.self c.in_ok-count.count count.0 count.1 (c.in_err-effects.ensures.not_body (passed _ _ (err_from_is_err_and c.from_residual-in_err-effects.result c.from_residual-in_err-effects.ensures.1) is)))
 
 pub returns-then-not-is_empty-clause-not_body : goal.returns-then-not-is_empty-clause-not_body
 returns-then-not-is_empty-clause-not_body c = λ _.
     let count = c.in_ok-count.ensures.found in
     let items = c.in_ok-effects.ensures.found in
     subst IsNoBody c.of-rest.ensures
-    (bytes_behind c.of-rest.result c.take_number.new.self c.read_items.new.rest c.in_ok-count.count c.in_ok-effects.effects.items count.0 count.1 items.0 items.1 items.2
+    (bytes_behind c.once.ensures c.of-rest.result c.take_number.new.self c.read_items.new.rest c.in_ok-count.count c.in_ok-effects.effects.items count.0 count.1 items.0 items.1 items.2
     (λ none. false≢true (sym c.if-not-is_empty.true ∙ (c.is_empty.ensures ∙ eq-eqb (length c.read_items.new.rest) 0 none))))
 
 pub returns-clause-found : goal.returns-clause-found

@@ -1,5 +1,5 @@
 use Rattle.std.proofs.Common.{take}
-use Rattle.event_code.specs.Reading.{Each}
+use Rattle.byte_forms.specs.Forms.{Each}
 use Rattle.event_code.proofs.spelled.show_all.Given as goal
 
 -- so it is with those so far

@@ -10,10 +10,10 @@ loop-effect-preserved c =
     (c.in-Some.effect ∷ into_iter_items c.next.new.self) (drop c.loop-effect.index c.items-queues.result.now) =
     rw (sym c.in-Some.ensures.steps.0) c.loop-effect.invariant.can in
     let next = goes_on c.loop-effect.tables.end c.loop-effect.tables.rooms c.apply.new.self.rooms c.in-Some.effect
-    (into_iter_items c.next.new.self) c.loop-effect.index c.items-queues.result.now can in
+    (into_iter_items c.next.new.self) c.loop-effect.index c.items-queues.result.now can c.apply.ensures.rooms in
     record {
-      can = rw c.apply.ensures next.on;
-      leads = ap (after_all (into_iter_items c.next.new.self)) c.apply.ensures
+      can = rw c.apply.ensures.end next.on;
+      leads = ap (after_all (into_iter_items c.next.new.self)) c.apply.ensures.end
           ∙ ap (λ effects. after_all effects c.loop-effect.tables.end) (sym c.in-Some.ensures.steps.0)
           ∙ c.loop-effect.invariant.leads;
     }

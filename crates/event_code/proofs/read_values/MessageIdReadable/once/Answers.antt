@@ -1,4 +1,4 @@
-use Rattle.event_code.proofs.ValueReading.{words_once}
+use Rattle.as4_effects.proofs.CountLemmas.{words_once}
 use Rattle.as4_values.specs.declared.word.Word.TheVariants.{Identifier}
 use Rattle.event_code.proofs.read_values.MessageIdReadable.once.Goals as goal
 

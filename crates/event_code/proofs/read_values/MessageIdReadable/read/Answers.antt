@@ -1,6 +1,7 @@
 use Rattle.as4_values.specs.Word.{IsWord}
 use Rattle.as4_values.specs.declared.word.Word.TheVariants.{Identifier}
-use Rattle.event_code.proofs.ValueReading.{octets_refused, word_counted}
+use Rattle.byte_forms.proofs.RefusalLemmas.{octets_refused}
+use Rattle.as4_effects.proofs.CountLemmas.{word_counted}
 use Rattle.event_code.proofs.read_values.MessageIdReadable.read.Goals as goal
 
 pub returns-in-Err-BadId-clause-not_body : goal.returns-in-Err-BadId-clause-not_body

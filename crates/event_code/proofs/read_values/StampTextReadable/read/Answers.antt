@@ -1,6 +1,7 @@
 use Rattle.event_code.specs.Spelled.{IsSpelledStamp}
-use Rattle.event_code.proofs.ValueReading.{octets_refused, octets_refused_count, read_as, stamp_counted}
-use Rattle.std.proofs.lemmas.Result.{err_from_is_err_and}
+use Rattle.byte_forms.proofs.RefusalLemmas.{octets_refused, refused_within}
+use Rattle.as4_effects.proofs.CountLemmas.{stamp_counted}
+use Rattle.event_code.proofs.TextReading.{read_as}
 use Rattle.event_code.proofs.read_values.StampTextReadable.read.Goals as goal
 
 pub returns-in-Ok-clause-found : goal.returns-in-Ok-clause-found
@@ -18,6 +19,5 @@ returns-in-Err-BadStamp-clause-not_body c = λ _.
     (λ is. let no = c.in-Err-BadStamp.ensures.only is in cc)
 
 pub returns-in_err-take_octets-clause-not_body : goal.returns-in_err-take_octets-clause-not_body
-returns-in_err-take_octets-clause-not_body c =
-    let p = err_from_is_err_and c.from_residual.result c.from_residual.ensures.1 in
-    rw (p.1) (λ e. octets_refused_count IsSpelledStamp c.args.rest.now stamp_counted c.in_err-take_octets.ensures.not_body)
+unfolding IsSpelledStamp
+returns-in_err-take_octets-clause-not_body c = λ _. refused_within _ IsSpelledStamp _ c.args.rest.now stamp_counted c.in_err-take_octets.ensures.not_body

@@ -1,7 +1,9 @@
 use Rattle.std.proofs.Common.{◌∙◌}
 use Rattle.std.proofs.lemmas.Result.{IfErr-at_err}
 use Rattle.as4_values.specs.Texts.{IsText}
-use Rattle.event_code.proofs.ValueReading.{octets_refused, text_counted, text_spells, text_reads, bad_not_memory, bytes_differ}
+use Rattle.byte_forms.proofs.RefusalLemmas.{octets_refused}
+use Rattle.as4_effects.proofs.CountLemmas.{text_counted}
+use Rattle.event_code.proofs.TextReading.{text_spells, text_reads, bad_not_memory, bytes_differ}
 use Rattle.event_code.proofs.read_values.TextReadable.read.Goals as goal
 
 pub returns-in-Ok-2-clause-not_body : goal.returns-in-Ok-2-clause-not_body

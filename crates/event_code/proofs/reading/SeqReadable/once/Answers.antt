@@ -1,5 +1,5 @@
-use Rattle.event_code.proofs.OneBody.{list_once}
+use Rattle.byte_forms.proofs.OnceLemmas.{list_once}
 use Rattle.event_code.proofs.reading.SeqReadable.once.Goals as goal
 
 pub returns : goal.returns
-returns g c = list_once g.T.Readable.is_one g.T.Readable.body c.once.ensures
+returns g c = list_once _ _ c.once.ensures

@@ -1,5 +1,5 @@
-use Rattle.event_code.proofs.OneBody.{number_first}
+use Rattle.byte_forms.proofs.NumberLemmas.{number_once}
 use Rattle.event_code.proofs.reading.U32Readable.once.Goals as goal
 
 pub returns : goal.returns
-returns c = number_first 4
+returns c = number_once 4

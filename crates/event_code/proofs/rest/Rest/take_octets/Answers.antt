@@ -1,5 +1,5 @@
 use Rattle.std.proofs.lemmas.Result.{err_from_is_err_and}
-use Rattle.event_code.proofs.Refusals.{text_refused_count, text_refused, text_found}
+use Rattle.byte_forms.proofs.RefusalLemmas.{text_refused_count, text_refused, text_found}
 use Rattle.event_code.proofs.rest.Rest.take_octets.Goals as goal
 
 pub returns-in_err-len-clause-not_body : goal.returns-in_err-len-clause-not_body

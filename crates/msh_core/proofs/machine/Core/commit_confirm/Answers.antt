@@ -9,4 +9,4 @@ pub returns-clause-step : goal.returns-clause-step
 returns-clause-step c outcome stands =
     let same : c.self.inside.tables.end ≡ c.args.self.now.end = ap (λ (m : Machine). m.end) c.self.view_is in
     confirm_done c.args.self.now.end c.grow.new.self.end c.args.upto outcome
-    (c.grow.ensures.end ∙ ap (λ (e : End). record e { size = e.size + 16 }) (c.apply.ensures ∙ ap (after _) same)) stands
+    (c.grow.ensures.end ∙ ap (λ (e : End). record e { size = e.size + 20 }) (c.apply.ensures.end ∙ ap (after _) same)) stands

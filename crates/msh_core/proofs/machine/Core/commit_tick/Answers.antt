@@ -11,5 +11,5 @@ pub returns-clause-step : goal.returns-clause-step
 returns-clause-step c outcome stands =
     let same : c.self.inside.tables.end ≡ c.args.self.now.end = ap (λ (m : Machine). m.end) c.self.view_is in
     tick_done c.args.self.now.end c.grow.new.self.end c.args.moment c.spent-failed.result _ outcome refl
-    (c.grow.ensures.end ∙ ap (λ (e : End). record e { size = e.size + 16 }) (c.apply.ensures ∙ ap (after _) same))
+    (c.grow.ensures.end ∙ ap (λ (e : End). record e { size = e.size + 20 }) (c.apply.ensures.end ∙ ap (after _) same))
     (c.spent-failed.ensures ∙ ap (λ (e : End). count_by (is_spent c.args.moment) e.sent) same) stands

@@ -62,6 +62,6 @@ returns-clause-ready c =
     c.received.ensures ∙ ap (λ (m : Machine). length m.end.inbox) c.self.view_is in
     let left : c.args.self.now.end.confirmed ≤ c.args.upto = omega (arith, confirmed, c.if-upto-confirmed.false) in
     let within : c.args.upto < length c.args.self.now.end.inbox = omega (arith, received, c.if-upto-received.false) in
-    let room : c.args.self.now.end.size + 16 ≤ 1073741824 =
+    let room : c.args.self.now.end.size + 20 ≤ 4294967296 =
     leb-true _ _ (sym c.has_small_room.ensures ∙ c.if-not-has_small_room.false) in
     confirm_ready c.args.self.now c.args.upto _ (returns-clause-step c) (left, within, room)

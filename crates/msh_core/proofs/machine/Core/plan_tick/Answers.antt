@@ -40,6 +40,6 @@ returns-clause-ready c =
     let moment : c.moment.result ≡ c.args.self.now.end.moment =
     c.moment.ensures.value ∙ ap (λ (m : Machine). m.end.moment) c.self.view_is in
     let later : c.args.self.now.end.moment < c.args.stamp = omega (arith, moment, c.if-stamp-moment.false) in
-    let room : c.args.self.now.end.size + 16 ≤ 1073741824 =
+    let room : c.args.self.now.end.size + 20 ≤ 4294967296 =
     leb-true _ _ (sym c.has_small_room.ensures ∙ c.if-not-has_small_room.false) in
     tick_ready c.args.self.now c.args.stamp _ c.requires (returns-clause-step c) (later, c.requires, room)

@@ -1,9 +1,0 @@
-use Rattle.std.proofs.Common.{◌∙◌, sym}
-use Rattle.std.proofs.lemmas.Result.{err_from_is_err_and}
-use Rattle.event_code.proofs.HeaderReading.{party_refused}
-use Rattle.event_code.proofs.read_header.PartyReadable.read.Goals as goal
-
-pub returns-in_err-id-clause-not_body : goal.returns-in_err-id-clause-not_body
-returns-in_err-id-clause-not_body c =
-    let p = err_from_is_err_and c.from_residual.result c.from_residual.ensures.1 in
-    rw (p.1) (λ e. party_refused c.args.rest.now (c.in_err-id.ensures.not_body (sym p.2 ∙ e)))
