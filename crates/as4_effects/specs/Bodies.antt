@@ -5,7 +5,7 @@
 --     list     count, 4 bytes; then its items
 --     text     length, 4 bytes; then its bytes: texts, identifiers, codes, stamps and octets alike
 --     option   0, or 1 and then the value
---     number   4 bytes for retries, 8 bytes for others
+--     number   4 bytes for retries and tries, 8 bytes for others
 use Rattle.std.specs.Prelude.{ℕ, List, ◌∷◌, ◌++◌}
 unfoldable pub use Rattle.byte_forms.specs.Bytes.{number_body, text_body}
 pub use Rattle.byte_forms.specs.Bytes.{option_body, list_body}

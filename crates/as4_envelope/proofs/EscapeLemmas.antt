@@ -4,7 +4,7 @@ use Rattle.std.specs.Prelude.{slice_index, slice_range}
 use Rattle.std.specs.List.{flat_map}
 use Rattle.std.proofs.lemmas.List.{flat_map_more, take_more}
 use Rattle.std.proofs.lemmas.List.Edits.{between_more}
-use Rattle.message_model.specs.Markup.{escape_of, escaped}
+use Rattle.as4_envelope.specs.Markup.{escape_of, escaped}
 
 -- one more byte is escaped
 escaped_more : (front bytes : List ℕ) (at : ℕ) → at < length bytes → (front ++ escaped (take at bytes)) ++ escape_of (slice_index bytes at) ≡ front ++ escaped (take (at + 1) bytes)

@@ -2,7 +2,7 @@
 use Rattle.std.proofs.Common.{◌≡◌, ℕ, List, [], ◌++◌, ap, sym, ◌∙◌}
 use Rattle.std.specs.List.{flat_map}
 use Rattle.std.proofs.lemmas.List.Folds.{flat_map-map}
-use Rattle.message_model.specs.Markup.{escaped}
+use Rattle.as4_envelope.specs.Markup.{escaped}
 use Rattle.as4_envelope.specs.declared.tree.Element.{Element}
 use Rattle.as4_envelope.specs.declared.tree.Element.TheViews.{out-Element, roll-Element, roll-out-Element}
 use Rattle.as4_envelope.specs.declared.tree.Element.TheFolds.{fold_out-Element}

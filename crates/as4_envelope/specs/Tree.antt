@@ -1,7 +1,7 @@
 -- Trees of elements, and the one text of each (XML 1.0, section 3.1; Namespaces in XML 1.0, sections 2.1 and 3).
 use Rattle.std.specs.Prelude.{ℕ, List, [], ◌++◌, if◌then◌else◌, codes, bytes_eq}
 use Rattle.std.specs.List.{flat_map}
-use Rattle.message_model.specs.Markup.{escaped, attribute, element, tag_start, tag_end, end_tag}
+use Rattle.as4_envelope.specs.Markup.{escaped, attribute, element, tag_start, tag_end, end_tag}
 use Rattle.as4_envelope.specs.declared.tree.Attribute.{Attribute}
 use Rattle.as4_envelope.specs.declared.tree.Element.{Element}
 use Rattle.as4_envelope.specs.declared.tree.Element.TheOpen.{Element-F}

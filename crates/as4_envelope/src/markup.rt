@@ -2,12 +2,12 @@
 
 ghost use Rattle.std.specs.Prelude.{◌≡◌, ◌++◌, OnOk, MatchOption, [], ◌∷◌, codes};
 ghost use Rattle.std.specs.Option.{option_copied};
-ghost use Rattle.message_model.specs.Markup.{escape_of, escaped, tag_start, tag_end, end_tag, attribute, text_element, optional_attribute, optional_element};
+ghost use Rattle.as4_envelope.specs.Markup.{escape_of, escaped, tag_start, tag_end, end_tag, attribute, text_element, optional_attribute, optional_element};
 
 use as4_values::NoMemory;
 
 /// `<name`, behind which the attributes are written.
-#[tactic(auto, unfolding(message_model::specs::Markup::tag_start))]
+#[tactic(auto, unfolding(crate::specs::Markup::tag_start))]
 pub fn push_tag_start(out: &mut Vec<u8>, name: &[u8]) -> Result<(), NoMemory>
     ensures { OnOk result (out.new.items ≡ out.old.items ++ tag_start name.now) }
 {
@@ -17,7 +17,7 @@ pub fn push_tag_start(out: &mut Vec<u8>, name: &[u8]) -> Result<(), NoMemory>
 }
 
 /// `>`, behind which the content is written.
-#[tactic(auto, unfolding(message_model::specs::Markup::tag_end))]
+#[tactic(auto, unfolding(crate::specs::Markup::tag_end))]
 pub fn push_tag_end(out: &mut Vec<u8>) -> Result<(), NoMemory>
     ensures { OnOk result (out.new.items ≡ out.old.items ++ tag_end) }
 {
@@ -26,7 +26,7 @@ pub fn push_tag_end(out: &mut Vec<u8>) -> Result<(), NoMemory>
 }
 
 /// `</name>`.
-#[tactic(auto, unfolding(message_model::specs::Markup::end_tag))]
+#[tactic(auto, unfolding(crate::specs::Markup::end_tag))]
 pub fn push_end_tag(out: &mut Vec<u8>, name: &[u8]) -> Result<(), NoMemory>
     ensures { OnOk result (out.new.items ≡ out.old.items ++ end_tag name.now) }
 {
@@ -37,7 +37,7 @@ pub fn push_end_tag(out: &mut Vec<u8>, name: &[u8]) -> Result<(), NoMemory>
 }
 
 /// ` name="value"`, the value escaped.
-#[tactic(auto, unfolding(message_model::specs::Markup::attribute))]
+#[tactic(auto, unfolding(crate::specs::Markup::attribute))]
 pub fn push_attribute(out: &mut Vec<u8>, name: &[u8], value: &[u8]) -> Result<(), NoMemory>
     ensures { OnOk result (out.new.items ≡ out.old.items ++ attribute name.now value.now) }
 {
@@ -91,7 +91,7 @@ pub fn push_escaped(out: &mut Vec<u8>, bytes: &[u8]) -> Result<(), NoMemory>
 }
 
 /// An element that holds a text and nothing else.
-#[tactic(auto, unfolding(message_model::specs::Markup::text_element))]
+#[tactic(auto, unfolding(crate::specs::Markup::text_element))]
 pub fn push_text_element(out: &mut Vec<u8>, name: &[u8], text: &[u8]) -> Result<(), NoMemory>
     ensures { OnOk result (out.new.items ≡ out.old.items ++ text_element name.now text.now) }
 {
@@ -102,7 +102,7 @@ pub fn push_text_element(out: &mut Vec<u8>, name: &[u8], text: &[u8]) -> Result<
 }
 
 /// The attribute, where there is a value.
-#[tactic(auto, unfolding(message_model::specs::Markup::optional_attribute))]
+#[tactic(auto, unfolding(crate::specs::Markup::optional_attribute))]
 pub fn push_optional_attribute(
     out: &mut Vec<u8>,
     name: &[u8],
@@ -117,7 +117,7 @@ pub fn push_optional_attribute(
 }
 
 /// The element, where there is a text.
-#[tactic(auto, unfolding(message_model::specs::Markup::optional_element))]
+#[tactic(auto, unfolding(crate::specs::Markup::optional_element))]
 pub fn push_optional_element(
     out: &mut Vec<u8>,
     name: &[u8],

@@ -60,7 +60,7 @@ fn push_children(out: &mut Vec<u8>, children: &[Element]) -> Result<(), NoMemory
 }
 
 /// The start tag.
-#[tactic(auto, unfolding(message_model::specs::Markup::tag_start))]
+#[tactic(auto, unfolding(crate::specs::Markup::tag_start))]
 fn push_start(out: &mut Vec<u8>, element: &Element, declared: &[u8]) -> Result<(), NoMemory>
     ensures { OnOk result (out.new.items ≡ out.old.items ++ start_text element.now declared.now) }
 {
@@ -72,7 +72,7 @@ fn push_start(out: &mut Vec<u8>, element: &Element, declared: &[u8]) -> Result<(
 }
 
 /// The end tag.
-#[tactic(auto, unfolding(message_model::specs::Markup::end_tag, message_model::specs::Markup::tag_end))]
+#[tactic(auto, unfolding(crate::specs::Markup::end_tag, crate::specs::Markup::tag_end))]
 fn push_end(out: &mut Vec<u8>, element: &Element) -> Result<(), NoMemory>
     ensures { OnOk result (out.new.items ≡ out.old.items ++ end_text element.now) }
 {
@@ -91,7 +91,7 @@ fn push_attributes(out: &mut Vec<u8>, attributes: &[Attribute]) -> Result<(), No
     Ok(())
 }
 
-#[tactic(auto, unfolding(message_model::specs::Markup::attribute))]
+#[tactic(auto, unfolding(crate::specs::Markup::attribute))]
 fn push_attribute_of(out: &mut Vec<u8>, attribute: &Attribute) -> Result<(), NoMemory>
     ensures { OnOk result (out.new.items ≡ out.old.items ++ attribute_text attribute.now) }
 {

@@ -5,7 +5,7 @@ use Rattle.std.proofs.lemmas.Bool.Decides.{nat_tests}
 use Rattle.as4_values.specs.PlainTexts.{IsPlainText}
 use Rattle.as4_values.specs.declared.header.PartInfo.{PartInfo}
 use Rattle.as4_values.specs.declared.payload.Payload.{Payload}
-use Rattle.message_model.specs.Markup.{escaped, tag_start, tag_end, end_tag, attribute, element, text_element, optional_attribute, optional_element, listed}
+use Rattle.as4_envelope.specs.Markup.{escaped, tag_start, tag_end, end_tag, attribute, element, text_element, optional_attribute, optional_element, listed}
 use Rattle.message_model.specs.UnitText.{message_info, party_text, side_text, party_info, agreement_text, service_text, collaboration_info, part_info, properties_text, payload_info, user_message}
 use Rattle.message_model.specs.Package.{crlf, dash_boundary, root_id, envelope_media, media_field, part_head, part_text, payload_text, package_body}
 use Rattle.as4_message.specs.Plain.{PlainHeader, IsPlainHeader, side_of, part_of, header_of, with_id}

@@ -1,5 +1,5 @@
 -- A plain message and its wire.
-use Rattle.std.proofs.Common.{◌≡◌, ◌≢◌, ℕ, ◌<◌, List, [], ◌∷◌, length, arith, refl, ap, sym, subst, ◌∙◌}
+use Rattle.std.proofs.Common.{◌≡◌, ◌≢◌, ℕ, ◌<◌, List, [], ◌∷◌, length, arith, refl, ap, sym, subst, ◌∙◌, Option, Some, None, Result, Ok, Err, IfOk, IfSome, IsSome}
 use Rattle.std.specs.Prelude.{All, slice_index, IsTrue}
 use Rattle.std.proofs.Props.{props}
 use Rattle.std.proofs.lemmas.Bool.Decides.{nat_tests}
@@ -11,13 +11,14 @@ use Rattle.as4_values.specs.PlainTexts.{IsPlainText}
 use Rattle.as4_values.specs.declared.payload.Payload.{Payload}
 use Rattle.as4_values.specs.declared.header.UserHeader.{UserHeader}
 use Rattle.as4_values.specs.declared.message.Message.TheVariants as message
-use Rattle.message_model.specs.Markup.{escaped}
+use Rattle.as4_envelope.specs.Markup.{escaped}
 use Rattle.message_model.specs.UnitText.{user_message, envelope_text}
 use Rattle.message_model.specs.Package.{dash_boundary, root_id, package_media, package_body, Occurs, IsFree}
-use Rattle.as4_message.specs.Plain.{PlainHeader, IsPlainHeader, IsPlain, with_id, header_of}
+use Rattle.as4_message.specs.Plain.{PlainHeader, IsPlainHeader, IsPlain, with_id, header_of, plain_message}
 use Rattle.as4_message.specs.PlainReading.{IsFreeOf, IsSpelled, raw_message}
 use Rattle.as4_message.specs.PlainPackage.{Parts, raw_package}
 use Rattle.as4_message.specs.RawWire.{IsRawWire}
+use Rattle.as4_message.specs.Pieces.{HoldsPieces}
 use Rattle.as4_message.proofs.PlainLemmas.{plain_free, text_is_plain, stamp_is_plain, escaped_is_free}
 use Rattle.as4_message.proofs.CanonicalLemmas.{spelled_header, header_is_raw, package_is_raw}
 use Rattle.as4_message.proofs.WireLemmas.{parts_of_wire}
@@ -117,3 +118,21 @@ wire_is_plain raw id payload media body type content wire is_id plain is_cid is_
 -- two user messages of the same header and payloads
 pub same_message : (one other : UserHeader) (payloads others : List Payload) → one ≡ other → payloads ≡ others → message.User one payloads ≡ message.User other others
 same_message one other payloads others a b = ap (λ h. message.User h payloads) a ∙ ap (λ ps. message.User other ps) b
+
+-- what is read of the pieces of a plain message is that message
+pub message_again : (h other : PlainHeader) (payload found : Payload) (cid media content : List ℕ) → HoldsPieces found cid media content → other ≡ h → cid ≡ h.cid → media ≡ payload.media → content ≡ payload.content → payload.cid ≡ h.cid → plain_message other found ≡ plain_message h payload
+message_again h other payload found cid media content has same is_cid is_media is_content named =
+    let one = same_payload found payload (has.is_cid ∙ is_cid ∙ sym named) (has.is_media ∙ is_media) (has.is_content ∙ is_content) in
+    same_message (header_of other) (header_of h) (found ∷ []) (payload ∷ []) (ap header_of same) (ap (λ p. p ∷ []) one)
+
+-- what holds of a message that is read holds of it in other words
+pub read_found : {A E : Type 0} {P Q : A → Type 0} (r : Result (Option A) E) → ((a : A) → P a → Q a) → IfOk r (λ o. IfSome o P) → IfOk r (λ o. IfSome o Q)
+read_found (Ok (Some a)) f is = f a is
+read_found (Ok None) f is = tt
+read_found (Err e) f is = tt
+
+-- and where one is read, it is the only one of which that holds
+pub read_only : {A E : Type 0} {P : A → Type 0} (r : Result (Option A) E) (only : A) → ((a : A) → P a → a ≡ only) → IfOk r (λ o. IfSome o P) → IfOk r (λ o. IsSome o) → IfOk r (λ o. o ≡ Some only)
+read_only (Ok (Some a)) only f is some = ap Some (f a is)
+read_only (Ok None) only f is some = absurd cc
+read_only (Err e) only f is some = tt

@@ -7,7 +7,7 @@ use Rattle.std.proofs.lemmas.List.Folds.{list_all-append}
 use Rattle.std.proofs.lemmas.Bool.Decides.{eqb_tells, nat_tests}
 use Rattle.as4_values.specs.PlainTexts.{is_plain, allows_at, IsPlainText}
 use Rattle.as4_values.specs.Moment.{digits, IsMomentStamp}
-use Rattle.message_model.specs.Markup.{escape_of, escaped}
+use Rattle.as4_envelope.specs.Markup.{escape_of, escaped}
 use Rattle.as4_message.specs.PlainReading.{IsFreeOf}
 use Rattle.as4_message.proofs.EscapeCases.{by_escape}
 use Rattle.as4_message.proofs.ReadingLemmas.{is_free_of, free_of}

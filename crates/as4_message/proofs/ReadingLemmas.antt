@@ -1,5 +1,5 @@
 -- What is read is spelled so, and what is spelled so is read.
-use Rattle.std.proofs.Common.{◌≡◌, ◌≢◌, ℕ, ◌<◌, Bool, true, false, List, [], ◌∷◌, ◌++◌, Option, None, Some, length, drop, arith, refl, sym, ◌∙◌, append_assoc, append-nil, nat_eq, eq-eqb, inl, inr, length-append}
+use Rattle.std.proofs.Common.{◌≡◌, ◌≢◌, ℕ, Bool, true, false, List, [], ◌∷◌, ◌++◌, Option, None, Some, length, drop, arith, refl, sym, ◌∙◌, append_assoc, append-nil, nat_eq, eq-eqb, inl, inr, length-append}
 use Rattle.std.specs.Prelude.{slice_index, codes, ◌==◌, if◌then◌else◌, zero, suc, unwrap_or}
 use Rattle.memchr.specs.Find.{IsFirstByte, is_byte}
 use Rattle.std.proofs.lemmas.Bool.Decides.{eqb_tells, Decides-eqb}
@@ -8,8 +8,8 @@ use Rattle.std.proofs.lemmas.Bool.{eqb-true, false_from_ne_true}
 use Rattle.std.specs.List.{position_or_len, starts_with}
 use Rattle.std.proofs.lemmas.List.{take_at, drop_at, get_or_append_left, get_or_at}
 use Rattle.std.proofs.lemmas.List.Sums.{position_or_len_is}
-use Rattle.message_model.specs.Markup.{tag_start, tag_end, end_tag}
-use Rattle.message_model.specs.Markup.{element}
+use Rattle.as4_envelope.specs.Markup.{tag_start, tag_end, end_tag}
+use Rattle.as4_envelope.specs.Markup.{element}
 use Rattle.message_model.specs.UnitText.{envelope_start, envelope_end, envelope_text}
 use Rattle.as4_message.specs.Plain.{PlainHeader}
 use Rattle.as4_message.specs.PlainReading.{behind_front, before_byte, from_byte, start_at, end_at, text_at, pair_at, parties_at, collaboration_at, part_at, user_message_at, envelope_at, raw_pair, raw_parties, raw_collaboration, raw_part, raw_message, IsFreeOf, IsSpelled}

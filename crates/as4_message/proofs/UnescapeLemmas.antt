@@ -4,7 +4,7 @@ use Rattle.std.specs.Prelude.{◌==◌}
 use Rattle.std.proofs.lemmas.Bool.Decides.{eqb_tells, nat_tests}
 use Rattle.std.specs.List.{flat_map}
 use Rattle.std.proofs.lemmas.List.Concat.{flat_map-append}
-use Rattle.message_model.specs.Markup.{escape_of, escaped}
+use Rattle.as4_envelope.specs.Markup.{escape_of, escaped}
 use Rattle.as4_message.specs.PlainReading.{behind_front}
 use Rattle.as4_message.proofs.EscapeCases.{by_escape}
 use Rattle.as4_message.specs.Unescaping.{entity_at, is_escaped, character_at}

@@ -3,7 +3,7 @@ use Rattle.std.specs.Prelude.{ℕ, ◌<◌, ◌≢◌, slice_index, List, [], �
 use Rattle.std.specs.Prelude.{take, drop}
 use Rattle.std.specs.List.{position_or_len, starts_with}
 use Rattle.std.specs.Option.{option_map}
-use Rattle.message_model.specs.Markup.{end_tag, element}
+use Rattle.as4_envelope.specs.Markup.{end_tag, element}
 use Rattle.message_model.specs.UnitText.{envelope_start, envelope_end}
 use Rattle.as4_message.specs.Plain.{PlainHeader}
 

@@ -1,7 +1,7 @@
 -- How escaped text is read back, character by character (XML 1.0, sections 4.1 and 4.6).
 use Rattle.std.specs.Prelude.{ℕ, List, [], ◌∷◌, ◌==◌, ◌||◌, if◌then◌else◌, Option, Some, None, Bool}
 use Rattle.std.specs.Option.{option_map, option_or}
-use Rattle.message_model.specs.Markup.{escape_of}
+use Rattle.as4_envelope.specs.Markup.{escape_of}
 use Rattle.as4_message.specs.PlainReading.{behind_front}
 
 -- a byte that stands escaped at the front, and the bytes behind it

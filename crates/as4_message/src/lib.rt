@@ -5,7 +5,6 @@ mod message_file;
 mod plain_envelope;
 mod plain_message;
 mod plain_package;
-mod plain_refusal;
 mod plain_values;
 mod plain_wire;
 mod read;
@@ -13,7 +12,7 @@ mod refusal;
 mod unescape;
 mod write;
 
-pub use message_file::{read_message_file, write_message_file, write_signal_file};
+pub use message_file::{read_message_file, write_message_file};
 pub use mime_package::Wire;
 pub use read::read_message;
 pub use refusal::{MessageRefusal, Refusal, refusal_signal};

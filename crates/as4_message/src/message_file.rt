@@ -20,9 +20,7 @@ use crate::plain_package::cut_at;
 use crate::read::read_message;
 use crate::refusal::MessageRefusal;
 use crate::write::write_message;
-use as4_values::{Message, NoMemory, Octets, Signal};
-use header_writer::write_signal_envelope;
-use mime_package::ENVELOPE_MEDIA;
+use as4_values::{Message, NoMemory, Octets};
 use std::alloc::Global;
 
 /// More than the field and the empty line take, in bytes.
@@ -63,15 +61,6 @@ pub fn write_message_file(alloc: Global, message: &Message) -> Result<Octets, No
 {
     let wire = write_message(alloc, message)?;
     joined(alloc, wire.media.bytes(), wire.body.bytes())
-}
-
-/// The message file of a signal.
-#[tactic(auto, unfolding(message_model::specs::Package::envelope_media))]
-pub fn write_signal_file(alloc: Global, signal: &Signal) -> Result<Octets, NoMemory>
-    ensures { IfOk result (λ file. file ≡ file_of 0 (Message.Signal signal.now)) }
-{
-    let body = write_signal_envelope(alloc, signal)?;
-    joined(alloc, ENVELOPE_MEDIA, body.bytes())
 }
 
 fn joined(alloc: Global, media: &[u8], body: &[u8]) -> Result<Octets, NoMemory>

@@ -3,7 +3,7 @@
 ghost use Rattle.std.specs.Prelude.{◌≡◌, ◌≤◌, ◌++◌, ◌==◌, [], Option, IfSome, length};
 ghost use Rattle.std.specs.List.{position_or_len};
 ghost use Rattle.std.specs.Option.{option_map};
-ghost use Rattle.message_model.specs.Markup.{tag_start, tag_end, end_tag, element};
+ghost use Rattle.as4_envelope.specs.Markup.{tag_start, tag_end, end_tag, element};
 ghost use Rattle.message_model.specs.UnitText.{envelope_start, envelope_end, envelope_text};
 ghost use Rattle.as4_message.specs.Raw.{raw_texts};
 ghost use Rattle.as4_message.specs.PlainReading.{behind_front, before_byte, from_byte, text_at, start_at, end_at, pair_at, parties_at, collaboration_at, part_at, user_message_at, envelope_at, raw_pair, raw_parties, raw_collaboration, raw_part, raw_message};
@@ -43,7 +43,7 @@ pub fn split_at_byte(stop: u8, bytes: &[u8]) -> (&[u8], &[u8])
 }
 
 /// Behind `<name>`.
-#[tactic(auto, unfolding(crate::specs::PlainReading::start_at, message_model::specs::Markup::tag_start, message_model::specs::Markup::tag_end))]
+#[tactic(auto, unfolding(crate::specs::PlainReading::start_at, as4_envelope::specs::Markup::tag_start, as4_envelope::specs::Markup::tag_end))]
 fn start_at<'a>(name: &[u8], bytes: &'a [u8]) -> Option<&'a [u8]>
     ensures reads { option_map (λ rest. rest.now) result ≡ start_at name.now bytes.now }
     ensures found { IfSome result (λ rest. bytes.now ≡ tag_start name.now ++ tag_end ++ rest.now) }
@@ -55,7 +55,7 @@ fn start_at<'a>(name: &[u8], bytes: &'a [u8]) -> Option<&'a [u8]>
 }
 
 /// Behind `</name>`.
-#[tactic(auto, unfolding(crate::specs::PlainReading::end_at, message_model::specs::Markup::end_tag))]
+#[tactic(auto, unfolding(crate::specs::PlainReading::end_at, as4_envelope::specs::Markup::end_tag))]
 fn end_at<'a>(name: &[u8], bytes: &'a [u8]) -> Option<&'a [u8]>
     ensures reads { option_map (λ rest. rest.now) result ≡ end_at name.now bytes.now }
     ensures found { IfSome result (λ rest. bytes.now ≡ end_tag name.now ++ rest.now) }

@@ -1,106 +1,103 @@
 //! The values of a plain message, from its texts.
 
-ghost use Rattle.std.specs.Prelude.{◌≡◌, ◌++◌, ◌≤◌, ◌⊎◌, List, ℕ, [], ◌∷◌, Some, Ok, Err, IfOk, IfErr, MatchResult, codes, length};
+ghost use Rattle.std.specs.Prelude.{◌≡◌, ◌++◌, ◌≤◌, ◌↔◌, ℕ, [], ◌∷◌, Ok, IfOk, IsTrue, codes, length};
 ghost use Rattle.as4_values.specs.Word.{IsWord};
 ghost use Rattle.as4_values.specs.declared.word.Word.TheVariants.{Identifier};
 ghost use Rattle.as4_values.specs.PlainTexts.{IsPlainText};
 ghost use Rattle.as4_values.specs.Moment.{IsMomentStamp};
-ghost use Rattle.message_model.specs.Markup.{escaped};
 ghost use Rattle.as4_values.specs.declared.payload.Payload.{Payload as PayloadValue};
 ghost use Rattle.as4_message.specs.Raw.{raw_texts};
 ghost use Rattle.as4_message.specs.Pieces.{HoldsPieces};
-ghost use Rattle.as4_message.specs.Plain.{IsPlainHeader, ArePlainSides, IsPlainWork, side_of, service_of, part_of, header_of, with_id};
+ghost use Rattle.as4_message.specs.Plain.{IsPlainHeader, ArePlainSides, IsPlainWork, side_of, part_of, header_of};
 
 use crate::plain_envelope::RawHeader;
-use crate::plain_refusal::PlainRefusal;
-use crate::unescape::unescape;
 use as4_values::{
     IdRefusal, MessageId, NoMemory, Octets, PartInfo, Party, Payload, Seq, Service, Side,
-    StampRefusal, StampText, Text, TextRefusal, UserHeader, Word, is_moment_stamp, is_plain_text,
-    read_stamp,
+    StampRefusal, StampText, Text, UserHeader, Word, is_moment_stamp, is_plain_text, read_stamp,
 };
 use std::alloc::Global;
 
-/// What a reference to a part of the package begins with (RFC 2392).
-const HREF_START: &[u8] = b"cid:";
-
-/// Both values, or the first refusal. The other value is let go by name: one way out is proved sooner than two.
-fn both<A: Drop, B: Drop>(
-    first: Result<A, PlainRefusal>,
-    second: Result<B, PlainRefusal>,
-) -> Result<(A, B), PlainRefusal>
-    ensures found { IfOk result (λ values. (first ≡ Ok values.0) × (second ≡ Ok values.1)) }
-    ensures refused { IfErr result (λ e. (first ≡ Err e) ⊎ (second ≡ Err e)) }
+/// Whether these are the texts of a plain header.
+pub fn is_plain_header(raw: &RawHeader<'_>) -> bool
+    ensures { IsTrue result ↔ IsPlainHeader (raw_texts raw.now) }
 {
-    match first {
-        Ok(first) => match second {
-            Ok(second) => Ok((first, second)),
-            Err(refusal) => {
-                drop(first);
-                Err(refusal)
-            }
-        },
-        Err(refusal) => {
-            drop(second);
-            Err(refusal)
-        }
-    }
+    is_moment_stamp(raw.stamp)
+        && is_identifier(raw.id)
+        && are_plain_sides(raw)
+        && is_plain_work(raw)
+        && is_plain_text(raw.cid)
+        && is_identifier(raw.cid)
 }
 
-/// A plain text.
-#[tactic(auto, using(as4_values::proofs::TextLemmas::plain_spells, as4_values::proofs::TextLemmas::plain_spells_only))]
-fn text_of(alloc: Global, bytes: &[u8]) -> Result<Text, PlainRefusal>
-    ensures found { IfOk result (λ text. (text ≡ bytes.now) × IsPlainText bytes.now) }
-    ensures only { IsPlainText bytes.now → IfErr result (λ e. e ≡ PlainRefusal.NoMemory) }
+fn are_plain_sides(raw: &RawHeader<'_>) -> bool
+    ensures { IsTrue result ↔ ArePlainSides (raw_texts raw.now) }
 {
-    if !is_plain_text(bytes) {
-        return Err(PlainRefusal::Other);
-    }
-    match Text::read(alloc, bytes) {
-        Ok(text) => Ok(text),
-        Err(TextRefusal::BadText { .. }) => Err(PlainRefusal::Other),
-        Err(TextRefusal::NoMemory) => Err(PlainRefusal::NoMemory),
+    is_plain_text(raw.from)
+        && is_plain_text(raw.from_role)
+        && is_plain_text(raw.to)
+        && is_plain_text(raw.to_role)
+}
+
+fn is_plain_work(raw: &RawHeader<'_>) -> bool
+    ensures { IsTrue result ↔ IsPlainWork (raw_texts raw.now) }
+{
+    is_plain_text(raw.service) && is_plain_text(raw.action) && is_plain_text(raw.conversation)
+}
+
+fn is_identifier(bytes: &[u8]) -> bool
+    ensures { IsTrue result ↔ IsWord Identifier bytes.now }
+{
+    Word::Identifier.first_wrong(bytes).is_none()
+}
+
+/// Both values. Where one lacks, the other is let go by name: one way out is proved sooner than two.
+fn both<A: Drop, B: Drop>(
+    first: Result<A, NoMemory>,
+    second: Result<B, NoMemory>,
+) -> Result<(A, B), NoMemory>
+    ensures { IfOk result (λ values. (first ≡ Ok values.0) × (second ≡ Ok values.1)) }
+{
+    match (first, second) {
+        (Ok(first), Ok(second)) => Ok((first, second)),
+        (first, second) => {
+            drop(first);
+            drop(second);
+            Err(NoMemory)
+        }
     }
 }
 
 /// The stamp of a moment.
 #[tactic(auto, using(as4_values::proofs::MomentTextLemmas::moment_is_stamp))]
-fn stamp_of(alloc: Global, bytes: &[u8]) -> Result<StampText, PlainRefusal>
-    ensures found { IfOk result (λ stamp. (stamp ≡ bytes.now) × IsMomentStamp bytes.now) }
-    ensures only { IsMomentStamp bytes.now → IfErr result (λ e. e ≡ PlainRefusal.NoMemory) }
+fn stamp_of(alloc: Global, bytes: &[u8]) -> Result<StampText, NoMemory>
+    requires { IsMomentStamp bytes.now }
+    ensures { IfOk result (λ stamp. stamp ≡ bytes.now) }
 {
-    if !is_moment_stamp(bytes) {
-        return Err(PlainRefusal::Other);
-    }
     match read_stamp(alloc, bytes) {
         Ok(stamp) => Ok(stamp),
-        Err(StampRefusal::BadStamp { .. }) => Err(PlainRefusal::Other),
-        Err(StampRefusal::NoMemory) => Err(PlainRefusal::NoMemory),
+        Err(StampRefusal::NoMemory) => Err(NoMemory),
+        Err(StampRefusal::BadStamp { .. }) => unreachable!(),
     }
 }
 
-/// The identifier whose escaped form these bytes are.
-fn id_of(alloc: Global, raw: &[u8]) -> Result<MessageId, PlainRefusal>
-    ensures found { IfOk result (λ id. (escaped id ≡ raw.now) × IsWord Identifier id) }
-    ensures only { (id : List ℕ) → escaped id ≡ raw.now → IsWord Identifier id
-        → MatchResult result (λ read. read ≡ id) (λ e. e ≡ PlainRefusal.NoMemory) }
+fn id_of(alloc: Global, bytes: &[u8]) -> Result<MessageId, NoMemory>
+    requires { IsWord Identifier bytes.now }
+    ensures { IfOk result (λ id. id ≡ bytes.now) }
 {
-    let Some(bytes) = unescape(alloc, raw)? else {
-        return Err(PlainRefusal::Other);
-    };
-    match MessageId::read(alloc, bytes.as_slice()) {
+    match MessageId::read(alloc, bytes) {
         Ok(id) => Ok(id),
-        Err(IdRefusal::BadId { .. }) => Err(PlainRefusal::Other),
-        Err(IdRefusal::NoMemory) => Err(PlainRefusal::NoMemory),
+        Err(IdRefusal::NoMemory) => Err(NoMemory),
+        Err(IdRefusal::BadId { .. }) => unreachable!(),
     }
 }
 
 /// A side of one party.
-fn side_of(alloc: Global, id: &[u8], role: &[u8]) -> Result<Side, PlainRefusal>
-    ensures found { IfOk result (λ side. (side ≡ side_of id.now role.now) × IsPlainText id.now × IsPlainText role.now) }
-    ensures only { IsPlainText id.now → IsPlainText role.now → IfErr result (λ e. e ≡ PlainRefusal.NoMemory) }
+fn side_of(alloc: Global, id: &[u8], role: &[u8]) -> Result<Side, NoMemory>
+    requires party { IsPlainText id.now }
+    requires role { IsPlainText role.now }
+    ensures { IfOk result (λ side. side ≡ side_of id.now role.now) }
 {
-    let (id, role) = both(text_of(alloc, id), text_of(alloc, role))?;
+    let (id, role) = both(Text::plain(alloc, id), Text::plain(alloc, role))?;
     match vec![in alloc; Party { id, kind: None }] {
         Ok(parties) => Ok(Side {
             parties: Seq::of(parties),
@@ -108,10 +105,13 @@ fn side_of(alloc: Global, id: &[u8], role: &[u8]) -> Result<Side, PlainRefusal>
         }),
         Err(_) => {
             drop(role);
-            Err(PlainRefusal::NoMemory)
+            Err(NoMemory)
         }
     }
 }
+
+/// What a reference to a part of the package begins with (RFC 2392).
+const HREF_START: &[u8] = b"cid:";
 
 /// The reference to a Content-ID.
 fn href_of(alloc: Global, cid: &[u8]) -> Result<Octets, NoMemory>
@@ -125,122 +125,93 @@ fn href_of(alloc: Global, cid: &[u8]) -> Result<Octets, NoMemory>
 
 /// The part info that refers to a Content-ID.
 #[tactic(auto, using(crate::proofs::ValueLemmas::href_is_text))]
-fn part_of(alloc: Global, cid: &[u8]) -> Result<PartInfo, PlainRefusal>
-    ensures found { IfOk result (λ part. (part ≡ part_of cid.now) × IsPlainText cid.now × IsWord Identifier cid.now) }
-    ensures only { IsPlainText cid.now → IsWord Identifier cid.now → IfErr result (λ e. e ≡ PlainRefusal.NoMemory) }
+fn part_of(alloc: Global, cid: &[u8]) -> Result<PartInfo, NoMemory>
+    requires plain { IsPlainText cid.now }
+    requires word { IsWord Identifier cid.now }
+    ensures { IfOk result (λ part. part ≡ part_of cid.now) }
 {
-    if !is_plain_text(cid) || Word::Identifier.first_wrong(cid).is_some() {
-        return Err(PlainRefusal::Other);
-    }
     let href = href_of(alloc, cid)?;
     Ok(PartInfo {
-        href: Some(text_of(alloc, href.bytes())?),
+        href: Some(Text::plain(alloc, href.bytes())?),
         properties: Seq::of(Vec::new(alloc)),
     })
 }
 
-/// The sender's side and the receiver's.
-fn sides_of(alloc: Global, raw: &RawHeader<'_>) -> Result<(Side, Side), PlainRefusal>
-    ensures found { IfOk result (λ sides. (sides.0 ≡ side_of raw.now.from.now raw.now.from_role.now)
-        × (sides.1 ≡ side_of raw.now.to.now raw.now.to_role.now) × ArePlainSides (raw_texts raw.now)) }
-    ensures only { ArePlainSides (raw_texts raw.now) → IfErr result (λ e. e ≡ PlainRefusal.NoMemory) }
-{
-    both(
-        side_of(alloc, raw.from, raw.from_role),
-        side_of(alloc, raw.to, raw.to_role),
-    )
-}
-
-/// The service, the action and the conversation.
-fn work_of(alloc: Global, raw: &RawHeader<'_>) -> Result<(Service, Text, Text), PlainRefusal>
-    ensures found { IfOk result (λ work. (work.0 ≡ service_of raw.now.service.now)
-        × (work.1 ≡ raw.now.action.now) × (work.2 ≡ raw.now.conversation.now) × IsPlainWork (raw_texts raw.now)) }
-    ensures only { IsPlainWork (raw_texts raw.now) → IfErr result (λ e. e ≡ PlainRefusal.NoMemory) }
-{
-    let value = text_of(alloc, raw.service);
-    let ((value, action), conversation) = both(
-        both(value, text_of(alloc, raw.action)),
-        text_of(alloc, raw.conversation),
-    )?;
-    Ok((Service { value, kind: None }, action, conversation))
-}
-
 /// The list of the one part info.
-fn parts_of(alloc: Global, cid: &[u8]) -> Result<Seq<PartInfo>, PlainRefusal>
-    ensures found { IfOk result (λ parts. (parts ≡ part_of cid.now ∷ []) × IsPlainText cid.now × IsWord Identifier cid.now) }
-    ensures only { IsPlainText cid.now → IsWord Identifier cid.now → IfErr result (λ e. e ≡ PlainRefusal.NoMemory) }
+fn parts_of(alloc: Global, cid: &[u8]) -> Result<Seq<PartInfo>, NoMemory>
+    requires plain { IsPlainText cid.now }
+    requires word { IsWord Identifier cid.now }
+    ensures { IfOk result (λ parts. parts ≡ part_of cid.now ∷ []) }
 {
     let part = part_of(alloc, cid)?;
     Ok(Seq::of(vec![in alloc; part]?))
 }
 
-/// The header with this identifier and the other texts.
-fn header_with(
-    alloc: Global,
-    raw: &RawHeader<'_>,
-    id: MessageId,
-) -> Result<UserHeader, PlainRefusal>
-    requires { IsWord Identifier id }
-    ensures found { IfOk result (λ header.
-        (header ≡ header_of (with_id (raw_texts raw.now) id)) × IsPlainHeader (with_id (raw_texts raw.now) id)) }
-    ensures only { IsPlainHeader (with_id (raw_texts raw.now) id) → IfErr result (λ e. e ≡ PlainRefusal.NoMemory) }
+/// The texts of the service, the action and the conversation.
+fn work_of(alloc: Global, raw: &RawHeader<'_>) -> Result<((Text, Text), Text), NoMemory>
+    requires { IsPlainWork (raw_texts raw.now) }
+    ensures { IfOk result (λ work. (work.0.0 ≡ raw.now.service.now) × (work.0.1 ≡ raw.now.action.now)
+        × (work.1 ≡ raw.now.conversation.now)) }
 {
-    let start = both(stamp_of(alloc, raw.stamp), sides_of(alloc, raw));
-    let end = both(work_of(alloc, raw), parts_of(alloc, raw.cid));
-    match both(start, end) {
-        Ok(((stamp, (from, to)), ((service, action, conversation), parts))) => Ok(UserHeader {
-            mpc: None,
-            stamp,
-            id,
-            ref_to: None,
-            from,
-            to,
-            agreement: None,
-            service,
-            action,
-            conversation: Some(conversation),
-            properties: Seq::of(Vec::new(alloc)),
-            parts,
-        }),
-        Err(refusal) => {
-            drop(id);
-            Err(refusal)
-        }
-    }
+    let service = Text::plain(alloc, raw.service);
+    both(
+        both(service, Text::plain(alloc, raw.action)),
+        Text::plain(alloc, raw.conversation),
+    )
 }
 
-/// The header that these texts spell.
-pub fn header_of(alloc: Global, raw: &RawHeader<'_>) -> Result<UserHeader, PlainRefusal>
-    ensures found { IfOk result (λ header. (id : List ℕ) × (escaped id ≡ raw.now.id.now)
-        × (header ≡ header_of (with_id (raw_texts raw.now) id)) × IsPlainHeader (with_id (raw_texts raw.now) id)) }
-    ensures only { (id : List ℕ) → escaped id ≡ raw.now.id.now → IsPlainHeader (with_id (raw_texts raw.now) id)
-        → MatchResult result (λ header. header ≡ header_of (with_id (raw_texts raw.now) id)) (λ e. e ≡ PlainRefusal.NoMemory) }
+/// The header of these texts.
+pub fn header_of(alloc: Global, raw: &RawHeader<'_>) -> Result<UserHeader, NoMemory>
+    requires { IsPlainHeader (raw_texts raw.now) }
+    ensures { IfOk result (λ header. header ≡ header_of (raw_texts raw.now)) }
 {
-    let id = id_of(alloc, raw.id)?;
-    header_with(alloc, raw, id)
+    let names = both(stamp_of(alloc, raw.stamp), id_of(alloc, raw.id));
+    let sides = both(
+        side_of(alloc, raw.from, raw.from_role),
+        side_of(alloc, raw.to, raw.to_role),
+    );
+    let end = both(work_of(alloc, raw), parts_of(alloc, raw.cid));
+    let (((stamp, id), (from, to)), (((service, action), conversation), parts)) = both(
+        both(names, sides),
+        end,
+    )?;
+    Ok(UserHeader {
+        mpc: None,
+        stamp,
+        id,
+        ref_to: None,
+        from,
+        to,
+        agreement: None,
+        service: Service {
+            value: service,
+            kind: None,
+        },
+        action,
+        conversation: Some(conversation),
+        properties: Seq::of(Vec::new(alloc)),
+        parts,
+    })
 }
 
 /// The longest media text of a part, in bytes.
 const MAX_MEDIA: usize = 1024;
 
+/// Whether the media text stands in a field as it is.
+pub fn is_plain_media(media: &[u8]) -> bool
+    ensures { IsTrue result ↔ (IsPlainText media.now × (length media.now ≤ MAX_MEDIA)) }
+{
+    is_plain_text(media) && media.len() <= MAX_MEDIA
+}
+
 /// The payload of these pieces; the content is copied once.
 #[tactic(auto, using(crate::proofs::ValueLemmas::plain_is_media))]
-fn payload_of(
-    alloc: Global,
-    cid: &[u8],
-    media: &[u8],
-    content: &[u8],
-) -> Result<Payload, PlainRefusal>
-    ensures found { IfOk result (λ payload. HoldsPieces payload cid.now media.now content.now) }
-    ensures only { IsWord Identifier cid.now → IsPlainText media.now → length media.now ≤ MAX_MEDIA
-        → IfErr result (λ e. e ≡ PlainRefusal.NoMemory) }
+fn payload_of(alloc: Global, cid: &[u8], media: &[u8], content: &[u8]) -> Result<Payload, NoMemory>
+    requires word { IsWord Identifier cid.now }
+    requires plain { IsPlainText media.now }
+    requires short { length media.now ≤ MAX_MEDIA }
+    ensures { IfOk result (λ payload. HoldsPieces payload cid.now media.now content.now) }
 {
-    if Word::Identifier.first_wrong(cid).is_some()
-        || !is_plain_text(media)
-        || media.len() > MAX_MEDIA
-    {
-        return Err(PlainRefusal::Other);
-    }
     Ok(Payload {
         cid: Octets::of(Vec::from_slice(alloc, cid)?),
         media: Octets::of(Vec::from_slice(alloc, media)?),
@@ -254,11 +225,12 @@ pub fn payloads_of(
     cid: &[u8],
     media: &[u8],
     content: &[u8],
-) -> Result<Seq<Payload>, PlainRefusal>
-    ensures found { IfOk result (λ payloads. (payload : PayloadValue) × (payloads ≡ payload ∷ [])
+) -> Result<Seq<Payload>, NoMemory>
+    requires word { IsWord Identifier cid.now }
+    requires plain { IsPlainText media.now }
+    requires short { length media.now ≤ MAX_MEDIA }
+    ensures { IfOk result (λ payloads. (payload : PayloadValue) × (payloads ≡ payload ∷ [])
         × HoldsPieces payload cid.now media.now content.now) }
-    ensures only { IsWord Identifier cid.now → IsPlainText media.now → length media.now ≤ MAX_MEDIA
-        → IfErr result (λ e. e ≡ PlainRefusal.NoMemory) }
 {
     let payload = payload_of(alloc, cid, media, content)?;
     Ok(Seq::of(vec![in alloc; payload]?))

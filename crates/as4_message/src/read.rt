@@ -6,9 +6,8 @@ ghost use Rattle.as4_message.specs.Plain.{PlainHeader, IsPlain, plain_message};
 ghost use Rattle.as4_message.specs.Refused.{IsRefused};
 
 use crate::plain_message::read_plain_message;
-use crate::plain_refusal::PlainRefusal;
 use crate::refusal::{MessageRefusal, Refusal};
-use as4_values::Message;
+use as4_values::{Message, NoMemory};
 use std::alloc::Global;
 
 /// The code of what is no package (ebMS 3.0 Core, section 6.7.1).
@@ -34,8 +33,8 @@ pub fn read_message(alloc: Global, media: &[u8], body: &[u8]) -> Result<Message,
         }));
     }
     match read_plain_message(alloc, media, body) {
-        Ok(message) => Ok(message),
-        Err(PlainRefusal::Other) => Err(MessageRefusal::Unbuilt),
-        Err(PlainRefusal::NoMemory) => Err(MessageRefusal::NoMemory),
+        Ok(Some(message)) => Ok(message),
+        Ok(None) => Err(MessageRefusal::Unbuilt),
+        Err(NoMemory) => Err(MessageRefusal::NoMemory),
     }
 }

@@ -2,7 +2,7 @@
 
 ghost use Rattle.std.specs.Prelude.{◌≡◌, ◌++◌, List, ℕ, Option, IfSome, IsSomeAnd, IfOk, IsTrue};
 ghost use Rattle.std.specs.Option.{option_map, option_or};
-ghost use Rattle.message_model.specs.Markup.{escape_of, escaped};
+ghost use Rattle.as4_envelope.specs.Markup.{escape_of, escaped};
 ghost use Rattle.as4_message.specs.Unescaping.{entity_at, is_escaped, plain_at, character_at};
 
 use crate::plain_envelope::behind_front;

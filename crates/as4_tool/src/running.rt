@@ -16,12 +16,12 @@ ghost use Rattle.as4_tool.specs.Answer.{IsUnbuilt};
 ghost use Rattle.as4_tool.specs.Ends.{Writes, Ends};
 ghost use Rattle.as4_tool.specs.Telling.{Tells};
 
-use crate::answers::{Unanswered, answer_file};
+use crate::answers::answer_file;
 use crate::command::{Command, command_of};
 use crate::status::Status;
 use crate::texts::{HELP, VERSION};
 use as4_flow::{ReadRefusal, SendFailed, Sink, Source, read_all, send_all};
-use as4_values::{MAX_MOMENT, Octets, Seq};
+use as4_values::{MAX_MOMENT, NoMemory, Octets, Seq};
 use std::alloc::Global;
 
 /// The longest input, in bytes.
@@ -178,9 +178,9 @@ fn answer<I: Source, O: Sink>(
         Err(ReadRefusal::NoMemory) => return Status::NoMemory,
     };
     match answer_file(alloc, stamp, nonce, &file) {
-        Ok(bytes) => write(output, bytes.bytes()),
-        Err(Unanswered::Unbuilt) => Status::Unbuilt,
-        Err(Unanswered::NoMemory) => Status::NoMemory,
+        Ok(Some(bytes)) => write(output, bytes.bytes()),
+        Ok(None) => Status::Unbuilt,
+        Err(NoMemory) => Status::NoMemory,
     }
 }
 

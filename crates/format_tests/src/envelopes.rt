@@ -1,8 +1,9 @@
-ghost use Rattle.std.specs.Prelude.{◌≡◌, ◌<◌, ◌≤◌, IfSome, length, vec_len};
+ghost use Rattle.std.specs.Prelude.{◌≡◌, ◌<◌, ◌≤◌, IfSome, IsTrue, length, vec_len};
+ghost use Rattle.as4_values.specs.SignalParts.{is_receipt, is_pull};
 
 use as4_values::{
-    Agreement, Code, ErrorItem, MessageId, PartInfo, Party, Property, Seq, Service, Severity, Side,
-    Signal, SignalBody, StampText, Text, Unit, UserHeader, read_stamp,
+    Agreement, Code, ErrorItem, MessageId, Pair, PartInfo, Party, Property, Seq, Service, Severity,
+    Side, Signal, SignalBody, StampText, Text, Unit, UserHeader, read_stamp,
 };
 use header_writer::write_envelope;
 use std::alloc::Global;
@@ -230,18 +231,24 @@ fn each_part_of_a_header_is_written_or_left_out(rt: HostRuntime) -> Result<(), F
     Ok(())
 }
 
-fn pull(alloc: Global) -> Option<Unit> {
+fn pull(alloc: Global) -> Option<Signal>
+    ensures { IfSome result (λ signal. IsTrue (is_pull signal.body)) }
+{
     let ((stamp, id, ref_to), mpc) = names(alloc, false).zip(text(alloc, b"urn:mpc"))?;
-    Some(Unit::Signal(Signal {
+    Some(Signal {
         stamp,
         id,
         ref_to,
         body: SignalBody::Pull { mpc },
-    }))
+    })
 }
 
 fn is_pull(alloc: Global, wanted: &[u8]) -> Option<bool> {
-    is_text_of(alloc, pull(alloc), &[SIGNAL_START, wanted])
+    is_text_of(
+        alloc,
+        pull(alloc).map(Unit::Signal),
+        &[SIGNAL_START, wanted],
+    )
 }
 
 #[test]
@@ -261,24 +268,26 @@ fn copy(alloc: Global, has_copy: bool) -> Option<Option<UserHeader>> {
     }
 }
 
-fn receipt(alloc: Global, has_copy: bool) -> Option<Unit> {
+fn receipt(alloc: Global, has_copy: bool) -> Option<Signal>
+    ensures { IfSome result (λ signal. IsTrue (is_receipt signal.body)) }
+{
     let id = MessageId::read(alloc, b"m1@a").ok();
     let names = stamp(alloc).zip(id);
     let ref_to = MessageId::read(alloc, b"m0@a").ok();
     let ((stamp, id), (ref_to, copy)) = names.zip(ref_to.zip(copy(alloc, has_copy)))?;
-    Some(Unit::Signal(Signal {
+    Some(Signal {
         stamp,
         id,
         ref_to: Some(ref_to),
         body: SignalBody::Receipt { copy },
-    }))
+    })
 }
 
 fn is_receipt(alloc: Global, has_copy: bool, wanted: &[u8]) -> Option<bool> {
     let start = b"</eb:MessageInfo><eb:Receipt>";
     let end = b"</eb:Receipt></eb:SignalMessage>";
     let pieces = [SIGNAL_START, REFERENCE, start, wanted, end];
-    is_text_of(alloc, receipt(alloc, has_copy), &pieces)
+    is_text_of(alloc, receipt(alloc, has_copy).map(Unit::Signal), &pieces)
 }
 
 #[test]
@@ -286,6 +295,22 @@ fn a_receipt_has_a_copy_or_none(rt: HostRuntime) -> Result<(), Fail> {
     assert_eq!(rt; is_receipt(rt.alloc(), false, b""), Some(true));
     assert_eq!(rt; is_receipt(rt.alloc(), true, BARE), Some(true));
     Ok(())
+}
+
+fn pair(alloc: Global) -> Option<Unit> {
+    let (receipt, pull) = receipt(alloc, false).zip(pull(alloc))?;
+    Some(Unit::Pair(Pair { receipt, pull }))
+}
+
+const PAIR: &[u8] =
+    b"<eb:SignalMessage><eb:MessageInfo><eb:Timestamp>2025-01-02T03:04:05.006Z</eb:Timestamp><eb:MessageId>m1@a</eb:MessageId><eb:RefToMessageId>m0@a</eb:RefToMessageId></eb:MessageInfo><eb:Receipt></eb:Receipt></eb:SignalMessage><eb:SignalMessage><eb:MessageInfo><eb:Timestamp>2025-01-02T03:04:05.006Z</eb:Timestamp><eb:MessageId>m1@a</eb:MessageId></eb:MessageInfo><eb:PullRequest mpc=\"urn:mpc\"></eb:PullRequest></eb:SignalMessage>";
+
+#[test]
+fn a_pair_is_a_receipt_and_then_a_pull_request(rt: HostRuntime) {
+    assert_eq!(rt;
+        is_text_of(rt.alloc(), pair(rt.alloc()), &[PAIR]),
+        Some(true)
+    );
 }
 
 /// What an error says by attributes, or nothing of it.

@@ -3,12 +3,9 @@
 ghost use Rattle.std.specs.Prelude.{IfSome};
 ghost use Rattle.message_model.specs.Wire.{HasBoundary};
 
-use as4_message::{
-    MessageRefusal, Wire, read_message, write_message, write_message_file, write_signal_file,
-};
-use as4_values::{
-    Message, MessageId, NoMemory, Octets, PlainData, Signal, SignalBody, UserHeader, stamp_text,
-};
+use as4_codes::{receipt, receipt_with_pull};
+use as4_message::{MessageRefusal, Wire, read_message, write_message, write_message_file};
+use as4_values::{Message, NoMemory, Octets, PlainData, Text, UserHeader};
 use std::alloc::Global;
 use std::test::Fail;
 
@@ -28,6 +25,10 @@ fn changed(alloc: Global, old: &str, new: &str) -> Option<String> {
 /// The receipt of that message, of the first moment and the nonce 1.
 const RECEIPT: &str =
     "Content-Type: application/soap+xml; charset=UTF-8\r\n\r\n<S:Envelope xmlns:S=\"http://www.w3.org/2003/05/soap-envelope\" xmlns:eb=\"http://docs.oasis-open.org/ebxml-msg/ebms/v3.0/ns/core/200704/\"><S:Header><eb:Messaging S:mustUnderstand=\"true\"><eb:SignalMessage><eb:MessageInfo><eb:Timestamp>1970-01-01T00:00:00.000Z</eb:Timestamp><eb:MessageId>s.00000000-0000-0000-0000-000000000001@as4</eb:MessageId><eb:RefToMessageId>m1@a</eb:RefToMessageId></eb:MessageInfo><eb:Receipt><eb:UserMessage><eb:MessageInfo><eb:Timestamp>2025-01-02T03:04:05.006Z</eb:Timestamp><eb:MessageId>m1@a</eb:MessageId></eb:MessageInfo><eb:PartyInfo><eb:From><eb:PartyId>acme</eb:PartyId><eb:Role>seller</eb:Role></eb:From><eb:To><eb:PartyId>bolt</eb:PartyId><eb:Role>buyer</eb:Role></eb:To></eb:PartyInfo><eb:CollaborationInfo><eb:Service>orders</eb:Service><eb:Action>invoice</eb:Action><eb:ConversationId>c1</eb:ConversationId></eb:CollaborationInfo><eb:PayloadInfo><eb:PartInfo href=\"cid:p1@a\"></eb:PartInfo></eb:PayloadInfo></eb:UserMessage></eb:Receipt></eb:SignalMessage></eb:Messaging></S:Header><S:Body></S:Body></S:Envelope>";
+
+/// The same receipt, and behind it the pull request of the nonce 0.
+const PAIR: &str =
+    "Content-Type: application/soap+xml; charset=UTF-8\r\n\r\n<S:Envelope xmlns:S=\"http://www.w3.org/2003/05/soap-envelope\" xmlns:eb=\"http://docs.oasis-open.org/ebxml-msg/ebms/v3.0/ns/core/200704/\"><S:Header><eb:Messaging S:mustUnderstand=\"true\"><eb:SignalMessage><eb:MessageInfo><eb:Timestamp>1970-01-01T00:00:00.000Z</eb:Timestamp><eb:MessageId>s.00000000-0000-0000-0000-000000000001@as4</eb:MessageId><eb:RefToMessageId>m1@a</eb:RefToMessageId></eb:MessageInfo><eb:Receipt><eb:UserMessage><eb:MessageInfo><eb:Timestamp>2025-01-02T03:04:05.006Z</eb:Timestamp><eb:MessageId>m1@a</eb:MessageId></eb:MessageInfo><eb:PartyInfo><eb:From><eb:PartyId>acme</eb:PartyId><eb:Role>seller</eb:Role></eb:From><eb:To><eb:PartyId>bolt</eb:PartyId><eb:Role>buyer</eb:Role></eb:To></eb:PartyInfo><eb:CollaborationInfo><eb:Service>orders</eb:Service><eb:Action>invoice</eb:Action><eb:ConversationId>c1</eb:ConversationId></eb:CollaborationInfo><eb:PayloadInfo><eb:PartInfo href=\"cid:p1@a\"></eb:PartInfo></eb:PayloadInfo></eb:UserMessage></eb:Receipt></eb:SignalMessage><eb:SignalMessage><eb:MessageInfo><eb:Timestamp>1970-01-01T00:00:00.000Z</eb:Timestamp><eb:MessageId>s.00000000-0000-0000-0000-000000000000@as4</eb:MessageId></eb:MessageInfo><eb:PullRequest mpc=\"urn:mpc\"></eb:PullRequest></eb:SignalMessage></eb:Messaging></S:Header><S:Body></S:Body></S:Envelope>";
 
 /// The message that is read.
 fn message(alloc: Global, body: &str) -> Option<Message>
@@ -97,47 +98,67 @@ fn header(alloc: Global, body: &str) -> Option<UserHeader> {
             drop(payloads);
             Some(header)
         }
-        Message::Signal(signal) => {
-            drop(signal);
+        other => {
+            drop(other);
             None
         }
     }
 }
 
-/// The receipt of the message that is read, made by hand.
-fn receipt(alloc: Global) -> Option<Signal> {
-    let stamp = stamp_text(alloc, 0).ok();
-    let id = MessageId::of_signal(alloc, 1).ok();
-    let ref_to = MessageId::read(alloc, b"m1@a").ok();
-    let names = stamp.zip(id).zip(ref_to);
-    let (((stamp, id), ref_to), copy) = names.zip(header(alloc, BODY))?;
-    Some(Signal {
-        stamp,
-        id,
-        ref_to: Some(ref_to),
-        body: SignalBody::Receipt { copy: Some(copy) },
-    })
-}
-
-fn receipt_file(alloc: Global) -> Option<Octets> {
-    let signal = receipt(alloc)?;
-    let file = write_signal_file(alloc, &signal);
-    drop(signal);
+/// The message file.
+fn file_of(alloc: Global, message: Option<Message>) -> Option<Octets>
+    requires { IfSome message (HasBoundary 0) }
+{
+    let message = message?;
+    let file = write_message_file(alloc, &message);
+    drop(message);
     file.ok()
 }
 
-/// Whether the file of the receipt has these bytes.
-fn is_receipt(alloc: Global, wanted: &[u8]) -> Option<bool> {
-    let file = receipt_file(alloc)?;
-    let is_receipt = file.bytes() == wanted;
+/// Whether the message file has these bytes.
+fn is_file_of(alloc: Global, message: Option<Message>, wanted: &[u8]) -> Option<bool>
+    requires { IfSome message (HasBoundary 0) }
+{
+    let file = file_of(alloc, message)?;
+    let is_file = file.bytes() == wanted;
     drop(file);
-    Some(is_receipt)
+    Some(is_file)
+}
+
+/// The receipt of the message that is read, of the first moment and the nonce 1.
+fn receipt_message(alloc: Global) -> Option<Message>
+    ensures { IfSome result (HasBoundary 0) }
+{
+    let header = header(alloc, BODY)?;
+    let signal = receipt(alloc, &header, 0, 1);
+    drop(header);
+    Some(Message::Signal(signal.ok()?))
+}
+
+/// That receipt, bundled with the pull request of the nonce 0 for a channel.
+fn pair_message(alloc: Global) -> Option<Message>
+    ensures { IfSome result (HasBoundary 0) }
+{
+    let (header, mpc) = header(alloc, BODY).zip(Text::read(alloc, b"urn:mpc").ok())?;
+    let pair = receipt_with_pull(alloc, &header, &mpc, 0, 0);
+    drop(header);
+    drop(mpc);
+    Some(Message::Pair(pair.ok()?))
 }
 
 #[test]
-fn a_receipt_is_written(rt: HostRuntime) -> Result<(), Fail> {
-    assert_eq!(rt; is_receipt(rt.alloc(), RECEIPT.as_bytes()), Some(true));
-    Ok(())
+fn a_receipt_is_written_as_its_file(rt: HostRuntime) {
+    let receipt = receipt_message(rt.alloc());
+    assert_eq!(rt;
+        is_file_of(rt.alloc(), receipt, RECEIPT.as_bytes()),
+        Some(true)
+    );
+}
+
+#[test]
+fn a_pair_is_written_as_its_file(rt: HostRuntime) {
+    let pair = pair_message(rt.alloc());
+    assert_eq!(rt; is_file_of(rt.alloc(), pair, PAIR.as_bytes()), Some(true));
 }
 
 /// Whether a copy is made and equals its source.

@@ -3,7 +3,8 @@ ghost use Rattle.as4_effects.specs.Pairing.{pair};
 ghost use Rattle.as4_effects.specs.Sound.{is_id_of, is_route, fits_an_effect, submitted_body, delivered_body};
 
 use as4_effects::{
-    Delivery, Effect, Submission, Tick, delivery_fits, is_id_of, is_route, pairs, submission_fits,
+    Carried, Delivery, Effect, Kept, Mark, Submission, Tick, delivery_fits, header_fits, is_id_of,
+    is_route, pairs, submission_fits,
 };
 use as4_values::{
     Agreement, Code, MessageId, Octets, PartInfo, Party, Payload, PlainData, Property, Route, Seq,
@@ -167,13 +168,13 @@ fn route(rt: &(impl Abort + AllocGlobal), full: bool) -> Route {
     }
 }
 
-fn submitted(rt: &(impl Abort + AllocGlobal), full: bool) -> Effect {
+fn submission(rt: &(impl Abort + AllocGlobal), full: bool) -> Submission {
     let route = route(rt, full);
     let payloads = payloads(rt, full);
     let header = header(rt, full, b"7.00000000-0000-0000-0000-000000000001@as4");
     let whole = is_submission(rt.alloc(), &header, &payloads, &route).expect(rt, "memory");
     assert!(rt; whole);
-    Effect::Submitted(Submission {
+    Submission {
         number: 7,
         header,
         payloads,
@@ -181,7 +182,24 @@ fn submitted(rt: &(impl Abort + AllocGlobal), full: bool) -> Effect {
         retries: 3,
         period: 60000,
         moment: 1000,
+    }
+}
+
+/// A bare submission that was sent twice, the last time at 1,000.
+fn carried(rt: &(impl Abort + AllocGlobal), standing: Mark) -> Effect {
+    Effect::Carried(Carried {
+        submission: submission(rt, false),
+        tries: 2,
+        last: 1000,
+        standing,
     })
+}
+
+fn kept(rt: &(impl Abort + AllocGlobal), full: bool) -> Effect {
+    let header = header(rt, full, b"m1");
+    let fits = header_fits(&header);
+    assert!(rt; fits);
+    Effect::Kept(Kept { header })
 }
 
 fn is_delivery(alloc: Global, header: &UserHeader, payloads: &Seq<Payload>) -> Option<bool>
@@ -200,10 +218,14 @@ fn delivered(rt: &(impl Abort + AllocGlobal), full: bool) -> Effect {
     Effect::Delivered(Delivery { header, payloads })
 }
 
+fn code(rt: &(impl Abort + AllocGlobal)) -> Code {
+    Code::read(rt.alloc(), b"EBMS:0004").expect(rt, "a code")
+}
+
 fn refused(rt: &(impl Abort + AllocGlobal)) -> Effect {
     Effect::Refused {
         number: 300,
-        code: Code::read(rt.alloc(), b"EBMS:0004").expect(rt, "a code"),
+        code: code(rt),
     }
 }
 
@@ -342,7 +364,7 @@ const SUBMISSION: [&[u8]; 9] = [
 ];
 
 fn is_submitted(rt: &(impl Abort + AllocGlobal), full: bool) -> bool {
-    let effects = vec![in rt.alloc(); submitted(rt, full)].expect(rt, "memory");
+    let effects = vec![in rt.alloc(); Effect::Submitted(submission(rt, full))].expect(rt, "memory");
     if full {
         let pull = b"\x01\0\0\0\x01q\0\0\0\x09http://h/";
         is_body(
@@ -357,6 +379,42 @@ fn is_submitted(rt: &(impl Abort + AllocGlobal), full: bool) -> bool {
     }
 }
 
+/// How often it was sent, and when last.
+const TRIED: &[u8] = b"\0\0\0\x02\0\0\0\0\0\0\x03\xe8";
+
+/// The body of a bare submission as it stands, that is pending.
+const CARRIED: [&[u8]; 11] = [
+    b"\0\x01\x08",
+    SEVEN,
+    b"\0",
+    START,
+    ID,
+    BARE,
+    NO_PAYLOADS,
+    PUSH,
+    TERMS,
+    TRIED,
+    b"\0",
+];
+
+/// Whether a submission that stands so ends in these bytes.
+fn is_carried(rt: &(impl Abort + AllocGlobal), standing: Mark, mark: &[u8]) -> bool {
+    let effects = vec![in rt.alloc(); carried(rt, standing)].expect(rt, "memory");
+    let mut pieces = CARRIED;
+    pieces[10] = mark;
+    is_body(rt, effects, &pieces)
+}
+
+fn is_kept(rt: &(impl Abort + AllocGlobal), full: bool) -> bool {
+    let effects = vec![in rt.alloc(); kept(rt, full)].expect(rt, "memory");
+    let start = b"\0\x01\x09";
+    if full {
+        is_body(rt, effects, &[start, FULL_MPC, START, M1, FULL])
+    } else {
+        is_body(rt, effects, &[start, b"\0", START, M1, BARE])
+    }
+}
+
 #[test]
 fn effects_of_numbers_and_codes_are_written(rt: HostRuntime) {
     assert!(rt; are_small(&rt));
@@ -368,6 +426,22 @@ fn messages_are_written_full_and_bare(rt: HostRuntime) {
     for full in [false, true] {
         assert!(rt; is_delivered(&rt, full), "{full}");
         assert!(rt; is_submitted(&rt, full), "{full}");
+    }
+}
+
+#[test]
+fn submissions_are_written_as_they_stand(rt: HostRuntime) {
+    assert!(rt; is_carried(&rt, Mark::Pending, b"\0"));
+    assert!(rt; is_carried(&rt, Mark::Receipted, b"\x01"));
+    assert!(rt; is_carried(&rt, Mark::Failed, b"\x02"));
+    let refused = Mark::Refused { code: code(&rt) };
+    assert!(rt; is_carried(&rt, refused, b"\x03\0\0\0\x09EBMS:0004"));
+}
+
+#[test]
+fn headers_are_kept_full_and_bare(rt: HostRuntime) {
+    for full in [false, true] {
+        assert!(rt; is_kept(&rt, full), "{full}");
     }
 }
 
@@ -405,12 +479,14 @@ fn is_no_body(rt: &(impl Abort + AllocGlobal), bytes: &[u8]) -> bool {
 }
 
 /// The bodies of no effects.
-const OTHERS: [(&str, &[u8]); 7] = [
+const OTHERS: [(&str, &[u8]); 9] = [
     ("no effects", b"\0\0"),
     ("1,025 effects", b"\x04\x01"),
     ("a cut tick", b"\0\x01\x02\0\0\0\0\0\0\x03"),
     ("a byte more", b"\0\x01\x02\0\0\0\0\0\0\x03\xe8\0"),
-    ("an unknown effect", b"\0\x01\x08\0\0\0\0\0\0\x03\xe8"),
+    ("an effect of byte 0", b"\0\x01\0\0\0\0\0\0\0\x03\xe8"),
+    ("an effect of byte 10", b"\0\x01\x0a\0\0\0\0\0\0\x03\xe8"),
+    ("a message that was kept without its header", b"\0\x01\x09"),
     (
         "a moment of the year 10,000",
         b"\0\x01\x02\0\0\xe6\x77\xd2\x1f\xdc\0",
@@ -505,4 +581,28 @@ const OTHER_SUBMISSIONS: [(&str, usize, &[u8]); 4] = [
 fn other_submissions_are_no_body(rt: HostRuntime) {
     assert!(rt; !is_no_body(&rt, joined(&rt, &SUBMISSION).as_slice()));
     assert_eq!(rt; first_body(&rt, &SUBMISSION, &OTHER_SUBMISSIONS), None);
+}
+
+/// What is wrong in the body of a submission as it stands, and the place and the bytes of that piece.
+const OTHER_CARRIED: [(&str, usize, &[u8]); 6] = [
+    (
+        "1,001 retries",
+        8,
+        b"\0\0\x03\xe9\0\0\0\0\0\0\xea\x60\0\0\0\0\0\0\x03\xe8",
+    ),
+    ("tries that are cut off", 9, b"\0\0\x02\0\0\0\0\0\0\x03\xe8"),
+    (
+        "a last time in the year 10,000",
+        9,
+        b"\0\0\0\x02\0\0\xe6\x77\xd2\x1f\xdc\0",
+    ),
+    ("no mark", 10, b""),
+    ("a mark of byte 4", 10, b"\x04"),
+    ("a refusal without its code", 10, b"\x03"),
+];
+
+#[test]
+fn other_submissions_as_they_stand_are_no_body(rt: HostRuntime) {
+    assert!(rt; !is_no_body(&rt, joined(&rt, &CARRIED).as_slice()));
+    assert_eq!(rt; first_body(&rt, &CARRIED, &OTHER_CARRIED), None);
 }

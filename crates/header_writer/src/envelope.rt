@@ -1,8 +1,8 @@
 ghost use Rattle.std.specs.Prelude.{◌≡◌, ◌++◌, IfOk};
-ghost use Rattle.message_model.specs.UnitText.{envelope_start, envelope_end, envelope_text, unit_text, user_message, signal_message};
+ghost use Rattle.message_model.specs.UnitText.{envelope_start, envelope_end, envelope_text, unit_text, user_message, signal_message, pair_text};
 
 use crate::written::Written;
-use as4_values::{NoMemory, Octets, Signal, Unit, UserHeader};
+use as4_values::{NoMemory, Octets, Pair, Signal, Unit, UserHeader};
 use std::alloc::Global;
 
 const ENVELOPE_START: &[u8] =
@@ -32,6 +32,13 @@ pub fn write_signal_envelope(alloc: Global, signal: &Signal) -> Result<Octets, N
     envelope_of(alloc, signal)
 }
 
+/// The envelope of a receipt and the pull request that is bundled with it.
+pub fn write_pair_envelope(alloc: Global, pair: &Pair) -> Result<Octets, NoMemory>
+    ensures { IfOk result (λ text. text ≡ envelope_text (pair_text pair.now)) }
+{
+    envelope_of(alloc, pair)
+}
+
 #[tactic(auto, unfolding(message_model::specs::UnitText::envelope_start, message_model::specs::UnitText::envelope_end))]
 fn envelope_of<T: Written>(alloc: Global, unit: &T) -> Result<Octets, NoMemory>
     ensures { IfOk result (λ text. text ≡ envelope_text (T.text unit.now)) }
@@ -50,6 +57,7 @@ impl Written for Unit {
         match self {
             Unit::User(header) => header.push_to(out),
             Unit::Signal(signal) => signal.push_to(out),
+            Unit::Pair(pair) => pair.push_to(out),
         }
     }
 }

@@ -7,4 +7,6 @@ mod user_text;
 mod values;
 mod written;
 
-pub use envelope::{write_envelope, write_signal_envelope, write_user_envelope};
+pub use envelope::{
+    write_envelope, write_pair_envelope, write_signal_envelope, write_user_envelope,
+};

@@ -1,7 +1,7 @@
 //! The texts of a signal message's elements (ebMS 3.0 Core, sections 5.2.3 and 6.2).
 
 ghost use Rattle.std.specs.Prelude.{◌≡◌, ◌++◌, OnOk};
-ghost use Rattle.message_model.specs.UnitText.{severity_text, error_start, error_text, pull_text, receipt_text, body_text, signal_message};
+ghost use Rattle.message_model.specs.UnitText.{severity_text, error_start, error_text, pull_text, receipt_text, body_text, signal_message, pair_text};
 
 use crate::user_text::push_message_info;
 use crate::values::{id_bytes, text_bytes};
@@ -10,7 +10,7 @@ use as4_envelope::{
     push_attribute, push_end_tag, push_optional_attribute, push_optional_element, push_tag_end,
     push_tag_start,
 };
-use as4_values::{ErrorItem, NoMemory, Severity, Signal, SignalBody, Text, UserHeader};
+use as4_values::{ErrorItem, NoMemory, Pair, Severity, Signal, SignalBody, Text, UserHeader};
 
 fn severity_text(severity: Severity) -> &'static [u8]
     ensures { result.now ≡ severity_text severity }
@@ -96,5 +96,15 @@ impl Written for Signal {
         self.body.push_to(out)?;
         push_end_tag(out, b"eb:SignalMessage")?;
         Ok(())
+    }
+}
+
+impl Written for Pair {
+    ghost text = { pair_text };
+
+    #[tactic(auto, unfolding(message_model::specs::UnitText::pair_text))]
+    fn push_to(&self, out: &mut Vec<u8>) -> Result<(), NoMemory> {
+        self.receipt.push_to(out)?;
+        self.pull.push_to(out)
     }
 }

@@ -1,6 +1,6 @@
 ghost use Rattle.std.specs.Prelude.{◌≡◌, ◌++◌, OnOk, List, ℕ};
 ghost use Rattle.std.specs.List.{flat_map};
-ghost use Rattle.message_model.specs.Markup.{listed};
+ghost use Rattle.as4_envelope.specs.Markup.{listed};
 
 use as4_envelope::{push_end_tag, push_tag_end, push_tag_start};
 use as4_values::NoMemory;
@@ -25,7 +25,7 @@ pub fn push_all<T: Written>(out: &mut Vec<u8>, items: &[T]) -> Result<(), NoMemo
 }
 
 /// The element that holds the texts of all items, and nothing where there are none.
-#[tactic(auto, unfolding(message_model::specs::Markup::listed))]
+#[tactic(auto, unfolding(as4_envelope::specs::Markup::listed))]
 pub fn push_listed<T: Written>(out: &mut Vec<u8>, name: &[u8], items: &[T]) -> Result<(), NoMemory>
     ensures { OnOk result (out.new.items ≡ out.old.items ++ listed name.now T.text items.now) }
 {

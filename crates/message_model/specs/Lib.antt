@@ -1,4 +1,4 @@
-pub mod Markup
 pub mod Package
 pub mod UnitText
+pub mod UnitTree
 pub mod Wire

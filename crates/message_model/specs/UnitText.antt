@@ -1,7 +1,7 @@
 -- The canonical text of a message unit (ebMS 3.0 Core, sections 5.2 and 6), element by element.
 use Rattle.std.specs.Prelude.{ℕ, List, [], ◌++◌, Option, Some, None, unwrap_or, codes}
 use Rattle.std.specs.List.{flat_map}
-use Rattle.message_model.specs.Markup.{element, attribute, escaped, text_element, optional_attribute, optional_element, listed}
+use Rattle.as4_envelope.specs.Markup.{element, attribute, escaped, text_element, optional_attribute, optional_element, listed}
 use Rattle.as4_values.specs.declared.header.Party.{Party}
 use Rattle.as4_values.specs.declared.header.Side.{Side}
 use Rattle.as4_values.specs.declared.header.Agreement.{Agreement}
@@ -15,6 +15,7 @@ use Rattle.as4_values.specs.declared.signal_body.ErrorItem.{ErrorItem}
 use Rattle.as4_values.specs.declared.signal_body.SignalBody.{SignalBody}
 use Rattle.as4_values.specs.declared.signal_body.SignalBody.TheVariants.{Pull, Receipt, Errors}
 use Rattle.as4_values.specs.declared.signal.Signal.{Signal}
+use Rattle.as4_values.specs.declared.message.Pair.{Pair}
 use Rattle.as4_values.specs.declared.message.Unit.{Unit as MessageUnit}
 use Rattle.as4_values.specs.declared.message.Unit.TheVariants as unit
 
@@ -127,9 +128,14 @@ signal_message signal =
     element (codes "eb:SignalMessage") []
     (message_info signal.stamp signal.id signal.ref_to ++ body_text signal.body)
 
+-- A receipt, and behind it the pull request that is bundled with it: section 5.2.1.
+unfoldable pub pair_text : Pair → List ℕ
+pair_text pair = signal_message pair.receipt ++ signal_message pair.pull
+
 abbrev pub unit_text : MessageUnit → List ℕ
 unit_text (unit.User header) = user_message header
 unit_text (unit.Signal signal) = signal_message signal
+unit_text (unit.Pair pair) = pair_text pair
 
 -- The envelope round a unit (SOAP 1.2 Part 1, section 5.1): the prefixes are declared here alone.
 unfoldable pub envelope_start : List ℕ

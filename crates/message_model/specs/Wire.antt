@@ -2,22 +2,25 @@
 use Rattle.std.specs.Prelude.{◌≡◌, ℕ, List, ◌++◌, codes}
 use Rattle.as4_values.specs.declared.message.Message.{Message}
 use Rattle.as4_values.specs.declared.message.Message.TheVariants as message
-use Rattle.message_model.specs.UnitText.{user_message, signal_message, envelope_text}
+use Rattle.message_model.specs.UnitText.{user_message, signal_message, pair_text, envelope_text}
 use Rattle.message_model.specs.Package.{crlf, envelope_media, package_media, package_body, IsBoundary}
 
--- a user message is a package whose boundary has the number n, a signal a bare envelope
+-- a user message is a package whose boundary has the number n, a signal or a pair a bare envelope
 abbrev pub media_of : ℕ → Message → List ℕ
 media_of n (message.User header payloads) = package_media n
 media_of n (message.Signal signal) = envelope_media
+media_of n (message.Pair pair) = envelope_media
 
 abbrev pub body_of : ℕ → Message → List ℕ
 body_of n (message.User header payloads) = package_body n (envelope_text (user_message header)) payloads
 body_of n (message.Signal signal) = envelope_text (signal_message signal)
+body_of n (message.Pair pair) = envelope_text (pair_text pair)
 
--- n is the number of the message's boundary; for a signal, which has none, 0
+-- n is the number of the message's boundary; for a signal or a pair, which have none, 0
 abbrev pub HasBoundary : ℕ → Message → Type 0
 HasBoundary n (message.User header payloads) = IsBoundary n (envelope_text (user_message header)) payloads
 HasBoundary n (message.Signal signal) = n ≡ 0
+HasBoundary n (message.Pair pair) = n ≡ 0
 
 -- a message file, a form of this program's own: the media text as a field, an empty line, and the body
 abbrev pub message_file : List ℕ → List ℕ → List ℕ

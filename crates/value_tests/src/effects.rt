@@ -1,6 +1,9 @@
-ghost use Rattle.std.specs.Prelude.{◌≡◌};
+ghost use Rattle.std.specs.Prelude.{◌≡◌, ◌≤◌};
 
-use as4_effects::{Effect, Queue, Tick, is_id_of, is_media_text, is_route, pairs};
+use as4_effects::{
+    Carried, Delivery, Effect, Kept, Mark, Queue, Tick, header_fits, is_id_of, is_media_text,
+    is_route, pairs,
+};
 use as4_values::{Code, MessageId, Octets, PartInfo, Payload, PlainData, Route, Seq, Text};
 use made_messages::{delivery, submission};
 use std::process::Abort;
@@ -237,6 +240,56 @@ fn a_copy_of_a_queue_is_the_same(rt: HostRuntime) {
     drop(queues);
 }
 
+fn mark(rt: &(impl Abort + AllocGlobal), code: &[u8]) -> Mark {
+    Mark::Refused {
+        code: Code::read(rt.alloc(), code).expect(rt, "a code"),
+    }
+}
+
+#[test]
+fn a_copy_of_a_mark_is_the_same(rt: HostRuntime) {
+    let marks = [
+        Mark::Pending,
+        Mark::Receipted,
+        Mark::Failed,
+        mark(&rt, b"EBMS:0004"),
+        mark(&rt, b"EBMS:0301"),
+    ];
+    assert!(rt; are_told_apart(&rt, &marks));
+    drop(marks);
+}
+
+fn carried(rt: &(impl Abort + AllocGlobal), tries: u32, last: u64, standing: Mark) -> Carried
+    requires { last ≤ 2 }
+{
+    Carried {
+        submission: submission(rt.alloc(), 0, 3).expect(rt, "memory"),
+        tries,
+        last,
+        standing,
+    }
+}
+
+#[test]
+fn a_copy_of_a_submission_as_it_stands_is_the_same(rt: HostRuntime) {
+    let all = [
+        carried(&rt, 1, 1, Mark::Pending),
+        carried(&rt, 2, 1, Mark::Pending),
+        carried(&rt, 1, 2, Mark::Pending),
+        carried(&rt, 1, 1, Mark::Failed),
+    ];
+    assert!(rt; are_told_apart(&rt, &all));
+    drop(all);
+}
+
+fn kept(rt: &(impl Abort + AllocGlobal)) -> Kept {
+    let Delivery { header, payloads } = delivery(rt.alloc()).expect(rt, "memory");
+    drop(payloads);
+    let fits = header_fits(&header);
+    assert!(rt; fits);
+    Kept { header }
+}
+
 fn submitted(rt: &(impl Abort + AllocGlobal), number: u64) -> Effect {
     Effect::Submitted(submission(rt.alloc(), number, 3).expect(rt, "memory"))
 }
@@ -259,6 +312,8 @@ fn a_copy_of_an_effect_is_the_same(rt: HostRuntime) {
         refused(&rt, b"EBMS:0004"),
         refused(&rt, b"EBMS:0301"),
         Effect::Confirmed { upto: 0 },
+        Effect::Carried(carried(&rt, 0, 0, Mark::Pending)),
+        Effect::Kept(kept(&rt)),
     ];
     assert!(rt; are_told_apart(&rt, &effects));
     drop(effects);

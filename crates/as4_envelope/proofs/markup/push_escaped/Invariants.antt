@@ -1,6 +1,6 @@
 use Rattle.std.proofs.Common.{◌≡◌, ◌≤◌, ◌++◌, take}
 use Rattle.std.specs.Prelude.{slice_range}
-use Rattle.message_model.specs.Markup.{escaped}
+use Rattle.as4_envelope.specs.Markup.{escaped}
 use Rattle.as4_envelope.proofs.markup.push_escaped.Given as goal
 
 -- what is written and the bytes since then are the bytes so far, escaped

@@ -1,6 +1,6 @@
 use Rattle.std.proofs.Common.{◌<◌, length, arith, sym, append_assoc, refl}
 use Rattle.std.proofs.lemmas.Bool.{eqb-false}
-use Rattle.message_model.specs.Markup.{escaped, escape_of}
+use Rattle.as4_envelope.specs.Markup.{escaped, escape_of}
 use Rattle.as4_message.proofs.ReadingLemmas.{empty_is_nil}
 use Rattle.as4_message.proofs.UnescapeLemmas.{remains_all, remains_next, remains_none, remains_end, escaped_push}
 use Rattle.as4_message.proofs.unescape.unescape.Goals as goal

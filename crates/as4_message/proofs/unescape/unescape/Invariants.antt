@@ -1,5 +1,5 @@
 use Rattle.std.proofs.Common.{◌≡◌, ◌++◌, length}
-use Rattle.message_model.specs.Markup.{escaped}
+use Rattle.as4_envelope.specs.Markup.{escaped}
 use Rattle.as4_message.proofs.UnescapeLemmas.{Remains}
 use Rattle.as4_message.proofs.unescape.unescape.Given as goal
 

@@ -3,38 +3,30 @@ use Rattle.message_model.specs.Wire.{file_of}
 use Rattle.as4_message.specs.Plain.{header_of}
 use Rattle.as4_message.specs.FileReading.{media_and_body}
 use Rattle.as4_message.proofs.RefusalLemmas.{refused_is_known}
-use Rattle.as4_tool.proofs.AnswerLemmas.{ok_of, never_unbuilt}
+use Rattle.as4_tool.specs.Answer.{IsUnbuilt}
+use Rattle.as4_tool.proofs.AnswerLemmas.{replied}
 use Rattle.as4_tool.proofs.answers.reply_to.Goals as goal
 
-pub returns-in-Ok-clause-answers : goal.returns-in-Ok-clause-answers
-returns-in-Ok-clause-answers c =
+pub returns-in-Ok : goal.returns-in-Ok
+returns-in-Ok c =
     let read = c.in-Ok.ensures.found in
-    ok_of _ _ c.receipt_of-reply.result
+    replied (IsUnbuilt c.args.file.now) c.receipt_of-reply.result
     (λ signal is. inl (read.0, read.1, record { plain = read.2; is_file = read.4 ∙ ap (λ m. file_of 0 m) read.3 }, is))
-    (c.receipt_of-reply.ensures.answers (header_of read.0) (read.1 ∷ []) read.3)
+    (c.receipt_of-reply.ensures (header_of read.0) (read.1 ∷ []) read.3)
 
-pub returns-in-Ok-clause-unbuilt : goal.returns-in-Ok-clause-unbuilt
-returns-in-Ok-clause-unbuilt c is =
-    let read = c.in-Ok.ensures.found in
-    absurd (never_unbuilt _ c.receipt_of-reply.result (c.receipt_of-reply.ensures.answers (header_of read.0) (read.1 ∷ []) read.3) is)
-
-pub error_of-reply-requires-clause-known : goal.error_of-reply-requires-clause-known
-error_of-reply-requires-clause-known c =
+pub refusal_signal-reply-requires-clause-known : goal.refusal_signal-reply-requires-clause-known
+refusal_signal-reply-requires-clause-known c =
     let refusal = c.in-Err-Refused.refusal in
     let parts = media_and_body c.args.file.now in
     refused_is_known parts.0 parts.1 refusal ((c.in-Err-Refused.ensures.refused refusal).0 (ap Err c.in-Err-Refused.field-0-is))
 
-pub returns-in-Err-Refused-clause-answers : goal.returns-in-Err-Refused-clause-answers
-returns-in-Err-Refused-clause-answers c =
+pub returns-in_ok-reply-in-Err-Refused : goal.returns-in_ok-reply-in-Err-Refused
+returns-in_ok-reply-in-Err-Refused c =
     let refusal = c.in-Err-Refused.refusal in
-    let refused = (c.in-Err-Refused.ensures.refused refusal).0 (ap Err c.in-Err-Refused.field-0-is) in
-    ok_of _ _ c.error_of-reply.result (λ signal is. inr (refusal, refused, is)) c.error_of-reply.ensures.answers
+    inr (refusal, (c.in-Err-Refused.ensures.refused refusal).0 (ap Err c.in-Err-Refused.field-0-is), c.in_ok-reply-in-Err-Refused.ensures)
 
-pub returns-in-Err-Refused-clause-unbuilt : goal.returns-in-Err-Refused-clause-unbuilt
-returns-in-Err-Refused-clause-unbuilt c is = absurd (never_unbuilt _ c.error_of-reply.result c.error_of-reply.ensures.answers is)
-
-pub returns-in-Err-Unbuilt-clause-unbuilt : goal.returns-in-Err-Unbuilt-clause-unbuilt
-returns-in-Err-Unbuilt-clause-unbuilt c _ =
+pub returns-in-Err-Unbuilt : goal.returns-in-Err-Unbuilt
+returns-in-Err-Unbuilt c =
     let unbuilt = c.in-Err-Unbuilt.field-0-is in
     record {
       not_plain = λ header payload plain.
