@@ -14,7 +14,7 @@ use Rattle.exchange_model.specs.End.{End}
 use Rattle.exchange_model.specs.Least.{first_least, lesser}
 use Rattle.exchange_model.specs.Apply.{after, changed, is_fit, marked}
 use Rattle.exchange_model.specs.Numbered.{AreNumberedFrom}
-use Rattle.exchange_model.specs.Questions.{due, head_of, is_in, is_ready, is_same_queue, is_waiting, sent_at}
+use Rattle.exchange_model.specs.Questions.{due, head_of, is_in, is_ready, is_waiting, sent_at}
 use Rattle.exchange_model.specs.declared.sent.Sent.{Sent}
 use Rattle.end_tables.specs.Waiting.{waiting_in, waiting_of}
 use Rattle.end_tables.proofs.NumberLemmas.{head_found, marked_numbered}

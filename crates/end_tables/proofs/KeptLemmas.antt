@@ -8,7 +8,6 @@ use Rattle.as4_effects.specs.declared.submission.Submission.{Submission}
 use Rattle.exchange_model.specs.Apply.{after, changed, failed_if_spent, is_fit, is_one, marked, tried}
 use Rattle.exchange_model.specs.End.{End}
 use Rattle.exchange_model.specs.Questions.{is_spent, is_waiting, queue_of, sent_at}
-use Rattle.as4_effects.specs.declared.mark.Mark.{Mark}
 use Rattle.as4_effects.specs.declared.mark.Mark.TheVariants as mark
 use Rattle.exchange_model.specs.declared.sent.Sent.{Sent}
 use Rattle.end_tables.specs.Rooms.{HasRoom, IsThere, Rooms, TakesNoRoom, queue_at, queue_for, queue_of_sent}

@@ -1,22 +1,19 @@
 -- No bytes begin with two routes, two marks or two effects: their first byte tells of which kind they are.
-use Rattle.std.specs.Prelude.{◌≡◌, ℕ, List, ◌∷◌, ◌++◌, drop}
+use Rattle.std.specs.Prelude.{ℕ, List, ◌++◌, drop}
 use Rattle.std.proofs.Common.{refl, ap}
-use Rattle.byte_forms.specs.Forms.{IsPair, Once}
+use Rattle.byte_forms.specs.Forms.{Once}
 use Rattle.byte_forms.proofs.NumberLemmas.{number_once}
 use Rattle.byte_forms.proofs.OnceLemmas.{first_byte, apart, pair_once}
 use Rattle.as4_effects.proofs.CountLemmas.{texts_once, words_once}
 use Rattle.as4_effects.specs.Bodies.{number_body, list_body, header_body, payload_body, route_body}
 use Rattle.as4_effects.specs.Effects.{fields_body, standing_body, effect_body}
 use Rattle.as4_effects.specs.Marks.{mark_body}
-use Rattle.as4_effects.specs.declared.carried.Carried.{Carried as CarriedValue}
-use Rattle.as4_effects.specs.declared.delivery.Delivery.{Delivery}
 use Rattle.as4_effects.specs.declared.effect.Effect.{Effect}
 use Rattle.as4_effects.specs.declared.effect.Effect.TheVariants.{Submitted, Ticked, Tried, Delivered, Receipted, Refused, Confirmed, Carried, Kept}
 use Rattle.as4_effects.specs.declared.effect.Tick.{Tick}
 use Rattle.as4_effects.specs.declared.kept.Kept.{Kept as KeptValue}
 use Rattle.as4_effects.specs.declared.mark.Mark.{Mark}
 use Rattle.as4_effects.specs.declared.mark.Mark.TheVariants.{Pending, Receipted as WasReceipted, Failed, Refused as WasRefused}
-use Rattle.as4_effects.specs.declared.submission.Submission.{Submission}
 use Rattle.as4_values.specs.declared.route.Route.{Route}
 use Rattle.as4_values.specs.declared.route.Route.TheVariants.{Push, Pull}
 use Rattle.as4_values.specs.declared.word.Word.TheVariants.{ErrorCode}

@@ -1,5 +1,5 @@
 -- A refusal that is handed on.
-use Rattle.std.proofs.Common.{◌≡◌, ◌∙◌, sym, ap, Err}
+use Rattle.std.proofs.Common.{◌≡◌, ap, Err}
 use Rattle.std.specs.Prelude.{Result}
 use Rattle.event_code.specs.declared.refusal.BodyRefusal.{BodyRefusal}
 use Rattle.event_code.specs.declared.refusal.BodyRefusal.TheVariants.{NotBody}

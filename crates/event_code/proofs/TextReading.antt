@@ -1,5 +1,5 @@
 -- Texts in bodies: each is read only as it stands.
-use Rattle.std.proofs.Common.{◌≡◌, ℕ, ◌<◌, ◌++◌, List, [], append-nil, refl, sym, ◌∙◌, arith, Bool, false, eqb}
+use Rattle.std.proofs.Common.{◌≡◌, ℕ, ◌++◌, List, [], append-nil, refl, sym, ◌∙◌, arith, Bool, false, eqb}
 use Rattle.as4_effects.specs.Bodies.{text_body}
 use Rattle.as4_values.specs.Texts.{IsText, Spells}
 use Rattle.as4_values.proofs.TextLemmas.{one_text_of}

@@ -1,5 +1,5 @@
 -- The rows of a pair, and that their effects can stand.
-use Rattle.std.proofs.Common.{◌≡◌, ℕ, ◌⊎◌, inl, inr, List, [], ◌∷◌, ◌++◌, Bool, true, false, Option, Some, None, option_map, refl, ap, sym, subst, ◌∙◌, arith}
+use Rattle.std.proofs.Common.{◌≡◌, ℕ, List, [], ◌∷◌, ◌++◌, Bool, true, false, Option, Some, None, option_map, refl, ap, sym, subst, ◌∙◌, arith}
 use Rattle.std.specs.Prelude.{if◌then◌else◌, is_some}
 use Rattle.std.specs.Bool.{MatchBool}
 use Rattle.std.proofs.lemmas.Option.{same_Some}
@@ -10,7 +10,6 @@ use Rattle.as4_effects.specs.declared.queue.Queue.{Queue}
 use Rattle.as4_effects.specs.declared.queue.Queue.TheVariants as queue
 use Rattle.as4_values.specs.ModeMatch.{channel_mode}
 use Rattle.as4_values.specs.declared.header.UserHeader.{UserHeader}
-use Rattle.as4_values.specs.declared.message.Pair.{Pair}
 use Rattle.as4_values.specs.declared.message.Message.TheVariants as message
 use Rattle.as4_values.specs.declared.mode.Mode.{Mode}
 use Rattle.as4_values.specs.declared.signal.Signal.{Signal}
@@ -25,7 +24,7 @@ use Rattle.exchange_model.specs.Apply.{after, after_all, is_fit}
 use Rattle.exchange_model.specs.End.{End}
 use Rattle.exchange_model.specs.Numbered.{AreNumberedFrom}
 use Rattle.exchange_model.specs.Questions.{head_of, is_pending, sent_at}
-use Rattle.exchange_model.specs.Table.{Errs, PullComes, ReceiptComes, Settles, SignalComes, PullsBehind, PairComes, is_quiet, names_channel, message_of}
+use Rattle.exchange_model.specs.Table.{Errs, PullComes, Settles, SignalComes, PullsBehind, PairComes, is_quiet, names_channel, message_of}
 use Rattle.exchange_model.specs.declared.event.Event.{Event}
 use Rattle.exchange_model.specs.declared.outcome.Outcome.{Outcome}
 use Rattle.exchange_model.specs.declared.reply.Reply.{Reply}

@@ -70,7 +70,7 @@ last_there [] end d fit one some = absurd (omega arith)
 last_there (e ∷ []) end d fit one some = fit_there e end (first_fits e [] end fit).0
 last_there (e ∷ f ∷ rest) end d fit one some =
     rw (last_of_rest e f rest d) (there_before e (get_or (f ∷ rest) (length (f ∷ rest) - 1) d) end one.0
-        (last_there (f ∷ rest) (after e end) d (first_fits e (f ∷ rest) end fit).1 one.1 (omega arith)))
+    (last_there (f ∷ rest) (after e end) d (first_fits e (f ∷ rest) end fit).1 one.1 (omega arith)))
 
 -- where the last has room, all have
 pub last_has : (effects : List Effect) (rooms : Rooms) (sent : List Sent) (d : Effect) → TakeOneRoom effects

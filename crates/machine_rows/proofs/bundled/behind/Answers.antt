@@ -1,4 +1,4 @@
-use Rattle.std.proofs.Common.{sym, subst, ◌∙◌}
+use Rattle.std.proofs.Common.{sym, subst}
 use Rattle.std.proofs.lemmas.Result.{IfOk-weaker}
 use Rattle.as4_effects.specs.declared.queue.Queue.TheVariants as queue
 use Rattle.end_tables.specs.Standing.{CanStand}

@@ -1,8 +1,7 @@
-use Rattle.std.proofs.Common.{◌≡◌, true, false, Bool, Option, Some, refl, sym, ap, subst, ◌∙◌}
+use Rattle.std.proofs.Common.{◌≡◌, true, false, sym, subst, ◌∙◌}
 use Rattle.std.proofs.lemmas.Result.{IfOk-weaker}
 use Rattle.exchange_model.proofs.FoundLemmas.{sent_at_has}
-use Rattle.exchange_model.specs.Apply.{is_one}
-use Rattle.exchange_model.specs.Questions.{is_pending, sent_at}
+use Rattle.exchange_model.specs.Questions.{is_pending}
 use Rattle.machine_rows.proofs.BundledLemmas.{behind_pair, late_pair, refused_pair, unnamed_pair}
 use Rattle.machine_rows.proofs.ComingRows.{code_1_is_known, receipt_fits, refused_is_known}
 use Rattle.machine_rows.specs.Bundled.{IsBehind}
@@ -25,7 +24,7 @@ returns-then-not-is_named-clause-row c =
     let found = c.in-Ok.ensures.found in
     IfOk-weaker c.errs-then-not-is_named.result _ _
     (λ outcome errs. unnamed_pair _ _ _ _ _ _ _ found.0 outcome c.in-Receipt-Pull.is-0 c.in-Receipt-Pull.is-1 found.2
-        (sym c.is_named.ensures ∙ c.if-not-is_named.true) errs)
+    (sym c.is_named.ensures ∙ c.if-not-is_named.true) errs)
     c.errs-then-not-is_named.ensures
 
 pub returns-then-not-is_pending-clause-row : goal.returns-then-not-is_pending-clause-row
@@ -35,7 +34,7 @@ returns-then-not-is_pending-clause-row c =
     let settled : is_pending found.0 ≡ false = rw found.1 at (sym c.is_pending.ensures ∙ c.if-not-is_pending.true) in
     IfOk-weaker c.pull.result _ _
     (λ outcome row. late_pair _ _ _ _ _ _ _ found.0 outcome c.in-Receipt-Pull.is-0 c.in-Receipt-Pull.is-1 found.2
-        (sym c.is_named.ensures ∙ named) settled row)
+    (sym c.is_named.ensures ∙ named) settled row)
     c.pull.ensures.row
 
 pub behind-requires : goal.behind-requires
@@ -51,7 +50,7 @@ returns-clause-row c =
     let is_pending : is_pending found.0 ≡ true = rw found.1 at (sym c.is_pending.ensures ∙ pending) in
     IfOk-weaker c.behind.result _ _
     (λ outcome row. behind_pair _ _ _ _ _ _ _ found.0 outcome c.in-Receipt-Pull.is-0 c.in-Receipt-Pull.is-1 found.2
-        (sym c.is_named.ensures ∙ named) is_pending
-        (subst (λ n. IsBehind c.args.tables.now.end c.args.event.now c.args.pair.now.pull.id c.in-Receipt-Pull.mpc n outcome)
-            (sym (sent_at_has c.in-Ok.number c.args.tables.now.end.sent found.0 found.1).1) row))
+    (sym c.is_named.ensures ∙ named) is_pending
+    (subst (λ n. IsBehind c.args.tables.now.end c.args.event.now c.args.pair.now.pull.id c.in-Receipt-Pull.mpc n outcome)
+    (sym (sent_at_has c.in-Ok.number c.args.tables.now.end.sent found.0 found.1).1) row))
     c.behind.ensures.row

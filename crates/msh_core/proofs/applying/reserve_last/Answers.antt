@@ -18,5 +18,5 @@ pub returns-clause-room : goal.returns-clause-room
 returns-clause-room c =
     on_ok_weaker c.reserve.result
     (λ room. last_has c.args.effects.now c.reserve.new.self.rooms c.reserve.new.self.end.sent c.index-items-len.result c.requires.one_room
-        (rw (sym c.items-items.ensures) (rw (sym c.index-items-len.is) room)))
+    (rw (sym c.items-items.ensures) (rw (sym c.index-items-len.is) room)))
     c.reserve.ensures.ok

@@ -1,4 +1,3 @@
-use Rattle.std.proofs.Common.{arith}
 use Rattle.outbox.proofs.StandLemmas.{push_stands}
 use Rattle.outbox.proofs.outbox.Outbox.push.Goals as goal
 
