@@ -25,9 +25,9 @@ use as4_values::{MAX_MOMENT, NoMemory, Octets, Seq};
 use std::alloc::Global;
 
 /// The longest input, in bytes.
-pub const LIMIT: usize = 16_842_752;
+pub const LIMIT: usize = 67_174_400;
 
-const _: () = prove!(LIMIT == 16842752);
+const _: () = prove!(LIMIT == 67174400);
 
 /// Does all that the program does, and answers its exit status. The words are those behind the program's name.
 pub fn run<I: Source, O: Sink, E: Sink>(

@@ -14,7 +14,7 @@ STAMP  the moment of the answer: milliseconds since 1970-01-01T00:00:00Z, 0 to 2
 NONCE  makes the answer's identifiers unlike all others: 0 to 340282366920938463463374607431768211455
 SEED   what the sizes of the generated messages follow from: 0 to 18446744073709551615; 0 makes all of 40960 bytes
 COUNT  how many messages the generated script submits: 0 to 1000
-All are decimal, without sign and without leading zeros. The input of an answer has at most 16842752 bytes.
+All are decimal, without sign and without leading zeros. The input of an answer has at most 67174400 bytes.
 
 A message file is a line of Content-Type: and the media text, an empty line, both ended by CR LF, and then the body.
 
