@@ -40,7 +40,7 @@ pub fn what_fits_goes_on()
     ensures folds { (end : End) (size : ℕ) → IsReached end → IsReached (resized size end) }
 {}
 
-/// The effects that an end is folded to can be made: each of their parts is within its limits.
+/// The effects that an end is folded to can be made: what stands there is within the bounds that their types ask for.
 pub fn a_reached_end_can_be_written()
     ensures { (end : End) → IsReached end → CanBeWritten end }
 {}
