@@ -11,7 +11,8 @@ use std::rt::Files;
 use std::{fs, io};
 
 /// The names of the scripts. `NAME.drill` leads to `NAME.txt`.
-const NAMES: [&str; 4] = [
+const NAMES: [&str; 5] = [
+    "bundled-pulls",
     "clean-push",
     "losses-and-repeats",
     "pulls",

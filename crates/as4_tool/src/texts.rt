@@ -27,6 +27,7 @@ z and 0 to 9; PACKAGE and NUMBER count from 0:
   tick END MOMENT                 sets the clock of the end, in milliseconds
   take END                        sends what is to be pushed next
   ask END MODE                    sends a pull request
+  pair END MODE NUMBER            the same, with the receipt of this message of the inbox
   came END PACKAGE                what the other end sent under this number comes in, and is answered
   lost END PACKAGE                the same, and the answer is lost
   read END NUMBER                 shows a message of the inbox

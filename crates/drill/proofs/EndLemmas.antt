@@ -9,7 +9,7 @@ use Rattle.as4_flow.proofs.ToldLemmas.{before_nil, before_append, behind_nil, be
 use Rattle.drill.specs.Ends.{Ends, IsOutside, IsTooMuch, Played}
 use Rattle.drill.specs.Next.{HoldsNoLine}
 use Rattle.drill.specs.Running.{Flow, SoFar, between, flow}
-use Rattle.drill.specs.Transcript.{Stage, Plays, PlaysAll, doing_of, new_stage, script_text, end_lines, is_right, is_too_many, is_placed, lines_limit}
+use Rattle.drill.specs.Transcript.{DrillState, Plays, PlaysAll, doing_of, new_state, script_text, end_lines, is_right, is_too_many, is_placed, lines_limit}
 use Rattle.drill.specs.declared.script.DrillEnd.TheVariants as ends
 use Rattle.drill_script.specs.Lacking.{parted}
 use Rattle.drill_script.specs.LineText.{line_text, is_line, line_limit}
@@ -22,7 +22,7 @@ use Rattle.exchange_model.specs.DeliveredOnce.{HasDeliveredOnce}
 
 -- the law of delivery
 abbrev pub Delivers : Type 0
-Delivers = (lines : List Line) (text : List ℕ) (stage : Stage) → PlaysAll lines new_stage text stage → HasDeliveredOnce stage.world
+Delivers = (lines : List Line) (text : List ℕ) (state : DrillState) → PlaysAll lines new_state text state → HasDeliveredOnce state.world
 
 -- what can't be true is false
 not_true : (b : Bool) → (b ≡ true → ⊥) → b ≡ false
@@ -35,19 +35,19 @@ is_none None never = refl
 is_none (Some x) never = absurd (never x refl)
 
 -- a line that is played
-pub record Turn (l : Line) (words : List ℕ) (old new : Stage) : Type 0 where
+pub record Turn (l : Line) (words : List ℕ) (old new : DrillState) : Type 0 where
   pub right : is_right l old ≡ true
   pub one_more : is_too_many l old ≡ false
   pub plays : Plays l (doing_of old.world l) old words new
 
 -- lines, and one more
-plays_one : (l : Line) (words : List ℕ) (old new : Stage) → Turn l words old new → PlaysAll (l ∷ []) old words new
+plays_one : (l : Line) (words : List ℕ) (old new : DrillState) → Turn l words old new → PlaysAll (l ∷ []) old words new
 plays_one l words old new turn = (new, words, [], turn.right, turn.one_more, turn.plays, (refl, refl), sym (append-nil words))
 
-plays_more : (lines : List Line) (l : Line) (text words : List ℕ) (first old new : Stage) → PlaysAll lines first text old → Turn l words old new
+plays_more : (lines : List Line) (l : Line) (text words : List ℕ) (first old new : DrillState) → PlaysAll lines first text old → Turn l words old new
     → PlaysAll (lines ++ l ∷ []) first (text ++ words) new
 plays_more [] l text words first old new plays turn =
-    let here : Turn l words first new = subst (λ (s : Stage). Turn l words s new) plays.1 turn in
+    let here : Turn l words first new = subst (λ (s : DrillState). Turn l words s new) plays.1 turn in
     let none : words ≡ text ++ words = ap (λ (t : List ℕ). t ++ words) (sym plays.0) in
     subst (λ (t : List ℕ). PlaysAll (l ∷ []) first t new) none (plays_one l words first new here)
 plays_more (m ∷ lines) l text words first old new plays turn = (
@@ -82,8 +82,8 @@ count_more : (lines : List Line) (l : Line) (count : ℕ) → length lines ≡ c
 count_more lines l count counted = omega (arith, length-append lines (l ∷ []))
 
 -- nothing has come
-pub so_far_none : (stage : Stage) (held : List ℕ) (start : Flow) → stage ≡ new_stage → held ≡ [] → SoFar stage held 0 start start
-so_far_none stage held start new none = record {
+pub so_far_none : (state : DrillState) (held : List ℕ) (start : Flow) → state ≡ new_state → held ≡ [] → SoFar state held 0 start start
+so_far_none state held start new none = record {
   lines = [];
   text = [];
   plays = (refl, new);
@@ -97,10 +97,10 @@ so_far_none stage held start new none = record {
 }
 
 -- the source gave some of what is left
-pub so_far_read : (stage : Stage) (held next : List ℕ) (count : ℕ) (start now : Flow) (left : Option (List ℕ)) (reads : ℕ)
-    → before held now.left ≡ before next left → length next ≤ ahead_limit → reads ≡ now.reads → SoFar stage held count start now
-    → SoFar stage next count start (flow left now.taken reads now.writes)
-so_far_read stage held next count start now left reads same within quiet s = record {
+pub so_far_read : (state : DrillState) (held next : List ℕ) (count : ℕ) (start now : Flow) (left : Option (List ℕ)) (reads : ℕ)
+    → before held now.left ≡ before next left → length next ≤ ahead_limit → reads ≡ now.reads → SoFar state held count start now
+    → SoFar state next count start (flow left now.taken reads now.writes)
+so_far_read state held next count start now left reads same within quiet s = record {
   lines = s.lines;
   text = s.text;
   plays = s.plays;
@@ -118,14 +118,14 @@ held_less : (front held : List ℕ) → length (parted 10 front held) ≤ ahead_
 held_less front held within = omega (arith, within, length-append front (10 ∷ held))
 
 -- a line was played and its text written
-pub so_far_played : (l : Line) (words : List ℕ) (stage new : Stage) (held : List ℕ) (count : ℕ) (start now : Flow) (taken : Option (List ℕ)) (writes : ℕ)
-    → SoFar stage (parted 10 (line_text l) held) count start now → Turn l words stage new → count < lines_limit
+pub so_far_played : (l : Line) (words : List ℕ) (state new : DrillState) (held : List ℕ) (count : ℕ) (start now : Flow) (taken : Option (List ℕ)) (writes : ℕ)
+    → SoFar state (parted 10 (line_text l) held) count start now → Turn l words state new → count < lines_limit
     → taken ≡ behind now.taken words → writes ≡ now.writes
     → SoFar new held (count + 1) start (flow now.left taken now.reads writes)
-so_far_played l words stage new held count start now taken writes s turn few wrote quiet = record {
+so_far_played l words state new held count start now taken writes s turn few wrote quiet = record {
   lines = s.lines ++ l ∷ [];
   text = s.text ++ words;
-  plays = plays_more s.lines l s.text words new_stage stage new s.plays turn;
+  plays = plays_more s.lines l s.text words new_state state new s.plays turn;
   counted = count_more s.lines l count s.counted;
   few = omega (arith, few);
   came = came_more s.lines l held start.left now.left s.came;
@@ -135,14 +135,14 @@ so_far_played l words stage new held count start now taken writes s turn few wro
   written = quiet ∙ s.written;
 }
 
-played_so_far : (law : Delivers) (stage : Stage) (held : List ℕ) (count : ℕ) (start now : Flow) (s : SoFar stage held count start now) → Played s.lines s.text stage
-played_so_far law stage held count start now s =
-    record { plays = s.plays; few = omega (arith, s.counted, s.few); once = law s.lines s.text stage s.plays }
+played_so_far : (law : Delivers) (state : DrillState) (held : List ℕ) (count : ℕ) (start now : Flow) (s : SoFar state held count start now) → Played s.lines s.text state
+played_so_far law state held count start now s =
+    record { plays = s.plays; few = omega (arith, s.counted, s.few); once = law s.lines s.text state s.plays }
 
 -- what the source has lost
-pub lost_so_far : (stage : Stage) (held : List ℕ) (count : ℕ) (start now : Flow) (s : SoFar stage held count start now)
+pub lost_so_far : (state : DrillState) (held : List ℕ) (count : ℕ) (start now : Flow) (s : SoFar state held count start now)
     → LosesFront (length (script_text s.lines) + ahead_limit) start.left now.left
-lost_so_far stage held count start now s =
+lost_so_far state held count start now s =
     (script_text s.lines ++ held, omega (arith, s.ahead, length-append (script_text s.lines) held), s.came ∙ before_append (script_text s.lines) held now.left)
 
 -- what is told behind a front
@@ -168,31 +168,31 @@ nothing_told front start (Some rest) came none script is =
     same ∙ ap (λ (t : List ℕ). front ++ t) (none rest refl)
 
 -- bytes that hold no line are outside
-no_line_outside : (lines : List Line) (stage : Stage) (rest : List ℕ) → HoldsNoLine rest → IsOutside lines stage rest
-no_line_outside lines stage rest none = (none.0, inr (λ l more is. not_true (is_right l stage) (λ right. never l more is right)))
+no_line_outside : (lines : List Line) (state : DrillState) (rest : List ℕ) → HoldsNoLine rest → IsOutside lines state rest
+no_line_outside lines state rest none = (none.0, inr (λ l more is. not_true (is_right l state) (λ right. never l more is right)))
   where
-    never : (l : Line) (more : List ℕ) → rest ≡ line_text l ++ 10 ∷ more → is_right l stage ≡ true → ⊥
+    never : (l : Line) (more : List ℕ) → rest ≡ line_text l ++ 10 ∷ more → is_right l state ≡ true → ⊥
     never l more is right =
-        let parts = and_parts (is_line l) (nat_le (length (line_text l)) line_limit && is_placed l stage) right in
-        let short = and_parts (nat_le (length (line_text l)) line_limit) (is_placed l stage) parts.1 in
+        let parts = and_parts (is_line l) (nat_le (length (line_text l)) line_limit && is_placed l state) right in
+        let short = and_parts (nat_le (length (line_text l)) line_limit) (is_placed l state) parts.1 in
         let low : length (line_text l) ≤ line_limit = leb-true (length (line_text l)) line_limit short.0 in
         let long : line_limit < length (line_text l) = none.1 l more is parts.0 in
         omega arith
 
 -- a line that isn't right here is the only one here
-wrong_outside : (lines : List Line) (stage : Stage) (l : Line) (more rest : List ℕ) → rest ≡ line_text l ++ 10 ∷ more → IsTrue (is_line l)
-    → is_right l stage ≡ false → IsOutside lines stage rest
-wrong_outside lines stage l more rest is said wrong = (
+wrong_outside : (lines : List Line) (state : DrillState) (l : Line) (more rest : List ℕ) → rest ≡ line_text l ++ 10 ∷ more → IsTrue (is_line l)
+    → is_right l state ≡ false → IsOutside lines state rest
+wrong_outside lines state l more rest is said wrong = (
   omega (arith, ap length is, length-append (line_text l) (10 ∷ more)),
-  inr (λ m others same. not_true (is_right m stage) (λ right. never m others same right)),
+  inr (λ m others same. not_true (is_right m state) (λ right. never m others same right)),
 )
   where
-    never : (m : Line) (others : List ℕ) → rest ≡ line_text m ++ 10 ∷ others → is_right m stage ≡ true → ⊥
+    never : (m : Line) (others : List ℕ) → rest ≡ line_text m ++ 10 ∷ others → is_right m state ≡ true → ⊥
     never m others same right =
-        let other : IsTrue (is_line m) = (and_parts (is_line m) (nat_le (length (line_text m)) line_limit && is_placed m stage) right).0 in
+        let other : IsTrue (is_line m) = (and_parts (is_line m) (nat_le (length (line_text m)) line_limit && is_placed m state) right).0 in
         let cut = one_cut 10 (line_text l) more (line_text m) others (sym is ∙ same) (line_unbroken l said) (line_unbroken m other) in
         let one : l ≡ m = one_line l m said other cut.0 in
-        let clash : is_right m stage ≡ false = subst (λ (k : Line). is_right k stage ≡ false) one wrong in
+        let clash : is_right m state ≡ false = subst (λ (k : Line). is_right k state ≡ false) one wrong in
         cc
 
 -- what a line that is told stands before
@@ -204,40 +204,40 @@ line_told l held (Some left) P each rest is =
     each (held ++ left) rest (whole ∙ append_assoc (line_text l) (10 ∷ held) left)
 
 -- no line of the grammar stands next
-pub ends_outside : Delivers → (stage : Stage) (held : List ℕ) (count : ℕ) (start now : Flow) → SoFar stage held count start now
+pub ends_outside : Delivers → (state : DrillState) (held : List ℕ) (count : ℕ) (start now : Flow) → SoFar state held count start now
     → Told (before held now.left) HoldsNoLine → Ends (ends.Line (count + 1)) (between start now)
-ends_outside law stage held count start now s none = (
+ends_outside law state held count start now s none = (
   s.lines,
   s.text,
-  stage,
-  played_so_far law stage held count start now s,
+  state,
+  played_so_far law state held count start now s,
   (
     omega (arith, s.counted),
     s.wrote,
-    rest_told (script_text s.lines) start.left (before held now.left) (IsOutside s.lines stage) s.came
-        (λ rest is. no_line_outside s.lines stage rest (none rest is)),
+    rest_told (script_text s.lines) start.left (before held now.left) (IsOutside s.lines state) s.came
+        (λ rest is. no_line_outside s.lines state rest (none rest is)),
   ),
   (s.read, s.written),
-  lost_so_far stage held count start now s,
+  lost_so_far state held count start now s,
 )
 
 -- a line that isn't in its place stands next
-pub ends_wrong : Delivers → (l : Line) (stage : Stage) (held : List ℕ) (count : ℕ) (start now : Flow)
-    → SoFar stage (parted 10 (line_text l) held) count start now → IsTrue (is_line l) → is_right l stage ≡ false
+pub ends_wrong : Delivers → (l : Line) (state : DrillState) (held : List ℕ) (count : ℕ) (start now : Flow)
+    → SoFar state (parted 10 (line_text l) held) count start now → IsTrue (is_line l) → is_right l state ≡ false
     → Ends (ends.Line (count + 1)) (between start now)
-ends_wrong law l stage held count start now s said wrong = (
+ends_wrong law l state held count start now s said wrong = (
   s.lines,
   s.text,
-  stage,
-  played_so_far law stage (parted 10 (line_text l) held) count start now s,
+  state,
+  played_so_far law state (parted 10 (line_text l) held) count start now s,
   (
     omega (arith, s.counted),
     s.wrote,
-    rest_told (script_text s.lines) start.left (before (parted 10 (line_text l) held) now.left) (IsOutside s.lines stage) s.came
-        (line_told l held now.left (IsOutside s.lines stage) (λ more rest is. wrong_outside s.lines stage l more rest is said wrong)),
+    rest_told (script_text s.lines) start.left (before (parted 10 (line_text l) held) now.left) (IsOutside s.lines state) s.came
+        (line_told l held now.left (IsOutside s.lines state) (λ more rest is. wrong_outside s.lines state l more rest is said wrong)),
   ),
   (s.read, s.written),
-  lost_so_far stage (parted 10 (line_text l) held) count start now s,
+  lost_so_far state (parted 10 (line_text l) held) count start now s,
 )
 
 -- a count that rose from where it stood
@@ -252,117 +252,117 @@ nothing_left [] (Some rest) none bytes is = let same : bytes ≡ rest = cc in sa
 nothing_left (h ∷ held) (Some rest) none bytes is = let never : h ∷ (held ++ rest) ≡ [] = none (h ∷ (held ++ rest)) refl in absurd (cc never)
 
 -- a line stands next that would make one event too many
-pub ends_too_many : Delivers → (l : Line) (stage : Stage) (held : List ℕ) (count : ℕ) (start now : Flow)
-    → SoFar stage (parted 10 (line_text l) held) count start now → is_right l stage ≡ true → is_too_many l stage ≡ true → count < lines_limit
+pub ends_too_many : Delivers → (l : Line) (state : DrillState) (held : List ℕ) (count : ℕ) (start now : Flow)
+    → SoFar state (parted 10 (line_text l) held) count start now → is_right l state ≡ true → is_too_many l state ≡ true → count < lines_limit
     → Ends ends.TooMany (between start now)
-ends_too_many law l stage held count start now s right many few = (
+ends_too_many law l state held count start now s right many few = (
   s.lines,
   s.text,
-  stage,
-  played_so_far law stage (parted 10 (line_text l) held) count start now s,
+  state,
+  played_so_far law state (parted 10 (line_text l) held) count start now s,
   (
     s.wrote,
-    rest_told (script_text s.lines) start.left (before (parted 10 (line_text l) held) now.left) (IsTooMuch s.lines stage) s.came
-        (line_told l held now.left (IsTooMuch s.lines stage) (λ more rest is. (l, more, is, right, many, omega (arith, s.counted, few)))),
+    rest_told (script_text s.lines) start.left (before (parted 10 (line_text l) held) now.left) (IsTooMuch s.lines state) s.came
+        (line_told l held now.left (IsTooMuch s.lines state) (λ more rest is. (l, more, is, right, many, omega (arith, s.counted, few)))),
   ),
   (s.read, s.written),
-  lost_so_far stage (parted 10 (line_text l) held) count start now s,
+  lost_so_far state (parted 10 (line_text l) held) count start now s,
 )
 
 -- so many lines were played as a script may have, and one stands next
-pub ends_full : Delivers → (l : Line) (stage : Stage) (held : List ℕ) (count : ℕ) (start now : Flow)
-    → SoFar stage (parted 10 (line_text l) held) count start now → count ≡ lines_limit → Ends (ends.Line (count + 1)) (between start now)
-ends_full law l stage held count start now s full = (
+pub ends_full : Delivers → (l : Line) (state : DrillState) (held : List ℕ) (count : ℕ) (start now : Flow)
+    → SoFar state (parted 10 (line_text l) held) count start now → count ≡ lines_limit → Ends (ends.Line (count + 1)) (between start now)
+ends_full law l state held count start now s full = (
   s.lines,
   s.text,
-  stage,
-  played_so_far law stage (parted 10 (line_text l) held) count start now s,
+  state,
+  played_so_far law state (parted 10 (line_text l) held) count start now s,
   (
     omega (arith, s.counted),
     s.wrote,
-    rest_told (script_text s.lines) start.left (before (parted 10 (line_text l) held) now.left) (IsOutside s.lines stage) s.came
-        (line_told l held now.left (IsOutside s.lines stage) (λ more rest is. (some_left more rest is, inl (s.counted ∙ full)))),
+    rest_told (script_text s.lines) start.left (before (parted 10 (line_text l) held) now.left) (IsOutside s.lines state) s.came
+        (line_told l held now.left (IsOutside s.lines state) (λ more rest is. (some_left more rest is, inl (s.counted ∙ full)))),
   ),
   (s.read, s.written),
-  lost_so_far stage (parted 10 (line_text l) held) count start now s,
+  lost_so_far state (parted 10 (line_text l) held) count start now s,
 )
   where
     some_left : (more rest : List ℕ) → rest ≡ line_text l ++ 10 ∷ more → 0 < length rest
     some_left more rest is = omega (arith, ap length is, length-append (line_text l) (10 ∷ more))
 
 -- memory ran out
-pub ends_without_memory : Delivers → (stage : Stage) (held : List ℕ) (count : ℕ) (start now : Flow) → SoFar stage held count start now
+pub ends_without_memory : Delivers → (state : DrillState) (held : List ℕ) (count : ℕ) (start now : Flow) → SoFar state held count start now
     → Ends ends.NoMemory (between start now)
-ends_without_memory law stage held count start now s = (
+ends_without_memory law state held count start now s = (
   s.lines,
   s.text,
-  stage,
-  played_so_far law stage held count start now s,
+  state,
+  played_so_far law state held count start now s,
   (s.wrote, rest_is (script_text s.lines) start.left (before held now.left) s.came),
   (s.read, s.written),
-  lost_so_far stage held count start now s,
+  lost_so_far state held count start now s,
 )
 
 -- the source failed
-pub ends_unread : Delivers → (stage : Stage) (held : List ℕ) (count : ℕ) (start now : Flow) (reads : ℕ) → SoFar stage held count start now
+pub ends_unread : Delivers → (state : DrillState) (held : List ℕ) (count : ℕ) (start now : Flow) (reads : ℕ) → SoFar state held count start now
     → Rose now.reads reads → Ends ends.ReadFault (between start (flow now.left now.taken reads now.writes))
-ends_unread law stage held count start now reads s rose = (
+ends_unread law state held count start now reads s rose = (
   s.lines,
   s.text,
-  stage,
-  played_so_far law stage held count start now s,
+  state,
+  played_so_far law state held count start now s,
   (s.wrote, rest_is (script_text s.lines) start.left (before held now.left) s.came),
   (rose_since start.reads now.reads reads s.read rose, s.written),
-  lost_so_far stage held count start now s,
+  lost_so_far state held count start now s,
 )
 
 -- all was read and written
-pub ends_read : Delivers → (stage : Stage) (held : List ℕ) (count : ℕ) (start now : Flow) (taken : Option (List ℕ)) (writes : ℕ)
-    → SoFar stage held count start now → Told (before held now.left) (λ bytes. bytes ≡ [])
-    → taken ≡ behind now.taken (end_lines stage.world) → writes ≡ now.writes
+pub ends_read : Delivers → (state : DrillState) (held : List ℕ) (count : ℕ) (start now : Flow) (taken : Option (List ℕ)) (writes : ℕ)
+    → SoFar state held count start now → Told (before held now.left) (λ bytes. bytes ≡ [])
+    → taken ≡ behind now.taken (end_lines state.world) → writes ≡ now.writes
     → Ends ends.Read (between start (flow now.left taken now.reads writes))
-ends_read law stage held count start now taken writes s none wrote quiet = (
+ends_read law state held count start now taken writes s none wrote quiet = (
   s.lines,
   s.text,
-  stage,
-  played_so_far law stage held count start now s,
+  state,
+  played_so_far law state held count start now s,
   (
     nothing_told (script_text s.lines) start.left (before held now.left) s.came none,
-    wrote ∙ ap (λ (told : Option (List ℕ)). behind told (end_lines stage.world)) s.wrote ∙ behind_append start.taken s.text (end_lines stage.world),
+    wrote ∙ ap (λ (told : Option (List ℕ)). behind told (end_lines state.world)) s.wrote ∙ behind_append start.taken s.text (end_lines state.world),
   ),
   (s.read, quiet ∙ s.written),
   nothing_left held now.left none,
 )
 
 -- the sink failed within the numbers of the ends
-pub ends_unfinished : Delivers → (stage : Stage) (held : List ℕ) (count : ℕ) (start now : Flow) (taken : Option (List ℕ)) (writes : ℕ)
-    → SoFar stage held count start now → Told (before held now.left) (λ bytes. bytes ≡ [])
-    → TakesFront (end_lines stage.world) now.taken taken → Rose now.writes writes
+pub ends_unfinished : Delivers → (state : DrillState) (held : List ℕ) (count : ℕ) (start now : Flow) (taken : Option (List ℕ)) (writes : ℕ)
+    → SoFar state held count start now → Told (before held now.left) (λ bytes. bytes ≡ [])
+    → TakesFront (end_lines state.world) now.taken taken → Rose now.writes writes
     → Ends ends.WriteFault (between start (flow now.left taken now.reads writes))
-ends_unfinished law stage held count start now taken writes s none front rose = (
+ends_unfinished law state held count start now taken writes s none front rose = (
   s.lines,
   s.text,
-  stage,
-  played_so_far law stage held count start now s,
+  state,
+  played_so_far law state held count start now s,
   inr (
-    takes_more s.text (end_lines stage.world) start.taken now.taken taken s.wrote front,
+    takes_more s.text (end_lines state.world) start.taken now.taken taken s.wrote front,
     nothing_told (script_text s.lines) start.left (before held now.left) s.came none,
   ),
   (s.read, rose_since start.writes now.writes writes s.written rose),
-  lost_so_far stage held count start now s,
+  lost_so_far state held count start now s,
 )
 
 -- the sink failed within the text of a line
-pub ends_unwritten : Delivers → (l : Line) (words : List ℕ) (stage new : Stage) (held : List ℕ) (count : ℕ) (start now : Flow) (taken : Option (List ℕ)) (writes : ℕ)
-    → SoFar stage (parted 10 (line_text l) held) count start now → Turn l words stage new → count < lines_limit
+pub ends_unwritten : Delivers → (l : Line) (words : List ℕ) (state new : DrillState) (held : List ℕ) (count : ℕ) (start now : Flow) (taken : Option (List ℕ)) (writes : ℕ)
+    → SoFar state (parted 10 (line_text l) held) count start now → Turn l words state new → count < lines_limit
     → TakesFront words now.taken taken → Rose now.writes writes
     → Ends ends.WriteFault (between start (flow now.left taken now.reads writes))
-ends_unwritten law l words stage new held count start now taken writes s turn few front rose = (
+ends_unwritten law l words state new held count start now taken writes s turn few front rose = (
   s.lines ++ l ∷ [],
   s.text ++ words,
   new,
   (
-      let plays = plays_more s.lines l s.text words new_stage stage new s.plays turn in
+      let plays = plays_more s.lines l s.text words new_state state new s.plays turn in
       record {
         plays = plays;
         few = omega (arith, count_more s.lines l count s.counted, few);

@@ -7,12 +7,12 @@ use Rattle.std.proofs.lemmas.Fmt.{length-decimal-le}
 use Rattle.std.proofs.lemmas.List.{append-nil}
 use Rattle.std.proofs.Math.Nat.{mod-add-mod}
 use Rattle.drill.specs.Events.{Doing, Sets, Does, Says}
-use Rattle.drill.specs.Generated.{IsGenerated, Leads, Pushes, RoundRuns, Rounds, Taken, leg, carried, carried_both, counted, submissions, ticks_a, invoice, next_number, size_by}
-use Rattle.drill.specs.Generating.{Grows, Legs}
-use Rattle.drill.specs.Transcript.{Plays, PlaysAll, Stage, doing_of, events_limit, is_right, is_too_many, new_stage}
+use Rattle.drill.specs.Generated.{IsGenerated, Leads, Pushes, PlaysRound, Rounds, Taken, transmission, carried, carried_both, counted, submissions, ticks_a, invoice, next_number, size_by}
+use Rattle.drill.specs.Generating.{Grows, PlaysTransmission}
+use Rattle.drill.specs.Transcript.{Plays, PlaysAll, DrillState, doing_of, events_limit, is_right, is_too_many, new_state}
 use Rattle.drill.proofs.EndLemmas.{Delivers}
 use Rattle.drill.proofs.SpendLemmas.{submits_grow}
-use Rattle.drill.proofs.StageLemmas.{right_at_end}
+use Rattle.drill.proofs.StateLemmas.{right_at_end}
 use Rattle.drill_script.specs.LineText.{line_text, line_limit, is_line, is_name, load_text}
 use Rattle.drill_script.specs.declared.line.EndName.{EndName}
 use Rattle.drill_script.specs.declared.line.EndName.TheVariants as name
@@ -24,10 +24,10 @@ use Rattle.exchange_model.specs.DeliveredOnce.{HasDeliveredOnce}
 
 -- lines, and more of them
 
-plays_append : (xs ys : List Line) (first old new : Stage) (text words : List ℕ) → PlaysAll xs first text old → PlaysAll ys old words new
+plays_append : (xs ys : List Line) (first old new : DrillState) (text words : List ℕ) → PlaysAll xs first text old → PlaysAll ys old words new
     → PlaysAll (xs ++ ys) first (text ++ words) new
 plays_append [] ys first old new text words plays more =
-    let here : PlaysAll ys first words new = subst (λ (s : Stage). PlaysAll ys s words new) plays.1 more in
+    let here : PlaysAll ys first words new = subst (λ (s : DrillState). PlaysAll ys s words new) plays.1 more in
     subst (λ (t : List ℕ). PlaysAll ys first t new) (ap (λ (t : List ℕ). t ++ words) (sym plays.0)) here
 plays_append (l ∷ xs) ys first old new text words plays more = (
   plays.0,
@@ -40,10 +40,10 @@ plays_append (l ∷ xs) ys first old new text words plays more = (
   ap (λ (t : List ℕ). t ++ words) plays.7 ∙ append_assoc plays.1 plays.2 words,
 )
 
-pub leads_append : (xs ys : List Line) (old mid new : Stage) → Leads xs old mid → Leads ys mid new → Leads (xs ++ ys) old new
+pub leads_append : (xs ys : List Line) (old mid new : DrillState) → Leads xs old mid → Leads ys mid new → Leads (xs ++ ys) old new
 leads_append xs ys old mid new first rest = (first.0 ++ rest.0, plays_append xs ys old mid new first.0 rest.0 first.1 rest.1)
 
-pub leads_none : (old new : Stage) → new ≡ old → Leads [] old new
+pub leads_none : (old new : DrillState) → new ≡ old → Leads [] old new
 leads_none old new same = ([], (refl, same))
 
 -- a package that is carried
@@ -63,18 +63,18 @@ on_ok (Ok x) P Q so p = so p
 on_ok (Err e) P Q so p = tt
 
 -- more lines behind those that were played, where that didn't fail
-pub leads_more : {E : Type 0} (result : Result ⊤ E) (xs ys all : List Line) (old mid new : Stage) → xs ++ ys ≡ all → Leads xs old mid
+pub leads_more : {E : Type 0} (result : Result ⊤ E) (xs ys all : List Line) (old mid new : DrillState) → xs ++ ys ≡ all → Leads xs old mid
     → OnOk result (Leads ys mid new) → OnOk result (Leads all old new)
 leads_more (Ok done) xs ys all old mid new is first rest =
     subst (λ (l : List Line). Leads l old new) is (leads_append xs ys old mid new first rest)
 leads_more (Err e) xs ys all old mid new is first rest = tt
 
-pub carried_twice : {E : Type 0} (result : Result ⊤ E) (c : ℕ) (end : EndName) (place : ℕ) (old mid new : Stage) → c % 3 ≢ 2 → c % 5 ≡ 4
+pub carried_twice : {E : Type 0} (result : Result ⊤ E) (c : ℕ) (end : EndName) (place : ℕ) (old mid new : DrillState) → c % 3 ≢ 2 → c % 5 ≡ 4
     → Leads (line.Came end place ∷ []) old mid → OnOk result (Leads (line.Lost end place ∷ []) mid new) → OnOk result (Leads (carried c end place) old new)
 carried_twice result c end place old mid new first last came lost =
     leads_more result (line.Came end place ∷ []) (line.Lost end place ∷ []) (carried c end place) old mid new (carried_twice_is c end place first last) came lost
 
-pub both_carried : {E : Type 0} (result : Result ⊤ E) (c place answer : ℕ) (old mid new : Stage) → c % 3 ≢ 2
+pub both_carried : {E : Type 0} (result : Result ⊤ E) (c place answer : ℕ) (old mid new : DrillState) → c % 3 ≢ 2
     → Leads (carried c name.B place) old mid → OnOk result (Leads (carried (c + 1) name.A answer) mid new)
     → OnOk result (Leads (carried_both c place answer) old new)
 both_carried result c place answer old mid new first there back =
@@ -82,33 +82,33 @@ both_carried result c place answer old mid new first there back =
 
 -- events don't fall
 
-line_rises : (l : Line) (doing : Doing) (old new : Stage) (text : List ℕ) → Plays l doing old text new → old.events ≤ new.events
+line_rises : (l : Line) (doing : Doing) (old new : DrillState) (text : List ℕ) → Plays l doing old text new → old.events ≤ new.events
 line_rises (line.Mode name way retries period) doing old new text plays =
-    let same : new.events ≡ old.events = ap (λ (s : Stage). s.events) plays.3 in omega arith
+    let same : new.events ≡ old.events = ap (λ (s : DrillState). s.events) plays.3 in omega arith
 line_rises l (Does ask) old new text makes =
-    let more : new.events ≡ old.events + 1 = ap (λ (s : Stage). s.events) makes.leads in omega arith
+    let more : new.events ≡ old.events + 1 = ap (λ (s : DrillState). s.events) makes.leads in omega arith
 line_rises l (Says end words) old new text says =
-    let same : new.events ≡ old.events = ap (λ (s : Stage). s.events) says.1 in omega arith
+    let same : new.events ≡ old.events = ap (λ (s : DrillState). s.events) says.1 in omega arith
 line_rises l Sets old new text never = absurd never
 
-plays_rise : (lines : List Line) (old new : Stage) (text : List ℕ) → PlaysAll lines old text new → old.events ≤ new.events
-plays_rise [] old new text plays = let same : new.events ≡ old.events = ap (λ (s : Stage). s.events) plays.1 in omega arith
+plays_rise : (lines : List Line) (old new : DrillState) (text : List ℕ) → PlaysAll lines old text new → old.events ≤ new.events
+plays_rise [] old new text plays = let same : new.events ≡ old.events = ap (λ (s : DrillState). s.events) plays.1 in omega arith
 plays_rise (l ∷ lines) old new text plays =
     let first : old.events ≤ plays.0.events = line_rises l (doing_of old.world l) old plays.0 plays.1 plays.5 in
     let rest : plays.0.events ≤ new.events = plays_rise lines plays.0 new plays.2 plays.6 in
     omega arith
 
 -- a message that is taken is one event
-take_event : (old new : Stage) (text : List ℕ) → Plays (line.Take name.A) (doing_of old.world (line.Take name.A)) old text new
+take_event : (old new : DrillState) (text : List ℕ) → Plays (line.Take name.A) (doing_of old.world (line.Take name.A)) old text new
     → new.events ≡ old.events + 1
 unfolding doing_of
-take_event old new text makes = ap (λ (s : Stage). s.events) makes.leads
+take_event old new text makes = ap (λ (s : DrillState). s.events) makes.leads
 
-take_few : (old : Stage) → is_too_many (line.Take name.A) old ≡ false → old.events < events_limit
+take_few : (old : DrillState) → is_too_many (line.Take name.A) old ≡ false → old.events < events_limit
 unfolding doing_of
 take_few old few = leb-false events_limit old.events few
 
-pub take_rises : (lines : List Line) (old new : Stage) → Leads (line.Take name.A ∷ lines) old new
+pub take_rises : (lines : List Line) (old new : DrillState) → Leads (line.Take name.A ∷ lines) old new
     → (old.events + 1 ≤ new.events) × (old.events < events_limit)
 take_rises lines old new leads =
     let plays = leads.1 in
@@ -116,34 +116,34 @@ take_rises lines old new leads =
     let rest : plays.0.events ≤ new.events = plays_rise lines plays.0 new plays.2 plays.6 in
     (omega arith, take_few old plays.4)
 
--- a leg
+-- a transmission
 
-pub leg_played : (c place answer later : ℕ) (old mid new : Stage) → place ≡ length old.world.left.said → answer ≡ length old.world.right.said
+pub transmission_played : (c place answer later : ℕ) (old mid new : DrillState) → place ≡ length old.world.left.said → answer ≡ length old.world.right.said
     → later ≡ counted c → Pushes old.world.left.end → Leads (line.Take name.A ∷ []) old mid → Leads (carried_both c place answer) mid new
-    → Legs c old new (Some later)
-leg_played c place answer later old mid new here there counts pushes took rest = (
+    → PlaysTransmission c old new (Some later)
+transmission_played c place answer later old mid new here there counts pushes took rest = (
   counts,
   pushes,
-  subst (λ (n : ℕ). Leads (leg c n (length old.world.right.said)) old new) here
-      (subst (λ (n : ℕ). Leads (leg c place n) old new) there
+  subst (λ (n : ℕ). Leads (transmission c n (length old.world.right.said)) old new) here
+      (subst (λ (n : ℕ). Leads (transmission c place n) old new) there
       (leads_append (line.Take name.A ∷ []) (carried_both c place answer) old mid new took rest)),
 )
 
 -- one more is taken
-taken_more : (takes c : ℕ) (old : Stage) (now : ℕ) (mid new : Stage) → Taken takes c old now mid → Pushes mid.world.left.end
-    → Leads (leg now (length mid.world.left.said) (length mid.world.right.said)) mid new → Taken (suc takes) c old (counted now) new
+taken_more : (takes c : ℕ) (old : DrillState) (now : ℕ) (mid new : DrillState) → Taken takes c old now mid → Pushes mid.world.left.end
+    → Leads (transmission now (length mid.world.left.said) (length mid.world.right.said)) mid new → Taken (suc takes) c old (counted now) new
 taken_more zero c old now mid new taken some played =
     subst (λ (n : ℕ). Taken (suc zero) c old (counted n) new) (sym taken.0)
-    (subst (λ (s : Stage). Taken (suc zero) c s (counted c) new) taken.1
-    (new, some, subst (λ (n : ℕ). Leads (leg n (length mid.world.left.said) (length mid.world.right.said)) mid new) taken.0 played, (refl, refl)))
+    (subst (λ (s : DrillState). Taken (suc zero) c s (counted c) new) taken.1
+    (new, some, subst (λ (n : ℕ). Leads (transmission n (length mid.world.left.said) (length mid.world.right.said)) mid new) taken.0 played, (refl, refl)))
 taken_more (suc takes) c old now mid new taken some played =
     (taken.0, taken.1, taken.2, taken_more takes (counted c) taken.0 now mid new taken.3 some played)
 
 -- end a has taken some packages
-abbrev pub TakenSome : ℕ → Stage → ℕ → Stage → Type 0
+abbrev pub TakenSome : ℕ → DrillState → ℕ → DrillState → Type 0
 TakenSome c old later new = (takes : ℕ) × Taken takes c old later new
 
-pub taken_on : (c : ℕ) (old : Stage) (now next : ℕ) (mid new : Stage) → TakenSome c old now mid → Legs now mid new (Some next)
+pub taken_on : (c : ℕ) (old : DrillState) (now next : ℕ) (mid new : DrillState) → TakenSome c old now mid → PlaysTransmission now mid new (Some next)
     → TakenSome c old next new
 taken_on c old now next mid new taken played = (
   suc taken.0,
@@ -155,13 +155,13 @@ counted_most : (c : ℕ) (b : Bool) → (c % 3 == 2) ≡ b → counted c ≤ c +
 counted_most c true is = rw is (omega arith)
 counted_most c false is = rw is (omega arith)
 
-pub leg_few : (c later : ℕ) (old new : Stage) → c ≤ 2 * old.events → Legs c old new (Some later)
+pub transmission_few : (c later : ℕ) (old new : DrillState) → c ≤ 2 * old.events → PlaysTransmission c old new (Some later)
     → (later ≤ 2 * new.events) × ((old.events + 1 ≤ new.events) × (old.events < events_limit))
-leg_few c later old new few leg =
-    let rises = take_rises (carried_both c (length old.world.left.said) (length old.world.right.said)) old new leg.2 in
+transmission_few c later old new few transmission =
+    let rises = take_rises (carried_both c (length old.world.left.said) (length old.world.right.said)) old new transmission.2 in
     let most : counted c ≤ c + 2 = counted_most c (c % 3 == 2) refl in
     let more : old.events + 1 ≤ new.events = rises.0 in
-    let is : later ≡ counted c = leg.0 in
+    let is : later ≡ counted c = transmission.0 in
     (omega arith, rises)
 
 -- the lines of the generated world are short
@@ -230,24 +230,24 @@ mode_said = refl
 
 -- and right
 
-pub came_right : (end : EndName) (n : ℕ) (stage : Stage) → n < 2 ^ 64 → is_right (line.Came end n) stage ≡ true
-came_right end n stage small = right_at_end (line.Came end n) stage tt (came_said end n small) (came_short end n small)
+pub came_right : (end : EndName) (n : ℕ) (state : DrillState) → n < 2 ^ 64 → is_right (line.Came end n) state ≡ true
+came_right end n state small = right_at_end (line.Came end n) state tt (came_said end n small) (came_short end n small)
 
-pub lost_right : (end : EndName) (n : ℕ) (stage : Stage) → n < 2 ^ 64 → is_right (line.Lost end n) stage ≡ true
-lost_right end n stage small = right_at_end (line.Lost end n) stage tt (lost_said end n small) (lost_short end n small)
+pub lost_right : (end : EndName) (n : ℕ) (state : DrillState) → n < 2 ^ 64 → is_right (line.Lost end n) state ≡ true
+lost_right end n state small = right_at_end (line.Lost end n) state tt (lost_said end n small) (lost_short end n small)
 
-pub tick_right : (n : ℕ) (stage : Stage) → n ≤ 33000 → is_right (line.Tick name.A n) stage ≡ true
-tick_right n stage small = right_at_end (line.Tick name.A n) stage tt (tick_said n small) (tick_short n (omega arith))
+pub tick_right : (n : ℕ) (state : DrillState) → n ≤ 33000 → is_right (line.Tick name.A n) state ≡ true
+tick_right n state small = right_at_end (line.Tick name.A n) state tt (tick_said n small) (tick_short n (omega arith))
 
-pub take_right : (stage : Stage) → is_right (line.Take name.A) stage ≡ true
-take_right stage = right_at_end (line.Take name.A) stage tt take_said take_short
+pub take_right : (state : DrillState) → is_right (line.Take name.A) state ≡ true
+take_right state = right_at_end (line.Take name.A) state tt take_said take_short
 
-pub submit_right : (mode : List ℕ) (n : ℕ) (stage : Stage) → mode ≡ invoice → n ≤ 40960 → is_right (line.Submit name.A mode (Size n)) stage ≡ true
-submit_right mode n stage is small = right_at_end (line.Submit name.A mode (Size n)) stage tt (submit_said mode n is small) (submit_short mode n is small)
+pub submit_right : (mode : List ℕ) (n : ℕ) (state : DrillState) → mode ≡ invoice → n ≤ 40960 → is_right (line.Submit name.A mode (Size n)) state ≡ true
+submit_right mode n state is small = right_at_end (line.Submit name.A mode (Size n)) state tt (submit_said mode n is small) (submit_short mode n is small)
 
-pub mode_right : (stage : Stage) → stage ≡ new_stage → is_right (line.Mode invoice Push 10 3000) stage ≡ true
-mode_right stage is =
-    subst (λ (s : Stage). is_right (line.Mode invoice Push 10 3000) s ≡ true) (sym is)
+pub mode_right : (state : DrillState) → state ≡ new_state → is_right (line.Mode invoice Push 10 3000) state ≡ true
+mode_right state is =
+    subst (λ (s : DrillState). is_right (line.Mode invoice Push 10 3000) s ≡ true) (sym is)
     (and_from (is_line (line.Mode invoice Push 10 3000)) (nat_le (length (line_text (line.Mode invoice Push 10 3000))) line_limit && true) mode_said
     (and_from (nat_le (length (line_text (line.Mode invoice Push 10 3000))) line_limit) true
     (le-leb (length (line_text (line.Mode invoice Push 10 3000))) line_limit mode_short) refl))
@@ -255,13 +255,13 @@ mode_right stage is =
 -- rounds
 
 -- the rounds so far, and those to come
-abbrev pub RoundsOn : Stage → ℕ → ℕ → Stage → Type 0
-RoundsOn old round c mid = (more : ℕ) (new : Stage) → Rounds more round c mid new → Rounds (round + more) 0 0 old new
+abbrev pub RoundsOn : DrillState → ℕ → ℕ → DrillState → Type 0
+RoundsOn old round c mid = (more : ℕ) (new : DrillState) → Rounds more round c mid new → Rounds (round + more) 0 0 old new
 
 none_more : (n : ℕ) → n ≡ 0 + n
 none_more n = omega arith
 
-pub rounds_none : (old : Stage) → RoundsOn old 0 0 old
+pub rounds_none : (old : DrillState) → RoundsOn old 0 0 old
 rounds_none old more new rounds = subst (λ (n : ℕ). Rounds n 0 0 old new) (none_more more) rounds
 
 one_later : (round more : ℕ) → round + suc more ≡ (round + 1) + more
@@ -270,24 +270,24 @@ one_later round more = omega arith
 next_round : (round : ℕ) → round + 1 ≡ suc round
 next_round round = omega arith
 
-pub rounds_more : (old : Stage) (round c later : ℕ) (mid new : Stage) → RoundsOn old round c mid → RoundRuns round c mid later new
+pub rounds_more : (old : DrillState) (round c later : ℕ) (mid new : DrillState) → RoundsOn old round c mid → PlaysRound round c mid later new
     → RoundsOn old (round + 1) later new
 rounds_more old round c later mid new on played more last rounds =
     let rest : Rounds more (suc round) later new last = subst (λ (n : ℕ). Rounds more n later new last) (next_round round) rounds in
     subst (λ (n : ℕ). Rounds n 0 0 old last) (one_later round more)
     (on (suc more) last (later, new, played, rest))
 
-pub rounds_done : (old : Stage) (c : ℕ) (mid : Stage) → RoundsOn old 11 c mid → Rounds 11 0 0 old mid
+pub rounds_done : (old : DrillState) (c : ℕ) (mid : DrillState) → RoundsOn old 11 c mid → Rounds 11 0 0 old mid
 rounds_done old c mid on = on 0 mid refl
 
 -- the submissions so far are the first of all
-pub record SubmitsSoFar (seed : ℕ) (old : Stage) (done number : ℕ) (mid : Stage) : Type 0 where
+pub record SubmitsSoFar (seed : ℕ) (old : DrillState) (done number : ℕ) (mid : DrillState) : Type 0 where
   pub front : List Line
   pub cut : (more : ℕ) → submissions seed seed (done + more) ≡ front ++ submissions seed number more
   pub leads : Leads front old mid
   pub grows : Grows done done old mid
 
-pub submits_none : (seed : ℕ) (old : Stage) → SubmitsSoFar seed old 0 seed old
+pub submits_none : (seed : ℕ) (old : DrillState) → SubmitsSoFar seed old 0 seed old
 submits_none seed old = record {
   front = [];
   cut = λ more. ap (submissions seed seed) (sym (none_more more));
@@ -295,7 +295,7 @@ submits_none seed old = record {
   grows = (omega arith, omega arith);
 }
 
-pub submits_more : (seed : ℕ) (old : Stage) (done number next size : ℕ) (mid new : Stage) → next ≡ next_number number → size ≡ size_by seed next
+pub submits_more : (seed : ℕ) (old : DrillState) (done number next size : ℕ) (mid new : DrillState) → next ≡ next_number number → size ≡ size_by seed next
     → SubmitsSoFar seed old done number mid → Leads (line.Submit name.A invoice (Size size) ∷ []) mid new
     → SubmitsSoFar seed old (done + 1) next new
 submits_more seed old done number next size mid new is sized on one = record {
@@ -314,7 +314,7 @@ submits_more seed old done number next size mid new is sized on one = record {
         ∙ ap (λ (n : ℕ). on.front ++ line.Submit name.A invoice (Size size) ∷ submissions seed n more) (sym is)
         ∙ sym (append_assoc on.front (line.Submit name.A invoice (Size size) ∷ []) (submissions seed next more))
 
-pub submits_done : (seed : ℕ) (old : Stage) (count number : ℕ) (mid : Stage) → SubmitsSoFar seed old count number mid
+pub submits_done : (seed : ℕ) (old : DrillState) (count number : ℕ) (mid : DrillState) → SubmitsSoFar seed old count number mid
     → Leads (submissions seed seed count) old mid
 submits_done seed old count number mid on =
     let all : on.front ≡ submissions seed seed count = sym (append-nil on.front) ∙ sym (on.cut 0) ∙ ap (submissions seed seed) (no_more count) in
@@ -328,7 +328,7 @@ pub next_is : (x : ℕ) → ((x * 6364136223846793005) % 2 ^ 64 + 14426950408889
 unfolding next_number
 next_is x = mod-add-mod (x * 6364136223846793005) (2 ^ 64) 1442695040888963407
 
-pub submit_named : {E : Type 0} (result : Result ⊤ E) (mode : List ℕ) (n : ℕ) (old new : Stage) → mode ≡ invoice
+pub submit_named : {E : Type 0} (result : Result ⊤ E) (mode : List ℕ) (n : ℕ) (old new : DrillState) → mode ≡ invoice
     → OnOk result (Leads (line.Submit name.A mode (Size n) ∷ []) old new) → OnOk result (Leads (line.Submit name.A invoice (Size n) ∷ []) old new)
 submit_named result mode n old new is leads = subst (λ (m : List ℕ). OnOk result (Leads (line.Submit name.A m (Size n) ∷ []) old new)) is leads
 
@@ -340,44 +340,44 @@ mode_said_named mode is = subst (λ (m : List ℕ). IsTrue (is_line (line.Mode m
 pub mode_short_named : (mode : List ℕ) → mode ≡ invoice → length (line_text (line.Mode mode Push 10 3000)) ≤ line_limit
 mode_short_named mode is = subst (λ (m : List ℕ). length (line_text (line.Mode m Push 10 3000)) ≤ line_limit) (sym is) mode_short
 
-pub mode_right_named : (mode : List ℕ) (stage : Stage) → mode ≡ invoice → stage ≡ new_stage → is_right (line.Mode mode Push 10 3000) stage ≡ true
-mode_right_named mode stage is new =
-    subst (λ (m : List ℕ). is_right (line.Mode m Push 10 3000) stage ≡ true) (sym is) (mode_right stage new)
+pub mode_right_named : (mode : List ℕ) (state : DrillState) → mode ≡ invoice → state ≡ new_state → is_right (line.Mode mode Push 10 3000) state ≡ true
+mode_right_named mode state is new =
+    subst (λ (m : List ℕ). is_right (line.Mode m Push 10 3000) state ≡ true) (sym is) (mode_right state new)
 
-pub mode_named : {E : Type 0} (result : Result ⊤ E) (mode : List ℕ) (old new : Stage) → mode ≡ invoice
+pub mode_named : {E : Type 0} (result : Result ⊤ E) (mode : List ℕ) (old new : DrillState) → mode ≡ invoice
     → OnOk result (Leads (line.Mode mode Push 10 3000 ∷ []) old new) → OnOk result (Leads (line.Mode invoice Push 10 3000 ∷ []) old new)
 mode_named result mode old new is leads = subst (λ (m : List ℕ). OnOk result (Leads (line.Mode m Push 10 3000 ∷ []) old new)) is leads
 
--- the whole script, from a new stage
+-- the whole script, from a new state
 
 -- some lines lead there
-abbrev SomeLead : Stage → Stage → Type 0
+abbrev SomeLead : DrillState → DrillState → Type 0
 SomeLead old new = (lines : List Line) × Leads lines old new
 
-lead_then : (old mid new : Stage) → SomeLead old mid → SomeLead mid new → SomeLead old new
+lead_then : (old mid new : DrillState) → SomeLead old mid → SomeLead mid new → SomeLead old new
 lead_then old mid new first rest = (first.0 ++ rest.0, leads_append first.0 rest.0 old mid new first.1 rest.1)
 
-taken_lead : (takes c : ℕ) (old : Stage) (later : ℕ) (new : Stage) → Taken takes c old later new → SomeLead old new
+taken_lead : (takes c : ℕ) (old : DrillState) (later : ℕ) (new : DrillState) → Taken takes c old later new → SomeLead old new
 taken_lead zero c old later new taken = ([], leads_none old new taken.1)
 taken_lead (suc takes) c old later new taken =
-    lead_then old taken.0 new (leg c (length old.world.left.said) (length old.world.right.said), taken.2) (taken_lead takes (counted c) taken.0 later new taken.3)
+    lead_then old taken.0 new (transmission c (length old.world.left.said) (length old.world.right.said), taken.2) (taken_lead takes (counted c) taken.0 later new taken.3)
 
-round_leads : (round c : ℕ) (old : Stage) (later : ℕ) (new : Stage) → RoundRuns round c old later new → SomeLead old new
-round_leads round c old later new runs =
-    lead_then old runs.0 new (ticks_a (3000 * round), runs.2)
-    (lead_then runs.0 runs.3.0 new (taken_lead runs.1 c runs.0 later runs.3.0 runs.3.1) (line.Take name.A ∷ [], runs.3.3))
+round_leads : (round c : ℕ) (old : DrillState) (later : ℕ) (new : DrillState) → PlaysRound round c old later new → SomeLead old new
+round_leads round c old later new plays =
+    lead_then old plays.0 new (ticks_a (3000 * round), plays.2)
+    (lead_then plays.0 plays.3.0 new (taken_lead plays.1 c plays.0 later plays.3.0 plays.3.1) (line.Take name.A ∷ [], plays.3.3))
 
-rounds_lead : (rounds round c : ℕ) (old new : Stage) → Rounds rounds round c old new → SomeLead old new
+rounds_lead : (rounds round c : ℕ) (old new : DrillState) → Rounds rounds round c old new → SomeLead old new
 rounds_lead zero round c old new same = ([], leads_none old new same)
-rounds_lead (suc rounds) round c old new runs =
-    lead_then old runs.1 new (round_leads round c old runs.0 runs.1 runs.2) (rounds_lead rounds (suc round) runs.0 runs.1 new runs.3)
+rounds_lead (suc rounds) round c old new plays =
+    lead_then old plays.1 new (round_leads round c old plays.0 plays.1 plays.2) (rounds_lead rounds (suc round) plays.0 plays.1 new plays.3)
 
-generated_leads : (seed count : ℕ) (stage : Stage) → IsGenerated seed count stage → SomeLead new_stage stage
+generated_leads : (seed count : ℕ) (state : DrillState) → IsGenerated seed count state → SomeLead new_state state
 unfolding IsGenerated
-generated_leads seed count stage is =
-    lead_then new_stage is.0 stage (line.Mode invoice Push 10 3000 ∷ submissions seed seed count, is.2)
-    (lead_then is.0 is.1 stage (rounds_lead 11 0 0 is.0 is.1 is.3) (ticks_a 33000, is.4))
+generated_leads seed count state is =
+    lead_then new_state is.0 state (line.Mode invoice Push 10 3000 ∷ submissions seed seed count, is.2)
+    (lead_then is.0 is.1 state (rounds_lead 11 0 0 is.0 is.1 is.3) (ticks_a 33000, is.4))
 
 -- each message was delivered once
-pub generated_once : Delivers → (seed count : ℕ) (stage : Stage) → IsGenerated seed count stage → HasDeliveredOnce stage.world
-generated_once law seed count stage is = let leads = generated_leads seed count stage is in law leads.0 leads.1.0 stage leads.1.1
+pub generated_once : Delivers → (seed count : ℕ) (state : DrillState) → IsGenerated seed count state → HasDeliveredOnce state.world
+generated_once law seed count state is = let leads = generated_leads seed count state is in law leads.0 leads.1.0 state leads.1.1

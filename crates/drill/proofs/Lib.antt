@@ -1,11 +1,11 @@
 pub mod EndLemmas
+pub mod EndpointLemmas
 pub mod GeneratedLemmas
 pub mod NameLemmas
 pub mod NextLemmas
 pub mod OneTranscript
-pub mod PlayerLemmas
 pub mod PushLemmas
 pub mod SpendLemmas
-pub mod StageLemmas
+pub mod StateLemmas
 pub mod UnbrokenLemmas
 pub mod WorldLemmas

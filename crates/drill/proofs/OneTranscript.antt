@@ -1,7 +1,9 @@
--- A script has one transcript: what each of its lines writes and leads to is told by the line and the stage.
+-- A script has one transcript: what each of its lines writes and leads to is told by the line and the state.
 use Rattle.std.proofs.Common.{◌≡◌, ℕ, ◌+◌, ◌≤◌, List, [], ◌∷◌, ◌++◌, Bool, true, Option, length, sym, ap, ◌∙◌, subst, codes}
 use Rattle.std.specs.Prelude.{IsTrue}
 use Rattle.std.proofs.Props.{props}
+use Rattle.as4_effects.proofs.PartLemmas.{side_told}
+use Rattle.as4_effects.specs.Parts.{side_parts}
 use Rattle.as4_values.specs.ModeRanges.{is_mode_name, is_short, is_short_side, is_short_service, is_mode_agreement, is_mode_route, may_collect, IsRetries, IsPeriod}
 use Rattle.as4_values.specs.declared.header.Agreement.{Agreement}
 use Rattle.as4_values.specs.declared.header.Service.{Service}
@@ -9,13 +11,12 @@ use Rattle.as4_values.specs.declared.header.Side.{Side}
 use Rattle.as4_values.specs.declared.mode.Mode.{Mode}
 use Rattle.as4_values.specs.declared.route.Route.{Route}
 use Rattle.drill.specs.Events.{Asked, Doing, Sets, Does, Says, side_of}
-use Rattle.drill.specs.Transcript.{Makes, Plays, PlaysAll, Stage, doing_of}
+use Rattle.drill.specs.Transcript.{Makes, Plays, PlaysAll, DrillState, doing_of}
 use Rattle.drill_script.specs.declared.line.Line.{Line}
 use Rattle.drill_script.specs.declared.line.Line.TheVariants as line
 use Rattle.drill_script.specs.declared.line.Way.{Way}
 use Rattle.drill_texts.specs.Modes.{IsDrillMode, IsDrillSide}
 use Rattle.drill_texts.specs.Texts.{said_line, reply_text}
-use Rattle.event_code.proofs.HeaderReading.{side_parts, side_told}
 use Rattle.exchange_model.specs.Coming.{may_come}
 use Rattle.exchange_model.specs.Table.{Step}
 use Rattle.exchange_model.specs.World.{Act, Left, MayHappenAt, Right, Side as WorldSide, World, party_after, party_at, world_at}
@@ -162,7 +163,7 @@ one_world : (side : WorldSide) (a b : Act) (world : World) → a.outcome ≡ b.o
 one_world Left a b world outcomes losses = λ i. record { left = party_after (outcomes i) (losses i) world.left; right = world.right }
 one_world Right a b world outcomes losses = λ i. record { left = world.left; right = party_after (outcomes i) (losses i) world.right }
 
-one_makes : (ask : Asked) (old a b : Stage) (text words : List ℕ) → Makes ask old text a → Makes ask old words b → (text ≡ words) × (a ≡ b)
+one_makes : (ask : Asked) (old a b : DrillState) (text words : List ℕ) → Makes ask old text a → Makes ask old words b → (text ≡ words) × (a ≡ b)
 one_makes ask old a b text words h k =
     let events : h.act.event ≡ k.act.event = event_told h.act.event k.act.event (h.stamp ∙ sym k.stamp) (h.nonce ∙ sym k.nonce) (h.does ∙ sym k.does) in
     let first : Step old.modes (party_at (side_of ask.end) old.world).end k.act.event h.act.outcome =
@@ -180,7 +181,7 @@ one_makes ask old a b text words h k =
 
 -- what a line does
 
-one_plays : (l : Line) (doing : Doing) (old a b : Stage) (text words : List ℕ) → Plays l doing old text a → Plays l doing old words b
+one_plays : (l : Line) (doing : Doing) (old a b : DrillState) (text words : List ℕ) → Plays l doing old text a → Plays l doing old words b
     → (text ≡ words) × (a ≡ b)
 one_plays (line.Mode name way retries period) doing old a b text words h k = (
   h.2 ∙ sym k.2,
@@ -190,10 +191,10 @@ one_plays l (Does ask) old a b text words h k = one_makes ask old a b text words
 one_plays l (Says end told) old a b text words h k = (h.0 ∙ sym k.0, h.1 ∙ sym k.1)
 one_plays l Sets old a b text words h k = absurd h
 
-pub one_transcript : (lines : List Line) (old a b : Stage) (text words : List ℕ) → PlaysAll lines old text a → PlaysAll lines old words b
+pub one_transcript : (lines : List Line) (old a b : DrillState) (text words : List ℕ) → PlaysAll lines old text a → PlaysAll lines old words b
     → (text ≡ words) × (a ≡ b)
 one_transcript [] old a b text words h k = (h.0 ∙ sym k.0, h.1 ∙ sym k.1)
 one_transcript (l ∷ lines) old a b text words h k =
     let first = one_plays l (doing_of old.world l) old h.0 k.0 h.1 k.1 h.5 k.5 in
-    let rest = one_transcript lines k.0 a b h.2 k.2 (subst (λ (s : Stage). PlaysAll lines s h.2 a) first.1 h.6) k.6 in
+    let rest = one_transcript lines k.0 a b h.2 k.2 (subst (λ (s : DrillState). PlaysAll lines s h.2 a) first.1 h.6) k.6 in
     (h.7 ∙ ap (λ (t : List ℕ). t ++ h.2) first.0 ∙ ap (λ (t : List ℕ). k.1 ++ t) rest.0 ∙ sym k.7, rest.1)

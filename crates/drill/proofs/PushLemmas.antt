@@ -1,5 +1,5 @@
 -- How many messages an end has to push, and how an event changes that.
-use Rattle.std.proofs.Common.{◌≡◌, ℕ, ◌+◌, ◌≤◌, List, [], ◌∷◌, Bool, true, false, cond, ◌&&◌, Option, Some, None, length, map, inl, inr, refl, sym, ap, ◌∙◌, subst, arith, length-append}
+use Rattle.std.proofs.Common.{◌≡◌, ℕ, ◌+◌, ◌≤◌, List, [], ◌∷◌, ◌++◌, Bool, true, false, cond, ◌&&◌, Option, Some, None, length, map, inl, inr, refl, sym, ap, ◌∙◌, subst, arith, length-append}
 use Rattle.std.specs.Prelude.{nat_le, ◌==◌, if◌then◌else◌}
 use Rattle.std.specs.List.{count_by, filter, filter_map}
 use Rattle.std.specs.Option.{option_and_then}
@@ -15,10 +15,11 @@ use Rattle.as4_values.specs.declared.message.Message.TheVariants as message
 use Rattle.as4_values.specs.declared.mode.Mode.{Mode}
 use Rattle.as4_values.specs.declared.payload.Load.{Load}
 use Rattle.as4_values.specs.declared.payload.Payload.{Payload}
+use Rattle.as4_values.specs.declared.signal.Signal.{Signal}
 use Rattle.as4_values.specs.declared.signal_body.SignalBody.{SignalBody}
 use Rattle.as4_values.specs.declared.signal_body.SignalBody.TheVariants as body
 use Rattle.drill.specs.Generated.{Pushes, PushesNone}
-use Rattle.drill.specs.Generating.{may_go, to_push}
+use Rattle.drill.specs.Generating.{may_be_pushed, to_push}
 use Rattle.exchange_laws.proofs.EndSteps.{by_bool, by_option}
 use Rattle.exchange_model.proofs.ListLemmas.{Has, first_least_has, has_filtered}
 use Rattle.exchange_model.specs.Apply.{after, after_all, applied, changed, failed_if_spent, marked, record_len, tried, unsent}
@@ -26,7 +27,7 @@ use Rattle.exchange_model.specs.End.{End}
 use Rattle.exchange_model.specs.Questions.{due, head_of, is_in, is_known, is_pending, is_ready, is_waiting, sent_of}
 use Rattle.exchange_model.specs.Refusing.{Refusal, once, refusal_of, refusals_of}
 use Rattle.exchange_model.specs.Submitting.{address_of, are_too_large}
-use Rattle.exchange_model.specs.Table.{Comes, Errs, IsLimited, PullComes, ReceiptComes, RowOf, Settles, SignalComes, Step, Submits, Takes, Ticks, UserComes, has_room, message_of}
+use Rattle.exchange_model.specs.Table.{Comes, Errs, IsLimited, PairComes, PullComes, ReceiptComes, RowOf, Settles, SignalComes, Step, Submits, Takes, Ticks, UserComes, has_room, is_quiet, message_of, names_channel}
 use Rattle.exchange_model.specs.World.{sends}
 use Rattle.exchange_model.specs.declared.event.Event.{Event}
 use Rattle.exchange_model.specs.declared.outcome.Outcome.{Outcome}
@@ -92,23 +93,23 @@ one_changed : ℕ → (Sent → Sent) → Sent → Sent
 one_changed number change s = if s.submission.number == number then change s else s
 
 abbrev Quiets : ℕ → (Sent → Sent) → Type 0
-Quiets moment change = (s : Sent) → may_go moment (change s) ≡ false
+Quiets moment change = (s : Sent) → may_be_pushed moment (change s) ≡ false
 
 keeps_changed : (moment number : ℕ) (change : Sent → Sent) → Quiets moment change
-    → (s : Sent) → may_go moment (one_changed number change s) ≡ true → may_go moment s ≡ true
+    → (s : Sent) → may_be_pushed moment (one_changed number change s) ≡ true → may_be_pushed moment s ≡ true
 unfolding one_changed
 keeps_changed moment number change quiets s = by_test (s.submission.number == number)
   where
-    by_test : (b : Bool) → may_go moment (if b then change s else s) ≡ true → may_go moment s ≡ true
-    by_test true goes = let never = quiets s in absurd (cc (never, goes))
-    by_test false goes = goes
+    by_test : (b : Bool) → may_be_pushed moment (if b then change s else s) ≡ true → may_be_pushed moment s ≡ true
+    by_test true pushed = let never = quiets s in absurd (cc (never, pushed))
+    by_test false pushed = pushed
 
 calm_changed : (end : End) (number : ℕ) (change : Sent → Sent) → Quiets end.moment change
     → IsCalm end (record end { sent = changed number change end.sent })
 unfolding changed one_changed
 calm_changed end number change quiets = record {
   handed = omega (arith, length_mapped (one_changed number change) end.sent);
-  push = count_mapped (may_go end.moment) (one_changed number change) end.sent (keeps_changed end.moment number change quiets);
+  push = count_mapped (may_be_pushed end.moment) (one_changed number change) end.sent (keeps_changed end.moment number change quiets);
 }
 
 and_none : (b : Bool) → (b && false) ≡ false
@@ -133,6 +134,7 @@ quiet_tried moment s =
 abbrev pub IsCalmEffect : Effect → Type 0
 IsCalmEffect (effect.Submitted submission) = ⊥
 IsCalmEffect (effect.Ticked tick) = ⊥
+IsCalmEffect (effect.Carried carried) = ⊥
 IsCalmEffect other = Unit {0}
 
 abbrev pub AllCalm : List Effect → Type 0
@@ -148,6 +150,8 @@ calm_after (effect.Delivered delivery) end calm = record { handed = omega arith;
 calm_after (effect.Receipted number) end calm = calm_changed end number (marked mark.Receipted) (λ s. refl)
 calm_after (effect.Refused number code) end calm = calm_changed end number (marked (mark.Refused code)) (λ s. refl)
 calm_after (effect.Confirmed upto) end calm = record { handed = omega arith; push = omega arith }
+calm_after (effect.Carried carried) end never = absurd never
+calm_after (effect.Kept kept) end calm = record { handed = omega arith; push = omega arith }
 
 calm_all : (effects : List Effect) (end : End) → AllCalm effects → IsCalm end (after_all effects end)
 calm_all [] end calm = calm_none end
@@ -208,9 +212,29 @@ signal_calm modes end event id ref_to (body.Receipt copy) row h = receipt_calm e
 signal_calm modes end event id ref_to (body.Errors items) row h =
     calm_by row _ _ h (refusals_calm (once (filter_map (refusal_of ref_to end.sent) items)))
 
+all_calm : (front back : List Effect) → AllCalm front → AllCalm back → AllCalm (front ++ back)
+all_calm [] back calm more = more
+all_calm (e ∷ front) back calm more = (calm.0, all_calm front back calm.1 more)
+
+some_calm : (b : Bool) (effects : List Effect) → AllCalm effects → AllCalm (if b then effects else [])
+some_calm true effects calm = calm
+some_calm false effects calm = tt
+
+pair_calm : (modes : List Mode) (end : End) (event : Event) (receipt pull : Signal) (row : Outcome) → PairComes modes end event receipt pull row
+    → AllCalm row.effects
+unfolding PairComes
+pair_calm modes end event receipt pull row h =
+    let settled = signal_calm modes end event receipt.id receipt.ref_to receipt.body h.0 h.1 in
+    by_bool _ _ _ (is_quiet h.0.reply) h.2
+    (λ _ k.
+    let pulled = signal_calm modes (after_all h.0.effects end) event pull.id pull.ref_to pull.body k.0 k.1 in
+    calm_by row _ _ k.2 (some_calm (names_channel modes pull.body) (h.0.effects ++ k.0.effects) (all_calm h.0.effects k.0.effects settled pulled)))
+    (λ _ same. subst (λ (o : Outcome). AllCalm o.effects) (sym same) settled)
+
 comes_calm : (modes : List Mode) (end : End) (event : Event) (m : Message) (row : Outcome) → Comes modes end event m row → AllCalm row.effects
 comes_calm modes end event (message.User header payloads) row h = user_calm modes end event header payloads row h
 comes_calm modes end event (message.Signal signal) row h = signal_calm modes end event signal.id signal.ref_to signal.body row h
+comes_calm modes end event (message.Pair pair) row h = pair_calm modes end event pair.receipt pair.pull row h
 
 limited_calm : (end : End) (row outcome : Outcome) → IsLimited end row outcome → AllCalm row.effects → AllCalm outcome.effects
 limited_calm end row outcome limited calm =
@@ -272,14 +296,14 @@ submit_hands modes end event outcome name conversation loads step is =
 -- what is taken
 
 -- a message was pushed, so fewer are to be, or none was
-pub data TakeGoes (end : End) (outcome : Outcome) : Type 0 where
-  Some_goes : Pushes end → length (sends outcome.reply) ≡ 1 → to_push (applied outcome.effects end) + 1 ≤ to_push end → TakeGoes end outcome
-  None_goes : PushesNone end → sends outcome.reply ≡ [] → TakeGoes end outcome
+pub data TakeResult (end : End) (outcome : Outcome) : Type 0 where
+  Is_pushed : Pushes end → length (sends outcome.reply) ≡ 1 → to_push (applied outcome.effects end) + 1 ≤ to_push end → TakeResult end outcome
+  None_pushed : PushesNone end → sends outcome.reply ≡ [] → TakeResult end outcome
 
 -- the head of what is pushed may go
-head_goes : (end : End) (s : Sent) → head_of queue.Push end ≡ Some s → Has end.sent s × (may_go end.moment s ≡ true)
+head_may_be_pushed : (end : End) (s : Sent) → head_of queue.Push end ≡ Some s → Has end.sent s × (may_be_pushed end.moment s ≡ true)
 unfolding head_of
-head_goes end s head = has_filtered (may_go end.moment) end.sent s (first_least_has due (filter (may_go end.moment) end.sent) s head)
+head_may_be_pushed end s head = has_filtered (may_be_pushed end.moment) end.sent s (first_least_has due (filter (may_be_pushed end.moment) end.sent) s head)
 
 same_number : (n : ℕ) → (n == n) ≡ true
 same_number n = grind (arith, nat_tests)
@@ -288,46 +312,46 @@ head_pushed : (end : End) (s : Sent) → head_of queue.Push end ≡ Some s
     → to_push (applied (effect.Tried s.submission.number ∷ []) end) + 1 ≤ to_push end
 unfolding applied after changed one_changed
 head_pushed end s head =
-    let there = head_goes end s head in
-    let none : may_go end.moment (one_changed s.submission.number (tried end.moment) s) ≡ false =
-    ap (λ (b : Bool). may_go end.moment (if b then tried end.moment s else s)) (same_number s.submission.number) ∙ quiet_tried end.moment s in
-    count_less (may_go end.moment) (one_changed s.submission.number (tried end.moment)) end.sent s
+    let there = head_may_be_pushed end s head in
+    let none : may_be_pushed end.moment (one_changed s.submission.number (tried end.moment) s) ≡ false =
+    ap (λ (b : Bool). may_be_pushed end.moment (if b then tried end.moment s else s)) (same_number s.submission.number) ∙ quiet_tried end.moment s in
+    count_less (may_be_pushed end.moment) (one_changed s.submission.number (tried end.moment)) end.sent s
     (keeps_changed end.moment s.submission.number (tried end.moment) (quiet_tried end.moment)) there.0 there.1 none
 
-none_goes : (end : End) (row outcome : Outcome) → head_of queue.Push end ≡ None → Takes end row → IsLimited end row outcome → TakeGoes end outcome
+none_pushed : (end : End) (row outcome : Outcome) → head_of queue.Push end ≡ None → Takes end row → IsLimited end row outcome → TakeResult end outcome
 unfolding Takes has_room
-none_goes end row outcome none h limited =
+none_pushed end row outcome none h limited =
     let rests : row ≡ record { effects = []; reply = reply.Nothing } = rw none at h in
     let here : IsLimited end (record { effects = []; reply = reply.Nothing }) outcome = subst (λ (o : Outcome). IsLimited end o outcome) rests limited in
-    None_goes (inl none) (ap (λ (o : Outcome). sends o.reply) here)
+    None_pushed (inl none) (ap (λ (o : Outcome). sends o.reply) here)
 
-some_goes : (end : End) (row outcome : Outcome) (s : Sent) → head_of queue.Push end ≡ Some s → Takes end row → IsLimited end row outcome
-    → TakeGoes end outcome
+some_pushed : (end : End) (row outcome : Outcome) (s : Sent) → head_of queue.Push end ≡ Some s → Takes end row → IsLimited end row outcome
+    → TakeResult end outcome
 unfolding Takes
-some_goes end row outcome s head h limited =
+some_pushed end row outcome s head h limited =
     let gives : row ≡ record { effects = effect.Tried s.submission.number ∷ []; reply = reply.Push (address_of s.submission.route) (message_of s.submission) } = rw head at h in
     by_room (has_room end (effect.Tried s.submission.number ∷ [])) refl (subst (λ (o : Outcome). IsLimited end o outcome) gives limited)
   where
     by_room : (b : Bool) → has_room end (effect.Tried s.submission.number ∷ []) ≡ b
         → IsLimited end (record { effects = effect.Tried s.submission.number ∷ []; reply = reply.Push (address_of s.submission.route) (message_of s.submission) }) outcome
-        → TakeGoes end outcome
+        → TakeResult end outcome
     by_room true room here =
         let same : outcome ≡ record { effects = effect.Tried s.submission.number ∷ []; reply = reply.Push (address_of s.submission.route) (message_of s.submission) } = rw room at here in
-        Some_goes (s, head, room) (ap (λ (o : Outcome). length (sends o.reply)) same)
+        Is_pushed (s, head, room) (ap (λ (o : Outcome). length (sends o.reply)) same)
         (subst (λ (o : Outcome). to_push (applied o.effects end) + 1 ≤ to_push end) (sym same) (head_pushed end s head))
     by_room false room here =
         let full : outcome ≡ record { effects = []; reply = reply.Full end.size (record_len (effect.Tried s.submission.number ∷ [])) } = rw room at here in
-        None_goes (inr (s, head, room)) (ap (λ (o : Outcome). sends o.reply) full)
+        None_pushed (inr (s, head, room)) (ap (λ (o : Outcome). sends o.reply) full)
 
-takes_go : (end : End) (row outcome : Outcome) (head : Option Sent) → head_of queue.Push end ≡ head → Takes end row → IsLimited end row outcome
-    → TakeGoes end outcome
-takes_go end row outcome None is h limited = none_goes end row outcome is h limited
-takes_go end row outcome (Some s) is h limited = some_goes end row outcome s is h limited
+takes_result : (end : End) (row outcome : Outcome) (head : Option Sent) → head_of queue.Push end ≡ head → Takes end row → IsLimited end row outcome
+    → TakeResult end outcome
+takes_result end row outcome None is h limited = none_pushed end row outcome is h limited
+takes_result end row outcome (Some s) is h limited = some_pushed end row outcome s is h limited
 
-pub take_goes : (modes : List Mode) (end : End) (event : Event) (outcome : Outcome) → Step modes end event outcome → event.what ≡ what.Take
-    → TakeGoes end outcome
-take_goes modes end event outcome step is =
-    takes_go end step.row outcome (head_of queue.Push end) refl (row_at modes end event outcome what.Take step is) step.limited
+pub take_result : (modes : List Mode) (end : End) (event : Event) (outcome : Outcome) → Step modes end event outcome → event.what ≡ what.Take
+    → TakeResult end outcome
+take_result modes end event outcome step is =
+    takes_result end step.row outcome (head_of queue.Push end) refl (row_at modes end event outcome what.Take step is) step.limited
 
 -- and nothing is handed in
 takes_calm : (end : End) (row : Outcome) → Takes end row → AllCalm row.effects

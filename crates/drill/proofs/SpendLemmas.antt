@@ -5,10 +5,10 @@ use Rattle.std.proofs.lemmas.Bool.Decides.{nat_tests}
 use Rattle.std.proofs.lemmas.List.Sums.{count_by-le-length}
 use Rattle.as4_values.specs.declared.message.Message.{Message}
 use Rattle.drill.specs.Events.{Doing, Sets, Does, Says, comes, package_for}
-use Rattle.drill.specs.Generated.{Leads, Pushes, PushesNone, carried, carried_both, leg, ticks_a}
-use Rattle.drill.specs.Generating.{Grows, IsPushed, handed, may_go, to_push}
-use Rattle.drill.specs.Transcript.{Acts, Plays, PlaysAll, Stage, doing_of, events_limit}
-use Rattle.drill.proofs.PushLemmas.{IsCalm, TakeGoes, Some_goes, None_goes, calm_none, came_calm, submit_hands, take_calm, take_goes, tick_hands}
+use Rattle.drill.specs.Generated.{Leads, Pushes, PushesNone, carried, carried_both, transmission, ticks_a}
+use Rattle.drill.specs.Generating.{Grows, IsPushed, handed, may_be_pushed, to_push}
+use Rattle.drill.specs.Transcript.{Acts, Plays, PlaysAll, DrillState, doing_of, events_limit}
+use Rattle.drill.proofs.PushLemmas.{IsCalm, TakeResult, Is_pushed, None_pushed, calm_none, came_calm, submit_hands, take_calm, take_result, tick_hands}
 use Rattle.drill_script.specs.declared.line.EndName.{EndName}
 use Rattle.drill_script.specs.declared.line.EndName.TheVariants as name
 use Rattle.drill_script.specs.declared.line.Line.{Line}
@@ -24,23 +24,23 @@ use Rattle.exchange_model.specs.declared.sent.Sent.{Sent}
 
 -- each line makes one event at most
 
-one_event : (l : Line) (doing : Doing) (old new : Stage) (text : List ℕ) → Plays l doing old text new → new.events ≤ old.events + 1
+one_event : (l : Line) (doing : Doing) (old new : DrillState) (text : List ℕ) → Plays l doing old text new → new.events ≤ old.events + 1
 one_event (line.Mode name way retries period) doing old new text plays =
-    let same : new.events ≡ old.events = ap (λ (s : Stage). s.events) plays.3 in omega arith
+    let same : new.events ≡ old.events = ap (λ (s : DrillState). s.events) plays.3 in omega arith
 one_event l (Does ask) old new text makes =
-    let more : new.events ≡ old.events + 1 = ap (λ (s : Stage). s.events) makes.leads in omega arith
+    let more : new.events ≡ old.events + 1 = ap (λ (s : DrillState). s.events) makes.leads in omega arith
 one_event l (Says end words) old new text says =
-    let same : new.events ≡ old.events = ap (λ (s : Stage). s.events) says.1 in omega arith
+    let same : new.events ≡ old.events = ap (λ (s : DrillState). s.events) says.1 in omega arith
 one_event l Sets old new text never = absurd never
 
-some_events : (lines : List Line) (old new : Stage) (text : List ℕ) → PlaysAll lines old text new → new.events ≤ old.events + length lines
-some_events [] old new text plays = let same : new.events ≡ old.events = ap (λ (s : Stage). s.events) plays.1 in omega arith
+some_events : (lines : List Line) (old new : DrillState) (text : List ℕ) → PlaysAll lines old text new → new.events ≤ old.events + length lines
+some_events [] old new text plays = let same : new.events ≡ old.events = ap (λ (s : DrillState). s.events) plays.1 in omega arith
 some_events (l ∷ lines) old new text plays =
     let first : plays.0.events ≤ old.events + 1 = one_event l (doing_of old.world l) old plays.0 plays.1 plays.5 in
     let rest : new.events ≤ plays.0.events + length lines = some_events lines plays.0 new plays.2 plays.6 in
     omega arith
 
-pub leads_events : (lines : List Line) (old new : Stage) → Leads lines old new → new.events ≤ old.events + length lines
+pub leads_events : (lines : List Line) (old new : DrillState) → Leads lines old new → new.events ≤ old.events + length lines
 leads_events lines old new leads = some_events lines old new leads.0 leads.1
 
 -- a package that is carried makes two events at most
@@ -61,19 +61,19 @@ both_few c place answer = by_first (c % 3 == 2)
         omega (arith, carried_few c name.B place, carried_few (c + 1) name.A answer, length-append (carried c name.B place) (carried (c + 1) name.A answer))
 
 -- end a, before and after
-abbrev left : Stage → End
-left stage = stage.world.left.end
+abbrev left : DrillState → End
+left state = state.world.left.end
 
 -- what comes changes end a calmly
-comes_calmly : (end : EndName) (lost : Bool) (o : Option Message) (old new : Stage) (text : List ℕ) → Acts (comes end lost o) old text new
+comes_calmly : (end : EndName) (lost : Bool) (o : Option Message) (old new : DrillState) (text : List ℕ) → Acts (comes end lost o) old text new
     → IsCalm (left old) (left new)
 comes_calmly end lost None old new text says =
-    let same : left new ≡ left old = ap (λ (s : Stage). s.world.left.end) says.1 in
+    let same : left new ≡ left old = ap (λ (s : DrillState). s.world.left.end) says.1 in
     subst (IsCalm (left old)) (sym same) (calm_none (left old))
 comes_calmly name.A lost (Some m) old new text makes =
-    subst (λ (s : Stage). IsCalm (left old) (left s)) (sym makes.leads) (came_calm makes.act.modes (left old) makes.act.event makes.act.outcome m makes.may.step makes.does)
+    subst (λ (s : DrillState). IsCalm (left old) (left s)) (sym makes.leads) (came_calm makes.act.modes (left old) makes.act.event makes.act.outcome m makes.may.step makes.does)
 comes_calmly name.B lost (Some m) old new text makes =
-    subst (λ (s : Stage). IsCalm (left old) (left s)) (sym makes.leads) (calm_none (left old))
+    subst (λ (s : DrillState). IsCalm (left old) (left s)) (sym makes.leads) (calm_none (left old))
 
 -- lines of packages that come
 abbrev IsCarrying : Line → Type 0
@@ -85,7 +85,7 @@ abbrev AllCarrying : List Line → Type 0
 AllCarrying [] = Unit {0}
 AllCarrying (l ∷ lines) = IsCarrying l × AllCarrying lines
 
-line_calm : (l : Line) (old new : Stage) (text : List ℕ) → IsCarrying l → Plays l (doing_of old.world l) old text new → IsCalm (left old) (left new)
+line_calm : (l : Line) (old new : DrillState) (text : List ℕ) → IsCarrying l → Plays l (doing_of old.world l) old text new → IsCalm (left old) (left new)
 unfolding doing_of
 line_calm (line.Came end number) old new text is plays = comes_calmly end false (package_for end number old.world) old new text plays
 line_calm (line.Lost end number) old new text is plays = comes_calmly end true (package_for end number old.world) old new text plays
@@ -94,12 +94,13 @@ line_calm (line.Submit end mode load) old new text never plays = absurd never
 line_calm (line.Tick end moment) old new text never plays = absurd never
 line_calm (line.Take end) old new text never plays = absurd never
 line_calm (line.Ask end mode) old new text never plays = absurd never
+line_calm (line.Pair end mode number) old new text never plays = absurd never
 line_calm (line.Read end number) old new text never plays = absurd never
 line_calm (line.Confirm end number) old new text never plays = absurd never
 line_calm (line.Status end number) old new text never plays = absurd never
 
-lines_calm : (lines : List Line) (old new : Stage) (text : List ℕ) → AllCarrying lines → PlaysAll lines old text new → IsCalm (left old) (left new)
-lines_calm [] old new text all plays = subst (λ (s : Stage). IsCalm (left old) (left s)) (sym plays.1) (calm_none (left old))
+lines_calm : (lines : List Line) (old new : DrillState) (text : List ℕ) → AllCarrying lines → PlaysAll lines old text new → IsCalm (left old) (left new)
+lines_calm [] old new text all plays = subst (λ (s : DrillState). IsCalm (left old) (left s)) (sym plays.1) (calm_none (left old))
 lines_calm (l ∷ lines) old new text all plays =
     let first = line_calm l old plays.0 plays.1 all.0 plays.5 in
     let rest = lines_calm lines plays.0 new plays.2 all.1 plays.6 in
@@ -128,47 +129,47 @@ both_carrying c place answer = by_first (c % 3 == 2)
 -- what end a takes
 
 -- whether a message was pushed, by how many packages it has sent
-pub record Took (old new : Stage) : Type 0 where
+pub record Took (old new : DrillState) : Type 0 where
   pub calm : IsCalm (left old) (left new)
   pub events : new.events ≡ old.events + 1
-  pub goes : (Pushes (left old) × (length new.world.left.said ≡ length old.world.left.said + 1) × (to_push (left new) + 1 ≤ to_push (left old)))
+  pub result : (Pushes (left old) × (length new.world.left.said ≡ length old.world.left.said + 1) × (to_push (left new) + 1 ≤ to_push (left old)))
       ⊎ (PushesNone (left old) × (length new.world.left.said ≡ length old.world.left.said))
 
 said_after : (lost : Bool) (said more : List Message) → lost ≡ false → length (if lost then said else said ++ more) ≡ length said + length more
 said_after false said more is = length-append said more
 said_after true said more is = absurd (cc is)
 
-goes_by : (end : End) (outcome : Outcome) (said later : List Message) → length later ≡ length said + length (sends outcome.reply) → TakeGoes end outcome
+result_by : (end : End) (outcome : Outcome) (said later : List Message) → length later ≡ length said + length (sends outcome.reply) → TakeResult end outcome
     → (Pushes end × (length later ≡ length said + 1) × (to_push (applied outcome.effects end) + 1 ≤ to_push end))
     ⊎ (PushesNone end × (length later ≡ length said))
-goes_by end outcome said later is (Some_goes pushes one fewer) = inl (pushes, omega (arith, is, one), fewer)
-goes_by end outcome said later is (None_goes none nothing) = inr (none, omega (arith, is, ap length nothing))
+result_by end outcome said later is (Is_pushed pushes one fewer) = inl (pushes, omega (arith, is, one), fewer)
+result_by end outcome said later is (None_pushed none nothing) = inr (none, omega (arith, is, ap length nothing))
 
-take_took : (old new : Stage) (text : List ℕ) → Plays (line.Take name.A) (doing_of old.world (line.Take name.A)) old text new → Took old new
+take_took : (old new : DrillState) (text : List ℕ) → Plays (line.Take name.A) (doing_of old.world (line.Take name.A)) old text new → Took old new
 unfolding doing_of
-take_took old new text makes = subst (λ (s : Stage). Took old s) (sym makes.leads) (record {
+take_took old new text makes = subst (λ (s : DrillState). Took old s) (sym makes.leads) (record {
   calm = take_calm makes.act.modes (left old) makes.act.event makes.act.outcome makes.may.step makes.does;
   events = refl;
-  goes = goes_by (left old) makes.act.outcome old.world.left.said _ (said_after makes.act.lost old.world.left.said (sends makes.act.outcome.reply) makes.lost)
-      (take_goes makes.act.modes (left old) makes.act.event makes.act.outcome makes.may.step makes.does);
+  result = result_by (left old) makes.act.outcome old.world.left.said _ (said_after makes.act.lost old.world.left.said (sends makes.act.outcome.reply) makes.lost)
+      (take_result makes.act.modes (left old) makes.act.event makes.act.outcome makes.may.step makes.does);
 })
 
-pub leads_took : (old new : Stage) → Leads (line.Take name.A ∷ []) old new → Took old new
-leads_took old new leads = subst (λ (s : Stage). Took old s) (sym leads.1.6.1) (take_took old leads.1.0 leads.1.1 leads.1.5)
+pub leads_took : (old new : DrillState) → Leads (line.Take name.A ∷ []) old new → Took old new
+leads_took old new leads = subst (λ (s : DrillState). Took old s) (sym leads.1.6.1) (take_took old leads.1.0 leads.1.1 leads.1.5)
 
 -- by how many packages there are
-pushed_by : (pushed : Bool) (before later : ℕ) (old new : Stage) → Leads (line.Take name.A ∷ []) old new → before ≡ length old.world.left.said
+pushed_by : (pushed : Bool) (before later : ℕ) (old new : DrillState) → Leads (line.Take name.A ∷ []) old new → before ≡ length old.world.left.said
     → later ≡ length new.world.left.said → (pushed ≡ true → later ≢ before) → (pushed ≡ false → later ≡ before) → IsPushed pushed (left old)
-pushed_by true before later old new leads was is more none = elim (leads_took old new leads).goes [
+pushed_by true before later old new leads was is more none = elim (leads_took old new leads).result [
   | inl some ↦ some.0
   | inr rest ↦ absurd (more refl (is ∙ rest.1 ∙ sym was))
 ]
-pushed_by false before later old new leads was is more none = elim (leads_took old new leads).goes [
+pushed_by false before later old new leads was is more none = elim (leads_took old new leads).result [
   | inl some ↦ absurd (omega (arith, was, is, none refl, some.1))
   | inr rest ↦ rest.0
 ]
 
-pub pushed_is : (before later : ℕ) (old new : Stage) → Leads (line.Take name.A ∷ []) old new → before ≡ length old.world.left.said
+pub pushed_is : (before later : ℕ) (old new : DrillState) → Leads (line.Take name.A ∷ []) old new → before ≡ length old.world.left.said
     → later ≡ length new.world.left.said → IsPushed (not (nat_eq later before)) (left old)
 pushed_is before later old new leads was is =
     pushed_by (not (nat_eq later before)) before later old new leads was is (λ unlike. other later before unlike) (λ like. same later before like)
@@ -187,28 +188,28 @@ not_both end pushes (inr full) =
     subst (λ (s : Sent). has_room end (effect.Tried s.submission.number ∷ []) ≡ true) one pushes.2 in
     let clash : true ≡ false = sym room ∙ full.2 in cc
 
--- where a message is pushed, the events of its leg are left
-pub leg_room : (pushed : Bool) (old new : Stage) → Leads (line.Take name.A ∷ []) old new → IsPushed pushed (left old) → pushed ≡ true
+-- where a message is pushed, the events of its transmission are left
+pub transmission_room : (pushed : Bool) (old new : DrillState) → Leads (line.Take name.A ∷ []) old new → IsPushed pushed (left old) → pushed ≡ true
     → old.events + 5 * to_push (left old) < events_limit → new.events + 4 ≤ events_limit
-leg_room false old new leads is never few = absurd (cc never)
-leg_room true old new leads is pushed few =
-    let took = leads_took old new leads in elim took.goes [
+transmission_room false old new leads is never few = absurd (cc never)
+transmission_room true old new leads is pushed few =
+    let took = leads_took old new leads in elim took.result [
       | inl some ↦ omega (arith, took.events, some.2, few)
       | inr none ↦ absurd (not_both (left old) is none.0)
     ]
 
--- a leg makes five events at most, and one message fewer is to be pushed
-pub record LegSpends (old new : Stage) : Type 0 where
+-- a transmission makes five events at most, and one message fewer is to be pushed
+pub record TransmissionSpends (old new : DrillState) : Type 0 where
   pub events : new.events ≤ old.events + 5
   pub handed : handed new ≤ handed old
   pub push : to_push (left new) + 1 ≤ to_push (left old)
 
-pub leg_spends : (c place answer : ℕ) (old new : Stage) → Pushes (left old) → Leads (leg c place answer) old new → LegSpends old new
-leg_spends c place answer old new pushes leads =
+pub transmission_spends : (c place answer : ℕ) (old new : DrillState) → Pushes (left old) → Leads (transmission c place answer) old new → TransmissionSpends old new
+transmission_spends c place answer old new pushes leads =
     let took : Took old leads.1.0 = take_took old leads.1.0 leads.1.1 leads.1.5 in
     let rest = lines_calm (carried_both c place answer) leads.1.0 new leads.1.2 (both_carrying c place answer) leads.1.6 in
     let more : new.events ≤ leads.1.0.events + length (carried_both c place answer) = some_events (carried_both c place answer) leads.1.0 new leads.1.2 leads.1.6 in
-    let fewer : to_push (left leads.1.0) + 1 ≤ to_push (left old) = elim took.goes [
+    let fewer : to_push (left leads.1.0) + 1 ≤ to_push (left old) = elim took.result [
       | inl some ↦ some.2
       | inr none ↦ absurd (not_both (left old) pushes none.0)
     ] in
@@ -219,31 +220,31 @@ leg_spends c place answer old new pushes leads =
     }
 
 -- the last that is taken makes one
-pub last_grows : (old new : Stage) → Leads (line.Take name.A ∷ []) old new → Grows 1 0 old new
+pub last_grows : (old new : DrillState) → Leads (line.Take name.A ∷ []) old new → Grows 1 0 old new
 last_grows old new leads =
     let took = leads_took old new leads in (omega (arith, took.events), omega (arith, took.calm.handed))
 
 -- the clock of end a is set
-tick_grows : (moment : ℕ) (old new : Stage) (text : List ℕ) → Plays (line.Tick name.A moment) (doing_of old.world (line.Tick name.A moment)) old text new
+tick_grows : (moment : ℕ) (old new : DrillState) (text : List ℕ) → Plays (line.Tick name.A moment) (doing_of old.world (line.Tick name.A moment)) old text new
     → Grows 1 0 old new
 unfolding doing_of
-tick_grows moment old new text makes = subst (λ (s : Stage). Grows 1 0 old s) (sym makes.leads)
+tick_grows moment old new text makes = subst (λ (s : DrillState). Grows 1 0 old s) (sym makes.leads)
     (omega arith, tick_hands makes.act.modes (left old) makes.act.event makes.act.outcome makes.may.step makes.does)
 
-pub ticks_grow : (moment : ℕ) (old new : Stage) → Leads (ticks_a moment) old new → Grows 1 0 old new
-ticks_grow moment old new leads = subst (λ (s : Stage). Grows 1 0 old s) (sym leads.1.6.1) (tick_grows moment old leads.1.0 leads.1.1 leads.1.5)
+pub ticks_grow : (moment : ℕ) (old new : DrillState) → Leads (ticks_a moment) old new → Grows 1 0 old new
+ticks_grow moment old new leads = subst (λ (s : DrillState). Grows 1 0 old s) (sym leads.1.6.1) (tick_grows moment old leads.1.0 leads.1.1 leads.1.5)
 
 -- a message is handed in
-submit_grows : (mode : List ℕ) (load : ScriptLoad) (old new : Stage) (text : List ℕ)
+submit_grows : (mode : List ℕ) (load : ScriptLoad) (old new : DrillState) (text : List ℕ)
     → Plays (line.Submit name.A mode load) (doing_of old.world (line.Submit name.A mode load)) old text new → Grows 1 1 old new
 unfolding doing_of
-submit_grows mode load old new text makes = subst (λ (s : Stage). Grows 1 1 old s) (sym makes.leads)
+submit_grows mode load old new text makes = subst (λ (s : DrillState). Grows 1 1 old s) (sym makes.leads)
     (omega arith, submit_hands makes.act.modes (left old) makes.act.event makes.act.outcome _ _ _ makes.may.step makes.does)
 
-pub submits_grow : (mode : List ℕ) (load : ScriptLoad) (old new : Stage) → Leads (line.Submit name.A mode load ∷ []) old new → Grows 1 1 old new
+pub submits_grow : (mode : List ℕ) (load : ScriptLoad) (old new : DrillState) → Leads (line.Submit name.A mode load ∷ []) old new → Grows 1 1 old new
 submits_grow mode load old new leads =
-    subst (λ (s : Stage). Grows 1 1 old s) (sym leads.1.6.1) (submit_grows mode load old leads.1.0 leads.1.1 leads.1.5)
+    subst (λ (s : DrillState). Grows 1 1 old s) (sym leads.1.6.1) (submit_grows mode load old leads.1.0 leads.1.1 leads.1.5)
 
 -- no more is to be pushed than was handed in
-pub push_few : (stage : Stage) → to_push (left stage) ≤ handed stage
-push_few stage = count_by-le-length (may_go stage.world.left.end.moment) stage.world.left.end.sent
+pub push_few : (state : DrillState) → to_push (left state) ≤ handed state
+push_few state = count_by-le-length (may_be_pushed state.world.left.end.moment) state.world.left.end.sent

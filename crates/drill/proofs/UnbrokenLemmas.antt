@@ -103,6 +103,11 @@ line_unbroken (line.Tick end moment) right =
 line_unbroken (line.Take end) right = spaced_unbroken _ _ (Lacks_tested 10 (codes "take") refl) (end_unbroken end)
 line_unbroken (line.Ask end mode) right =
     spaced_unbroken _ _ (Lacks_tested 10 (codes "ask") refl) (spaced_unbroken _ _ (end_unbroken end) (name_unbroken mode right))
+line_unbroken (line.Pair end mode number) right =
+    let parts = and_parts (is_name mode) (nat_lt number (2 ^ 64)) right in
+    spaced_unbroken _ _ (Lacks_tested 10 (codes "pair") refl)
+    (spaced_unbroken _ _ (end_unbroken end)
+    (spaced_unbroken _ _ (name_unbroken mode parts.0) (decimal_unbroken number (ltb-true number (2 ^ 64) parts.1))))
 line_unbroken (line.Came end number) right = counted_unbroken (codes "came") end number (Lacks_tested 10 _ refl) right
 line_unbroken (line.Lost end number) right = counted_unbroken (codes "lost") end number (Lacks_tested 10 _ refl) right
 line_unbroken (line.Read end number) right = counted_unbroken (codes "read") end number (Lacks_tested 10 _ refl) right

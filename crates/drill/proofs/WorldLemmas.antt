@@ -1,16 +1,16 @@
 -- What the lines of a script do is what happens in a world of two ends.
 use Rattle.std.proofs.Common.{◌≡◌, ℕ, ◌⊎◌, inl, inr, List, [], ◌∷◌, sym, ◌∙◌, ap, subst}
 use Rattle.drill.specs.Events.{Doing, Sets, Does, Says}
-use Rattle.drill.specs.Transcript.{Stage, Plays, PlaysAll, doing_of}
+use Rattle.drill.specs.Transcript.{DrillState, Plays, PlaysAll, doing_of}
 use Rattle.drill_script.specs.declared.line.Line.{Line}
 use Rattle.drill_script.specs.declared.line.Line.TheVariants as line
-use Rattle.exchange_model.specs.World.{Act, Side, World, MayHappen, MayHappenAt, world_after, world_at}
+use Rattle.exchange_model.specs.World.{Act, Does as Acts, Happening, Side, World, MayHappen, MayHappenAt, world_after, world_at}
 
--- acts that may happen lead from one world to the other
+-- what may happen leads from one world to the other
 pub record Leads (old new : World) : Type 0 where
-  pub acts : List Act
-  pub may : MayHappen acts old
-  pub after : new ≡ world_after acts old
+  pub all : List Happening
+  pub may : MayHappen all old
+  pub after : new ≡ world_after all old
 
 -- one act does
 pub record LeadsAtOnce (old new : World) : Type 0 where
@@ -19,13 +19,13 @@ pub record LeadsAtOnce (old new : World) : Type 0 where
   pub after : new ≡ world_at act.side act old
 
 leads_nowhere : (old new : World) → new ≡ old → Leads old new
-leads_nowhere old new same = record { acts = []; may = tt; after = same }
+leads_nowhere old new same = record { all = []; may = tt; after = same }
 
 leads_then : (old mid new : World) → LeadsAtOnce old mid → Leads mid new → Leads old new
 leads_then old mid new first rest = record {
-  acts = first.act ∷ rest.acts;
-  may = (first.may, subst (MayHappen rest.acts) first.after rest.may);
-  after = rest.after ∙ ap (world_after rest.acts) first.after;
+  all = Acts first.act ∷ rest.all;
+  may = (first.may, subst (MayHappen rest.all) first.after rest.may);
+  after = rest.after ∙ ap (world_after rest.all) first.after;
 }
 
 leads_on : (old mid new : World) → (mid ≡ old) ⊎ LeadsAtOnce old mid → Leads mid new → Leads old new
@@ -42,17 +42,17 @@ leads_at act side old new at may after = record {
 }
 
 -- a line leads nowhere or makes one act
-line_leads : (l : Line) (doing : Doing) (old new : Stage) (text : List ℕ) → Plays l doing old text new
+line_leads : (l : Line) (doing : Doing) (old new : DrillState) (text : List ℕ) → Plays l doing old text new
     → (new.world ≡ old.world) ⊎ LeadsAtOnce old.world new.world
-line_leads (line.Mode name way retries period) doing old new text plays = inl (ap (λ (s : Stage). s.world) plays.3)
+line_leads (line.Mode name way retries period) doing old new text plays = inl (ap (λ (s : DrillState). s.world) plays.3)
 line_leads l (Does ask) old new text makes =
-    inr (leads_at makes.act _ old.world new.world makes.at makes.may (ap (λ (s : Stage). s.world) makes.leads))
-line_leads l (Says end words) old new text says = inl (ap (λ (s : Stage). s.world) says.1)
+    inr (leads_at makes.act _ old.world new.world makes.at makes.may (ap (λ (s : DrillState). s.world) makes.leads))
+line_leads l (Says end words) old new text says = inl (ap (λ (s : DrillState). s.world) says.1)
 line_leads l Sets old new text never = absurd never
 
 -- lines lead by the acts of each
-pub lines_lead : (lines : List Line) (old new : Stage) (text : List ℕ) → PlaysAll lines old text new → Leads old.world new.world
-lines_lead [] old new text plays = leads_nowhere old.world new.world (ap (λ (s : Stage). s.world) plays.1)
+pub lines_lead : (lines : List Line) (old new : DrillState) (text : List ℕ) → PlaysAll lines old text new → Leads old.world new.world
+lines_lead [] old new text plays = leads_nowhere old.world new.world (ap (λ (s : DrillState). s.world) plays.1)
 lines_lead (l ∷ lines) old new text plays =
     leads_on old.world plays.0.world new.world
     (line_leads l (doing_of old.world l) old plays.0 plays.1 plays.5)

@@ -2,7 +2,7 @@
 use Rattle.std.specs.Prelude.{◌≡◌, ℕ, ◌+◌, ◌<◌, ◌≤◌, ◌⊎◌, List, [], ◌∷◌, ◌++◌, true, false, Option, length}
 use Rattle.as4_flow.specs.Faults.{Rose}
 use Rattle.as4_flow.specs.Told.{Told, behind, LosesFront, TakesFront}
-use Rattle.drill.specs.Transcript.{Stage, PlaysAll, new_stage, script_text, end_lines, is_right, is_too_many, lines_limit}
+use Rattle.drill.specs.Transcript.{DrillState, PlaysAll, new_state, script_text, end_lines, is_right, is_too_many, lines_limit}
 use Rattle.drill.specs.declared.script.DrillEnd.{DrillEnd}
 use Rattle.drill.specs.declared.script.DrillEnd.TheVariants as ends
 use Rattle.drill_script.specs.LineText.{line_text}
@@ -27,42 +27,42 @@ abbrev pub Reads : List Line → List ℕ → Streams → Type 0
 Reads lines rest streams = Told streams.left (λ script. script ≡ script_text lines ++ rest)
 
 -- these lines were played from the start, this is what they wrote, and each message was delivered once
-pub record Played (lines : List Line) (text : List ℕ) (stage : Stage) : Type 0 where
-  pub plays : PlaysAll lines new_stage text stage
+pub record Played (lines : List Line) (text : List ℕ) (state : DrillState) : Type 0 where
+  pub plays : PlaysAll lines new_state text state
   pub few : length lines ≤ lines_limit
-  pub once : HasDeliveredOnce stage.world
+  pub once : HasDeliveredOnce state.world
 
 -- no line of the grammar stands here in its place
-abbrev pub IsOutside : List Line → Stage → List ℕ → Type 0
-IsOutside lines stage rest =
+abbrev pub IsOutside : List Line → DrillState → List ℕ → Type 0
+IsOutside lines state rest =
     (0 < length rest)
     × ((length lines ≡ lines_limit)
-    ⊎ ((l : Line) (more : List ℕ) → rest ≡ line_text l ++ 10 ∷ more → is_right l stage ≡ false))
+    ⊎ ((l : Line) (more : List ℕ) → rest ≡ line_text l ++ 10 ∷ more → is_right l state ≡ false))
 
 -- a line stands here that makes one event too many
-abbrev pub IsTooMuch : List Line → Stage → List ℕ → Type 0
-IsTooMuch lines stage rest =
-    (l : Line) × (more : List ℕ) × (rest ≡ line_text l ++ 10 ∷ more) × (is_right l stage ≡ true)
-    × (is_too_many l stage ≡ true) × (length lines < lines_limit)
+abbrev pub IsTooMuch : List Line → DrillState → List ℕ → Type 0
+IsTooMuch lines state rest =
+    (l : Line) × (more : List ℕ) × (rest ≡ line_text l ++ 10 ∷ more) × (is_right l state ≡ true)
+    × (is_too_many l state ≡ true) × (length lines < lines_limit)
 
 -- by what was played: its text was written, and what comes behind it is as said
-abbrev pub EndsAt : DrillEnd → List Line → List ℕ → Stage → Streams → Type 0
-EndsAt ends.Read lines text stage streams =
-    Reads lines [] streams × (streams.later ≡ behind streams.taken (text ++ end_lines stage.world))
-EndsAt (ends.Line number) lines text stage streams =
+abbrev pub EndsAt : DrillEnd → List Line → List ℕ → DrillState → Streams → Type 0
+EndsAt ends.Read lines text state streams =
+    Reads lines [] streams × (streams.later ≡ behind streams.taken (text ++ end_lines state.world))
+EndsAt (ends.Line number) lines text state streams =
     (number ≡ length lines + 1) × (streams.later ≡ behind streams.taken text)
-    × Told streams.left (λ script. (rest : List ℕ) × (script ≡ script_text lines ++ rest) × IsOutside lines stage rest)
-EndsAt ends.TooMany lines text stage streams =
+    × Told streams.left (λ script. (rest : List ℕ) × (script ≡ script_text lines ++ rest) × IsOutside lines state rest)
+EndsAt ends.TooMany lines text state streams =
     (streams.later ≡ behind streams.taken text)
-    × Told streams.left (λ script. (rest : List ℕ) × (script ≡ script_text lines ++ rest) × IsTooMuch lines stage rest)
-EndsAt ends.ReadFault lines text stage streams =
+    × Told streams.left (λ script. (rest : List ℕ) × (script ≡ script_text lines ++ rest) × IsTooMuch lines state rest)
+EndsAt ends.ReadFault lines text state streams =
     (streams.later ≡ behind streams.taken text)
     × Told streams.left (λ script. (rest : List ℕ) × (script ≡ script_text lines ++ rest))
-EndsAt ends.WriteFault lines text stage streams =
+EndsAt ends.WriteFault lines text state streams =
     (TakesFront text streams.taken streams.later
     × Told streams.left (λ script. (rest : List ℕ) × (script ≡ script_text lines ++ rest)))
-    ⊎ (TakesFront (text ++ end_lines stage.world) streams.taken streams.later × Reads lines [] streams)
-EndsAt ends.NoMemory lines text stage streams =
+    ⊎ (TakesFront (text ++ end_lines state.world) streams.taken streams.later × Reads lines [] streams)
+EndsAt ends.NoMemory lines text state streams =
     (streams.later ≡ behind streams.taken text)
     × Told streams.left (λ script. (rest : List ℕ) × (script ≡ script_text lines ++ rest))
 
@@ -83,5 +83,5 @@ LeavesAt other lines streams = LosesFront (length (script_text lines) + ahead_li
 -- how a drill ends
 abbrev pub Ends : DrillEnd → Streams → Type 0
 Ends end streams =
-    (lines : List Line) × (text : List ℕ) × (stage : Stage) × Played lines text stage × EndsAt end lines text stage streams
+    (lines : List Line) × (text : List ℕ) × (state : DrillState) × Played lines text state × EndsAt end lines text state streams
     × CountsAt end streams × LeavesAt end lines streams

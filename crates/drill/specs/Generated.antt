@@ -11,7 +11,7 @@ use Rattle.as4_effects.specs.declared.effect.Effect.TheVariants as effect
 use Rattle.as4_effects.specs.declared.queue.Queue.TheVariants as queue
 use Rattle.as4_flow.specs.Told.{behind, TakesFront}
 use Rattle.drill.specs.Ends.{CountsAt, Streams}
-use Rattle.drill.specs.Transcript.{Stage, PlaysAll, new_stage, end_lines}
+use Rattle.drill.specs.Transcript.{DrillState, PlaysAll, new_state, end_lines}
 use Rattle.drill.specs.declared.script.DrillEnd.{DrillEnd}
 use Rattle.drill.specs.declared.script.DrillEnd.TheVariants as ends
 use Rattle.drill_script.specs.declared.line.EndName.{EndName}
@@ -54,15 +54,15 @@ carried_both c place answer = if c % 3 == 2 then [] else carried c name.B place 
 
 -- end a takes a package, which gets the first place among a's, and it is carried; what end b answers to it gets the
 -- second place, among b's
-abbrev pub leg : ℕ → ℕ → ℕ → List Line
-leg c place answer = line.Take name.A ∷ carried_both c place answer
+abbrev pub transmission : ℕ → ℕ → ℕ → List Line
+transmission c place answer = line.Take name.A ∷ carried_both c place answer
 
--- the counter behind such a leg
+-- the counter behind such a transmission
 abbrev pub counted : ℕ → ℕ
 counted c = if c % 3 == 2 then c + 1 else c + 2
 
 -- the lines are played, whatever they write
-abbrev pub Leads : List Line → Stage → Stage → Type 0
+abbrev pub Leads : List Line → DrillState → DrillState → Type 0
 Leads lines old new = (text : List ℕ) × PlaysAll lines old text new
 
 -- end a pushes a message where it takes: one is to be pushed, and its journal has room for one more try
@@ -77,48 +77,48 @@ PushesNone end =
     ⊎ ((s : Sent) × (head_of queue.Push end ≡ Some s) × (has_room end (effect.Tried s.submission.number ∷ []) ≡ false))
 
 -- end a takes so many packages
-abbrev pub Taken : ℕ → ℕ → Stage → ℕ → Stage → Type 0
+abbrev pub Taken : ℕ → ℕ → DrillState → ℕ → DrillState → Type 0
 Taken zero c old later new = (later ≡ c) × (new ≡ old)
 Taken (suc takes) c old later new =
-    (mid : Stage) × Pushes old.world.left.end
-    × Leads (leg c (length old.world.left.said) (length old.world.right.said)) old mid
+    (mid : DrillState) × Pushes old.world.left.end
+    × Leads (transmission c (length old.world.left.said) (length old.world.right.said)) old mid
     × Taken takes (counted c) mid later new
 
 -- and then pushes none
-abbrev pub TakesAll : ℕ → ℕ → Stage → ℕ → Stage → Type 0
+abbrev pub TakesAll : ℕ → ℕ → DrillState → ℕ → DrillState → Type 0
 TakesAll takes c old later new =
-    (mid : Stage) × Taken takes c old later mid × PushesNone mid.world.left.end
+    (mid : DrillState) × Taken takes c old later mid × PushesNone mid.world.left.end
     × Leads (line.Take name.A ∷ []) mid new
 
 abbrev pub ticks_a : ℕ → List Line
 ticks_a moment = line.Tick name.A moment ∷ []
 
 -- one round
-abbrev pub RoundRuns : ℕ → ℕ → Stage → ℕ → Stage → Type 0
-RoundRuns round c old later new =
-    (begun : Stage) × (takes : ℕ) × Leads (ticks_a (3000 * round)) old begun × TakesAll takes c begun later new
+abbrev pub PlaysRound : ℕ → ℕ → DrillState → ℕ → DrillState → Type 0
+PlaysRound round c old later new =
+    (begun : DrillState) × (takes : ℕ) × Leads (ticks_a (3000 * round)) old begun × TakesAll takes c begun later new
 
 -- so many rounds from this one on
-abbrev pub Rounds : ℕ → ℕ → ℕ → Stage → Stage → Type 0
+abbrev pub Rounds : ℕ → ℕ → ℕ → DrillState → DrillState → Type 0
 Rounds zero round c old new = new ≡ old
 Rounds (suc rounds) round c old new =
-    (later : ℕ) × (done : Stage) × RoundRuns round c old later done × Rounds rounds (suc round) later done new
+    (later : ℕ) × (done : DrillState) × PlaysRound round c old later done × Rounds rounds (suc round) later done new
 
 -- what the seed and the count lead to
-unfoldable pub IsGenerated : ℕ → ℕ → Stage → Type 0
-IsGenerated seed count stage =
-    (begun : Stage) × (done : Stage)
-    × Leads (line.Mode invoice Push 10 3000 ∷ submissions seed seed count) new_stage begun
-    × Rounds 11 0 0 begun done × Leads (ticks_a 33000) done stage
+unfoldable pub IsGenerated : ℕ → ℕ → DrillState → Type 0
+IsGenerated seed count state =
+    (begun : DrillState) × (done : DrillState)
+    × Leads (line.Mode invoice Push 10 3000 ∷ submissions seed seed count) new_state begun
+    × Rounds 11 0 0 begun done × Leads (ticks_a 33000) done state
 
 -- by what the seed and the count lead to: the numbers of both ends are written, and each message was delivered once
 abbrev pub GeneratedAt : ℕ → ℕ → DrillEnd → Streams → Type 0
 GeneratedAt seed count ends.Read streams =
-    (stage : Stage) × IsGenerated seed count stage × HasDeliveredOnce stage.world
-    × (streams.later ≡ behind streams.taken (end_lines stage.world))
+    (state : DrillState) × IsGenerated seed count state × HasDeliveredOnce state.world
+    × (streams.later ≡ behind streams.taken (end_lines state.world))
 GeneratedAt seed count ends.WriteFault streams =
-    (stage : Stage) × IsGenerated seed count stage × HasDeliveredOnce stage.world
-    × TakesFront (end_lines stage.world) streams.taken streams.later
+    (state : DrillState) × IsGenerated seed count state × HasDeliveredOnce state.world
+    × TakesFront (end_lines state.world) streams.taken streams.later
 GeneratedAt seed count ends.NoMemory streams = streams.later ≡ streams.taken
 GeneratedAt seed count other streams = ⊥
 

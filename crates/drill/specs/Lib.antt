@@ -1,9 +1,9 @@
+pub mod Endpoints
 pub mod Ends
 pub mod Events
 pub mod Generated
 pub mod Generating
 pub mod Next
-pub mod Players
 pub mod Running
-pub mod Stages
+pub mod States
 pub mod Transcript

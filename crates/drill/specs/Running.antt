@@ -2,7 +2,7 @@
 use Rattle.std.specs.Prelude.{◌≡◌, ℕ, ◌≤◌, List, Option, length}
 use Rattle.as4_flow.specs.Told.{before, behind}
 use Rattle.drill.specs.Ends.{Streams}
-use Rattle.drill.specs.Transcript.{Stage, PlaysAll, new_stage, script_text, lines_limit}
+use Rattle.drill.specs.Transcript.{DrillState, PlaysAll, new_state, script_text, lines_limit}
 use Rattle.drill_script.specs.Lines.{ahead_limit}
 use Rattle.drill_script.specs.declared.line.Line.{Line}
 
@@ -31,10 +31,10 @@ between start now = record {
 
 -- since the start so many lines were played and their text was written, what is held stands before what is left, and
 -- nothing failed
-pub record SoFar (stage : Stage) (held : List ℕ) (count : ℕ) (start now : Flow) : Type 0 where
+pub record SoFar (state : DrillState) (held : List ℕ) (count : ℕ) (start now : Flow) : Type 0 where
   pub lines : List Line
   pub text : List ℕ
-  pub plays : PlaysAll lines new_stage text stage
+  pub plays : PlaysAll lines new_state text state
   pub counted : length lines ≡ count
   pub few : count ≤ lines_limit
   pub came : start.left ≡ before (script_text lines) (before held now.left)

@@ -18,14 +18,14 @@ use Rattle.exchange_model.specs.declared.what.What.TheVariants as what
 
 -- what a script has led to: two ends with their modes, how many events were made, and whether a line was more than a
 -- mode
-pub record Stage : Type 0 where
+pub record DrillState : Type 0 where
   pub world : World
   pub modes : List Mode
   pub events : ℕ
   pub begun : Bool
 
-abbrev pub new_stage : Stage
-new_stage = record { world = new_world; modes = []; events = 0; begun = false }
+abbrev pub new_state : DrillState
+new_state = record { world = new_world; modes = []; events = 0; begun = false }
 
 -- what a line does
 unfoldable pub doing_of : World → Line → Doing
@@ -35,6 +35,7 @@ doing_of world (line.Tick end moment) =
     Does (record { end = end; what = what.Tick; moment = Some moment; lost = false; number = 0 })
 doing_of world (line.Take end) = Does (asked end 0 what.Take)
 doing_of world (line.Ask end mode) = Does (asked end 0 (what.Ask mode))
+doing_of world (line.Pair end mode number) = Does (asked end number (what.AskWith mode number))
 doing_of world (line.Came end number) = comes end false (package_for end number world)
 doing_of world (line.Lost end number) = comes end true (package_for end number world)
 doing_of world (line.Read end number) = Does (asked end number (what.Read number))
@@ -43,7 +44,7 @@ doing_of world (line.Status end number) =
     tells end number (status_text number (codes "unknown")) (id_at end number world)
 
 -- an event at an end: its nonce is its number among all events, its moment is the end's where the line sets none
-pub record Makes (ask : Asked) (old : Stage) (text : List ℕ) (new : Stage) : Type 0 where
+pub record Makes (ask : Asked) (old : DrillState) (text : List ℕ) (new : DrillState) : Type 0 where
   pub act : Act
   pub at : act.side ≡ side_of ask.end
   pub modes : act.modes ≡ old.modes
@@ -57,31 +58,31 @@ pub record Makes (ask : Asked) (old : Stage) (text : List ℕ) (new : Stage) : T
   pub leads : new ≡ record old { world = world_at (side_of ask.end) act old.world; events = old.events + 1; begun = true }
 
 -- what is done at an end, and what is written of it
-abbrev pub Acts : Doing → Stage → List ℕ → Stage → Type 0
+abbrev pub Acts : Doing → DrillState → List ℕ → DrillState → Type 0
 Acts Sets old text new = ⊥
 Acts (Does ask) old text new = Makes ask old text new
 Acts (Says end words) old text new = (text ≡ said_line end words) × (new ≡ record old { begun = true })
 
 -- what a line leads to, and what it writes
-abbrev pub Plays : Line → Doing → Stage → List ℕ → Stage → Type 0
+abbrev pub Plays : Line → Doing → DrillState → List ℕ → DrillState → Type 0
 Plays (line.Mode name way retries period) doing old text new =
     (mode : Mode) × IsDrillMode name way retries period mode × (text ≡ [])
     × (new ≡ record old { modes = old.modes ++ mode ∷ [] })
 Plays l doing old text new = Acts doing old text new
 
 -- modes come first, at most 1,024, each name once
-abbrev pub is_placed : Line → Stage → Bool
-is_placed (line.Mode name way retries period) stage =
-    not stage.begun && (nat_lt (length stage.modes) 1024 && not (list_any (λ (mode : Mode). bytes_eq mode.name name) stage.modes))
-is_placed l stage = true
+abbrev pub is_placed : Line → DrillState → Bool
+is_placed (line.Mode name way retries period) state =
+    not state.begun && (nat_lt (length state.modes) 1024 && not (list_any (λ (mode : Mode). bytes_eq mode.name name) state.modes))
+is_placed l state = true
 
 -- how many events a script may make
 abbrev pub events_limit : ℕ
 events_limit = 100000
 
 -- the line is in the grammar, within the limit and in its place
-abbrev pub is_right : Line → Stage → Bool
-is_right l stage = is_line l && (nat_le (length (line_text l)) line_limit && is_placed l stage)
+abbrev pub is_right : Line → DrillState → Bool
+is_right l state = is_line l && (nat_le (length (line_text l)) line_limit && is_placed l state)
 
 -- where so many events were made, this would be one too many
 abbrev pub is_full_for : Doing → ℕ → Bool
@@ -89,14 +90,14 @@ is_full_for (Does ask) events = nat_le events_limit events
 is_full_for other events = false
 
 -- the line would make one event too many
-abbrev pub is_too_many : Line → Stage → Bool
-is_too_many l stage = is_full_for (doing_of stage.world l) stage.events
+abbrev pub is_too_many : Line → DrillState → Bool
+is_too_many l state = is_full_for (doing_of state.world l) state.events
 
 -- these lines, one after another
-abbrev pub PlaysAll : List Line → Stage → List ℕ → Stage → Type 0
+abbrev pub PlaysAll : List Line → DrillState → List ℕ → DrillState → Type 0
 PlaysAll [] old text new = (text ≡ []) × (new ≡ old)
 PlaysAll (l ∷ lines) old text new =
-    (mid : Stage) × (words : List ℕ) × (rest : List ℕ) × IsTrue (is_right l old) × (is_too_many l old ≡ false)
+    (mid : DrillState) × (words : List ℕ) × (rest : List ℕ) × IsTrue (is_right l old) × (is_too_many l old ≡ false)
     × Plays l (doing_of old.world l) old words mid × PlaysAll lines mid rest new × (text ≡ words ++ rest)
 
 -- each line ends in LF

@@ -1,9 +1,9 @@
 //! A world that a seed and a count generate, run.
 ghost use Rattle.std.specs.Prelude.{◌≡◌, ℕ, ◌+◌, ◌*◌, ◌%◌, ◌≤◌, ◌<◌, ◌∷◌, [], IfOk, IsTrue, None, OnOk, Some, length, true};
 ghost use Rattle.drill.specs.Ends.{CountsAt};
-ghost use Rattle.drill.specs.Generated.{GeneratedEnds, IsGenerated, Leads, RoundRuns, Rounds, TakesAll, carried, carried_both, counted, invoice, next_number, size_by, submissions, ticks_a};
-ghost use Rattle.drill.specs.Generating.{Grows, IsPushed, Legs, handed, to_push};
-ghost use Rattle.drill.specs.Transcript.{Stage as StageValue, events_limit, is_right, new_stage};
+ghost use Rattle.drill.specs.Generated.{GeneratedEnds, IsGenerated, Leads, PlaysRound, Rounds, TakesAll, carried, carried_both, counted, invoice, next_number, size_by, submissions, ticks_a};
+ghost use Rattle.drill.specs.Generating.{Grows, IsPushed, PlaysTransmission, handed, to_push};
+ghost use Rattle.drill.specs.Transcript.{DrillState as StateValue, events_limit, is_right, new_state};
 ghost use Rattle.drill_script.specs.LineText.{is_line, line_limit, line_text};
 ghost use Rattle.drill_script.specs.declared.line.EndName.TheVariants as name;
 ghost use Rattle.drill_script.specs.declared.line.Line.TheVariants as line;
@@ -13,21 +13,21 @@ ghost use Rattle.drill_script.specs.declared.line.Way.TheVariants.{Push as Pushe
 use crate::laws::a_drill_delivers_once;
 use crate::refused::Refused;
 use crate::script::DrillEnd;
-use crate::stage::Stage;
+use crate::state::DrillState;
 use as4_flow::{Sink, send_all};
 use as4_values::{NoMemory, Octets};
 use drill_script::{EndName, Line, ScriptLoad, Way};
 use std::alloc::Global;
 
 // The line is played, where the script may still make an event.
-fn play_one(stage: &mut Stage, line: Line) -> Result<(), NoMemory>
+fn play_one(state: &mut DrillState, line: Line) -> Result<(), NoMemory>
     requires spelled { IsTrue (is_line line) }
     requires short { length (line_text line) ≤ line_limit }
-    requires right { is_right line stage.old ≡ true }
-    requires few { stage.old.events < events_limit }
-    ensures { OnOk result (Leads (line ∷ []) stage.old stage.new) }
+    requires right { is_right line state.old ≡ true }
+    requires few { state.old.events < events_limit }
+    ensures { OnOk result (Leads (line ∷ []) state.old state.new) }
 {
-    let played = stage.play(&line);
+    let played = state.play(&line);
     drop(line);
     match played {
         Ok(text) => {
@@ -41,15 +41,15 @@ fn play_one(stage: &mut Stage, line: Line) -> Result<(), NoMemory>
 }
 
 // The package of this place is carried to the end, by the rule of the counter.
-fn carry(stage: &mut Stage, counter: u64, end: EndName, place: u64) -> Result<(), NoMemory>
-    requires { stage.old.events + 2 ≤ events_limit }
-    ensures { OnOk result (Leads (carried counter end place) stage.old stage.new) }
+fn carry(state: &mut DrillState, counter: u64, end: EndName, place: u64) -> Result<(), NoMemory>
+    requires { state.old.events + 2 ≤ events_limit }
+    ensures { OnOk result (Leads (carried counter end place) state.old state.new) }
 {
     if counter % 3 == 2 {
         return Ok(());
     }
     play_one(
-        stage,
+        state,
         Line::Came {
             end,
             package: place,
@@ -57,7 +57,7 @@ fn carry(stage: &mut Stage, counter: u64, end: EndName, place: u64) -> Result<()
     )?;
     if counter % 5 == 4 {
         play_one(
-            stage,
+            state,
             Line::Lost {
                 end,
                 package: place,
@@ -69,16 +69,16 @@ fn carry(stage: &mut Stage, counter: u64, end: EndName, place: u64) -> Result<()
 }
 
 // A package is carried, and what is answered to it.
-fn carry_both(stage: &mut Stage, counter: u64, place: u64, answer: u64) -> Result<(), NoMemory>
+fn carry_both(state: &mut DrillState, counter: u64, place: u64, answer: u64) -> Result<(), NoMemory>
     requires counter { counter < 1000000 }
-    requires few { stage.old.events + 4 ≤ events_limit }
-    ensures { OnOk result (Leads (carried_both counter place answer) stage.old stage.new) }
+    requires few { state.old.events + 4 ≤ events_limit }
+    ensures { OnOk result (Leads (carried_both counter place answer) state.old state.new) }
 {
     if counter % 3 == 2 {
         return Ok(());
     }
-    carry(stage, counter, EndName::B, place)?;
-    carry(stage, counter + 1, EndName::A, answer)
+    carry(state, counter, EndName::B, place)?;
+    carry(state, counter + 1, EndName::A, answer)
 }
 
 // The counter behind a package.
@@ -94,26 +94,26 @@ fn next_counter(counter: u64) -> u64
 }
 
 // End a takes what it has to push. It answers whether a message was pushed.
-fn take_one(stage: &mut Stage) -> Result<bool, NoMemory>
-    requires { stage.old.events < events_limit }
-    ensures { IfOk result (λ pushed. Leads (line.Take name.A ∷ []) stage.old stage.new × IsPushed pushed stage.old.world.left.end) }
+fn take_one(state: &mut DrillState) -> Result<bool, NoMemory>
+    requires { state.old.events < events_limit }
+    ensures { IfOk result (λ pushed. Leads (line.Take name.A ∷ []) state.old state.new × IsPushed pushed state.old.world.left.end) }
 {
-    let before = stage.said(EndName::A);
-    play_one(stage, Line::Take { end: EndName::A })?;
-    Ok(stage.said(EndName::A) != before)
+    let before = state.said(EndName::A);
+    play_one(state, Line::Take { end: EndName::A })?;
+    Ok(state.said(EndName::A) != before)
 }
 
-// A leg of the counter is played, if something is pushed. It answers the counter behind it.
-fn play_leg(stage: &mut Stage, counter: u64) -> Result<Option<u64>, NoMemory>
-    requires counter { counter ≤ 2 * stage.old.events }
-    requires few { stage.old.events + 5 * to_push stage.old.world.left.end < events_limit }
-    ensures { IfOk result (Legs counter stage.old stage.new) }
+// A transmission of the counter is played, if something is pushed. It answers the counter behind it.
+fn play_transmission(state: &mut DrillState, counter: u64) -> Result<Option<u64>, NoMemory>
+    requires counter { counter ≤ 2 * state.old.events }
+    requires few { state.old.events + 5 * to_push state.old.world.left.end < events_limit }
+    ensures { IfOk result (PlaysTransmission counter state.old state.new) }
 {
-    let place = stage.said(EndName::A);
-    let answer = stage.said(EndName::B);
-    let pushed = take_one(stage)?;
+    let place = state.said(EndName::A);
+    let answer = state.said(EndName::B);
+    let pushed = take_one(state)?;
     if pushed {
-        carry_both(stage, counter, place, answer)?;
+        carry_both(state, counter, place, answer)?;
         Ok(Some(next_counter(counter)))
     } else {
         Ok(None)
@@ -121,16 +121,16 @@ fn play_leg(stage: &mut Stage, counter: u64) -> Result<Option<u64>, NoMemory>
 }
 
 // End a takes until nothing is pushed. It answers the counter behind the last.
-fn take_all(stage: &mut Stage, counter: u64) -> Result<u64, NoMemory>
-    requires counter { counter ≤ 2 * stage.old.events }
-    requires few { stage.old.events + 5 * to_push stage.old.world.left.end < events_limit }
-    ensures counter { IfOk result (λ later. later ≤ 2 * stage.new.events) }
-    ensures takes { IfOk result (λ later. (takes : ℕ) × TakesAll takes counter stage.old later stage.new) }
-    ensures grows { OnOk result (Grows (5 * to_push stage.old.world.left.end + 1) 0 stage.old stage.new) }
+fn take_all(state: &mut DrillState, counter: u64) -> Result<u64, NoMemory>
+    requires counter { counter ≤ 2 * state.old.events }
+    requires few { state.old.events + 5 * to_push state.old.world.left.end < events_limit }
+    ensures counter { IfOk result (λ later. later ≤ 2 * state.new.events) }
+    ensures takes { IfOk result (λ later. (takes : ℕ) × TakesAll takes counter state.old later state.new) }
+    ensures grows { OnOk result (Grows (5 * to_push state.old.world.left.end + 1) 0 state.old state.new) }
 {
     let mut now = counter;
     'takes: loop {
-        match play_leg(stage, now)? {
+        match play_transmission(state, now)? {
             Some(later) => now = later,
             None => return Ok(now),
         }
@@ -138,13 +138,13 @@ fn take_all(stage: &mut Stage, counter: u64) -> Result<u64, NoMemory>
 }
 
 // The clock of end a is set.
-fn tick(stage: &mut Stage, moment: u64) -> Result<(), NoMemory>
+fn tick(state: &mut DrillState, moment: u64) -> Result<(), NoMemory>
     requires dated { moment ≤ 33000 }
-    requires few { stage.old.events < events_limit }
-    ensures { OnOk result (Leads (ticks_a moment) stage.old stage.new) }
+    requires few { state.old.events < events_limit }
+    ensures { OnOk result (Leads (ticks_a moment) state.old state.new) }
 {
     play_one(
-        stage,
+        state,
         Line::Tick {
             end: EndName::A,
             moment,
@@ -153,30 +153,30 @@ fn tick(stage: &mut Stage, moment: u64) -> Result<(), NoMemory>
 }
 
 // One round. It answers the counter behind it.
-fn play_round(stage: &mut Stage, round: u64, counter: u64) -> Result<u64, NoMemory>
+fn play_round(state: &mut DrillState, round: u64, counter: u64) -> Result<u64, NoMemory>
     requires rounds { round ≤ 11 }
-    requires counter { counter ≤ 2 * stage.old.events }
-    requires handed { handed stage.old ≤ 1000 }
-    requires few { stage.old.events + 5002 ≤ events_limit }
-    ensures counter { IfOk result (λ later. later ≤ 2 * stage.new.events) }
-    ensures runs { IfOk result (λ later. RoundRuns round counter stage.old later stage.new) }
-    ensures grows { OnOk result (Grows 5002 0 stage.old stage.new) }
+    requires counter { counter ≤ 2 * state.old.events }
+    requires handed { handed state.old ≤ 1000 }
+    requires few { state.old.events + 5002 ≤ events_limit }
+    ensures counter { IfOk result (λ later. later ≤ 2 * state.new.events) }
+    ensures plays { IfOk result (λ later. PlaysRound round counter state.old later state.new) }
+    ensures grows { OnOk result (Grows 5002 0 state.old state.new) }
 {
-    tick(stage, 3000 * round)?;
-    take_all(stage, counter)
+    tick(state, 3000 * round)?;
+    take_all(state, counter)
 }
 
 // All rounds, the first at 0.
-fn play_rounds(stage: &mut Stage) -> Result<(), NoMemory>
-    requires handed { handed stage.old ≤ 1000 }
-    requires few { stage.old.events ≤ 1000 }
-    ensures rounds { OnOk result (Rounds 11 0 0 stage.old stage.new) }
-    ensures few { OnOk result (stage.new.events ≤ 1000 + 11 * 5002) }
+fn play_rounds(state: &mut DrillState) -> Result<(), NoMemory>
+    requires handed { handed state.old ≤ 1000 }
+    requires few { state.old.events ≤ 1000 }
+    ensures rounds { OnOk result (Rounds 11 0 0 state.old state.new) }
+    ensures few { OnOk result (state.new.events ≤ 1000 + 11 * 5002) }
 {
     let mut counter = 0;
     let mut round = 0;
     'rounds: while round < 11 {
-        let later = play_round(stage, round, counter)?;
+        let later = play_round(state, round, counter)?;
         counter = later;
         round += 1;
     }
@@ -211,9 +211,9 @@ fn invoice_name(alloc: Global) -> Result<Octets, NoMemory>
 }
 
 // Both ends get the mode.
-fn name_mode(alloc: Global, stage: &mut Stage) -> Result<(), NoMemory>
-    requires { stage.old ≡ new_stage }
-    ensures { OnOk result (Leads (line.Mode invoice Pushed 10 3000 ∷ []) stage.old stage.new) }
+fn name_mode(alloc: Global, state: &mut DrillState) -> Result<(), NoMemory>
+    requires { state.old ≡ new_state }
+    ensures { OnOk result (Leads (line.Mode invoice Pushed 10 3000 ∷ []) state.old state.new) }
 {
     let name = invoice_name(alloc)?;
     let line = Line::Mode {
@@ -222,18 +222,18 @@ fn name_mode(alloc: Global, stage: &mut Stage) -> Result<(), NoMemory>
         retries: 10,
         period: 3000,
     };
-    play_one(stage, line)
+    play_one(state, line)
 }
 
 // End a submits a message of so many bytes.
-fn submit_one(alloc: Global, stage: &mut Stage, size: u32) -> Result<(), NoMemory>
+fn submit_one(alloc: Global, state: &mut DrillState, size: u32) -> Result<(), NoMemory>
     requires small { size ≤ 40960 }
-    requires few { stage.old.events < events_limit }
-    ensures { OnOk result (Leads (line.Submit name.A invoice (Sized size) ∷ []) stage.old stage.new) }
+    requires few { state.old.events < events_limit }
+    ensures { OnOk result (Leads (line.Submit name.A invoice (Sized size) ∷ []) state.old state.new) }
 {
     let mode = invoice_name(alloc)?;
     play_one(
-        stage,
+        state,
         Line::Submit {
             end: EndName::A,
             mode,
@@ -243,17 +243,17 @@ fn submit_one(alloc: Global, stage: &mut Stage, size: u32) -> Result<(), NoMemor
 }
 
 // End a submits so many messages.
-fn submit_all(alloc: Global, stage: &mut Stage, seed: u64, count: u64) -> Result<(), NoMemory>
-    requires { stage.old.events + count ≤ events_limit }
-    ensures leads { OnOk result (Leads (submissions seed seed count) stage.old stage.new) }
-    ensures grows { OnOk result (Grows count count stage.old stage.new) }
+fn submit_all(alloc: Global, state: &mut DrillState, seed: u64, count: u64) -> Result<(), NoMemory>
+    requires { state.old.events + count ≤ events_limit }
+    ensures leads { OnOk result (Leads (submissions seed seed count) state.old state.new) }
+    ensures grows { OnOk result (Grows count count state.old state.new) }
 {
     let mut number = seed;
     let mut sent = 0;
     'messages: while sent < count {
         let next = number_after(number);
         let size = size_of(seed, next);
-        submit_one(alloc, stage, size)?;
+        submit_one(alloc, state, size)?;
         number = next;
         sent += 1;
     }
@@ -261,34 +261,34 @@ fn submit_all(alloc: Global, stage: &mut Stage, seed: u64, count: u64) -> Result
 }
 
 // The mode is named and all is submitted.
-fn prepare(alloc: Global, stage: &mut Stage, seed: u64, count: u64) -> Result<(), NoMemory>
-    requires new { stage.old ≡ new_stage }
+fn prepare(alloc: Global, state: &mut DrillState, seed: u64, count: u64) -> Result<(), NoMemory>
+    requires new { state.old ≡ new_state }
     requires few { count ≤ 1000 }
-    ensures leads { OnOk result (Leads (line.Mode invoice Pushed 10 3000 ∷ submissions seed seed count) stage.old stage.new) }
-    ensures grows { OnOk result (Grows count count stage.old stage.new) }
+    ensures leads { OnOk result (Leads (line.Mode invoice Pushed 10 3000 ∷ submissions seed seed count) state.old state.new) }
+    ensures grows { OnOk result (Grows count count state.old state.new) }
 {
-    name_mode(alloc, stage)?;
-    submit_all(alloc, stage, seed, count)
+    name_mode(alloc, state)?;
+    submit_all(alloc, state, seed, count)
 }
 
 // All lines of the generated world are played.
-fn run(alloc: Global, stage: &mut Stage, seed: u64, count: u64) -> Result<(), NoMemory>
-    requires new { stage.old ≡ new_stage }
+fn run(alloc: Global, state: &mut DrillState, seed: u64, count: u64) -> Result<(), NoMemory>
+    requires new { state.old ≡ new_state }
     requires few { count ≤ 1000 }
-    ensures { OnOk result (IsGenerated seed count stage.new) }
+    ensures { OnOk result (IsGenerated seed count state.new) }
 {
-    prepare(alloc, stage, seed, count)?;
-    run_on(stage)
+    prepare(alloc, state, seed, count)?;
+    run_on(state)
 }
 
 // All rounds are played, and the last tick.
-fn run_on(stage: &mut Stage) -> Result<(), NoMemory>
-    requires handed { handed stage.old ≤ 1000 }
-    requires few { stage.old.events ≤ 1000 }
-    ensures { OnOk result ((done : StageValue) × Rounds 11 0 0 stage.old done × Leads (ticks_a 33000) done stage.new) }
+fn run_on(state: &mut DrillState) -> Result<(), NoMemory>
+    requires handed { handed state.old ≤ 1000 }
+    requires few { state.old.events ≤ 1000 }
+    ensures { OnOk result ((done : StateValue) × Rounds 11 0 0 state.old done × Leads (ticks_a 33000) done state.new) }
 {
-    play_rounds(stage)?;
-    tick(stage, 33000)
+    play_rounds(state)?;
+    tick(state, 33000)
 }
 
 /// Runs the world of a seed and a count, at most 1,000: end a submits so many messages and pushes each over a network
@@ -307,26 +307,26 @@ pub fn generate<K: Sink>(alloc: Global, seed: u64, count: u64, sink: &mut K) -> 
     }) }
     ensures counted { K.faults sink.old ≤ K.faults sink.new }
 {
-    match Stage::new(alloc) {
-        Ok(mut stage) => {
-            let end = generate_on(alloc, &mut stage, seed, count, sink);
-            drop(stage);
+    match DrillState::new(alloc) {
+        Ok(mut state) => {
+            let end = generate_on(alloc, &mut state, seed, count, sink);
+            drop(state);
             end
         }
         Err(_) => DrillEnd::NoMemory,
     }
 }
 
-// The same, on a new stage.
+// The same, on a new state.
 fn generate_on<K: Sink>(
     alloc: Global,
-    stage: &mut Stage,
+    state: &mut DrillState,
     seed: u64,
     count: u64,
     sink: &mut K,
 ) -> DrillEnd
     requires few { count ≤ 1000 }
-    requires new { stage.old ≡ new_stage }
+    requires new { state.old ≡ new_state }
     ensures ends { GeneratedEnds seed count result (record {
       left = None;
       rest = None;
@@ -339,15 +339,15 @@ fn generate_on<K: Sink>(
     }) }
     ensures counted { K.faults sink.old ≤ K.faults sink.new }
 {
-    match run(alloc, stage, seed, count) {
-        Ok(()) => write_ends(stage, sink),
+    match run(alloc, state, seed, count) {
+        Ok(()) => write_ends(state, sink),
         Err(_) => DrillEnd::NoMemory,
     }
 }
 
 // Writes the numbers of both ends.
-fn write_ends<K: Sink>(stage: &Stage, sink: &mut K) -> DrillEnd
-    ensures ends { (seed count : ℕ) → IsGenerated seed count stage.now → GeneratedEnds seed count result (record {
+fn write_ends<K: Sink>(state: &DrillState, sink: &mut K) -> DrillEnd
+    ensures ends { (seed count : ℕ) → IsGenerated seed count state.now → GeneratedEnds seed count result (record {
       left = None;
       rest = None;
       taken = K.taken sink.old;
@@ -360,7 +360,7 @@ fn write_ends<K: Sink>(stage: &Stage, sink: &mut K) -> DrillEnd
     ensures counted { K.faults sink.old ≤ K.faults sink.new }
 {
     a_drill_delivers_once();
-    match stage.end_lines() {
+    match state.end_lines() {
         Ok(text) => match send_all(sink, text.bytes()) {
             Ok(()) => DrillEnd::Read,
             Err(_) => DrillEnd::WriteFault,

@@ -1,6 +1,6 @@
 //! What holds of every drill, over the definitions alone.
 ghost use Rattle.std.specs.Prelude.{◌≡◌, ℕ, List};
-ghost use Rattle.drill.specs.Transcript.{PlaysAll, Stage, new_stage};
+ghost use Rattle.drill.specs.Transcript.{PlaysAll, DrillState, new_state};
 ghost use Rattle.drill_script.specs.declared.line.Line.{Line};
 ghost use Rattle.exchange_model.specs.DeliveredOnce.{HasDeliveredOnce};
 
@@ -9,14 +9,14 @@ use exchange_laws::messages_are_delivered_once;
 /// Whatever a script says, each message is delivered once: what its lines do is what two ends do in a world that
 /// loses, repeats and reorders what they send.
 pub fn a_drill_delivers_once()
-    ensures { (lines : List Line) (text : List ℕ) (stage : Stage) → PlaysAll lines new_stage text stage
-        → HasDeliveredOnce stage.world }
+    ensures { (lines : List Line) (text : List ℕ) (state : DrillState) → PlaysAll lines new_state text state
+        → HasDeliveredOnce state.world }
 {
     messages_are_delivered_once();
 }
 
 /// A script has one transcript: whatever plays its lines from the start writes the same and leads to the same.
 pub fn a_script_has_one_transcript()
-    ensures { (lines : List Line) (text words : List ℕ) (a b : Stage) → PlaysAll lines new_stage text a
-        → PlaysAll lines new_stage words b → (text ≡ words) × (a ≡ b) }
+    ensures { (lines : List Line) (text words : List ℕ) (a b : DrillState) → PlaysAll lines new_state text a
+        → PlaysAll lines new_state words b → (text ≡ words) × (a ≡ b) }
 {}

@@ -1,15 +1,15 @@
 //! A script of two ends is run, and what happens is written down.
 #![tactic(auto)]
 
+mod endpoint;
 mod generated;
 mod laws;
 mod naming;
 mod next;
-mod player;
 mod playing;
 mod refused;
 mod script;
-mod stage;
+mod state;
 
 pub use generated::generate;
 pub use laws::{a_drill_delivers_once, a_script_has_one_transcript};

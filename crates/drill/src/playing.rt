@@ -3,7 +3,7 @@ ghost use Rattle.std.specs.Prelude.{◌≡◌, ◌≢◌, ◌<◌, ◌≤◌, �
 ghost use Rattle.std.specs.Option.{unwrap_or};
 ghost use Rattle.as4_values.specs.declared.mode.Mode.{Mode as ModeValue};
 ghost use Rattle.drill.specs.Events.{Does, asked, comes, id_at, package_for, side_of, tells};
-ghost use Rattle.drill.specs.Stages.{IsAtEnd, Performs};
+ghost use Rattle.drill.specs.States.{IsAtEnd, Performs};
 ghost use Rattle.drill.specs.Transcript.{Makes, Plays, doing_of, events_limit, is_placed, is_right, is_too_many};
 ghost use Rattle.drill_script.specs.LineText.{is_line, is_load, is_name, line_limit, line_text};
 ghost use Rattle.drill_texts.specs.Loads.{loads_of};
@@ -15,7 +15,7 @@ ghost use Rattle.exchange_model.specs.declared.what.What.TheVariants as what;
 
 use crate::naming::{add_mode, is_named, name_text};
 use crate::refused::Refused;
-use crate::stage::Stage;
+use crate::state::DrillState;
 use as4_values::{MAX_MOMENT, NoMemory, Octets, PlainData, Text};
 use drill_script::{EndName, Line, ScriptLoad, Way};
 use drill_texts::{loads_of, no_package_line, unknown_line};
@@ -32,7 +32,7 @@ pub const MAX_EVENTS: u64 = 100_000;
 
 const _: () = prove!(MAX_EVENTS == 100000);
 
-impl Stage {
+impl DrillState {
     /// Plays a line, and gives what it writes.
     pub fn play(&mut self, line: &Line) -> Result<Octets, Refused>
         requires spelled { IsTrue (is_line line.now) }
@@ -86,7 +86,7 @@ impl Stage {
     }
 
     /// What a line does that names no mode.
-    #[tactic(auto, using(crate::proofs::StageLemmas::performs_from))]
+    #[tactic(auto, using(crate::proofs::StateLemmas::performs_from))]
     fn play_at_end(&mut self, line: &Line) -> Result<Octets, Refused>
         requires spelled { IsTrue (is_line line.now) }
         requires other { IsAtEnd line.now }
@@ -110,6 +110,7 @@ impl Stage {
             Line::Tick { end, moment } => self.make(*end, Some(*moment), What::Tick, false, 0),
             Line::Take { end } => self.make(*end, None, What::Take, false, 0),
             Line::Ask { end, mode } => self.ask(*end, mode),
+            Line::Pair { end, mode, number } => self.ask_with(*end, mode, *number),
             Line::Came { end, package } => self.receive(*end, *package, false),
             Line::Lost { end, package } => self.receive(*end, *package, true),
             Line::Read { end, number } => {
@@ -149,6 +150,20 @@ impl Stage {
         }
         let mode = name_text(self.alloc, mode)?;
         self.make(end, None, What::Ask { mode }, false, 0)
+    }
+
+    /// A pull request is asked for, with the receipt of the message of this number in the inbox.
+    #[tactic(auto, unfolding(exchange_model::specs::Coming::may_come))]
+    fn ask_with(&mut self, end: EndName, mode: &Octets, number: u64) -> Result<Octets, Refused>
+        requires named { IsTrue (is_name mode.now) }
+        requires begun { self.old.begun ≡ true }
+        ensures { Performs (Does (asked end number (what.AskWith mode.now number))) self.old result self.new }
+    {
+        if self.is_full() {
+            return Err(Refused::TooMany);
+        }
+        let mode = name_text(self.alloc, mode)?;
+        self.make(end, None, What::AskWith { mode, n: number }, false, number)
     }
 
     /// The package of this number that the other end sent comes; the reply may be lost.

@@ -10,7 +10,7 @@ ghost use Rattle.drill_script.specs.LineText.{is_line, line_limit, line_text};
 use crate::laws::a_drill_delivers_once;
 use crate::next::{Next, next_line};
 use crate::refused::Refused;
-use crate::stage::Stage;
+use crate::state::DrillState;
 use as4_flow::{Sink, Source, send_all};
 use drill_script::{Line, LineReader};
 use std::alloc::Global;
@@ -54,13 +54,13 @@ pub fn drill<S: Source, K: Sink>(alloc: Global, source: &mut S, sink: &mut K) ->
 {
     a_drill_delivers_once();
     let mut reader = LineReader::new(alloc);
-    let mut stage = match Stage::new(alloc) {
-        Ok(stage) => stage,
+    let mut state = match DrillState::new(alloc) {
+        Ok(state) => state,
         Err(_) => return DrillEnd::NoMemory,
     };
     let mut played = 0;
     'lines: loop {
-        if let Some(end) = play_next(alloc, &mut reader, source, &mut stage, sink, played) {
+        if let Some(end) = play_next(alloc, &mut reader, source, &mut state, sink, played) {
             return end;
         }
         played += 1;
@@ -73,22 +73,22 @@ fn play_next<S: Source, K: Sink>(
     alloc: Global,
     reader: &mut LineReader,
     source: &mut S,
-    stage: &mut Stage,
+    state: &mut DrillState,
     sink: &mut K,
     played: u64,
 ) -> Option<DrillEnd>
     requires { played ≤ lines_limit }
-    ensures goes { (start : Flow)
-        → SoFar stage.old reader.old played start (flow (S.left source.old) (K.taken sink.old) (S.faults source.old) (K.faults sink.old))
+    ensures so_far { (start : Flow)
+        → SoFar state.old reader.old played start (flow (S.left source.old) (K.taken sink.old) (S.faults source.old) (K.faults sink.old))
         → let now : Flow = flow (S.left source.new) (K.taken sink.new) (S.faults source.new) (K.faults sink.new) in
-        MatchOption result (SoFar stage.new reader.new (played + 1) start now) (λ end. Ends end (between start now)) }
+        MatchOption result (SoFar state.new reader.new (played + 1) start now) (λ end. Ends end (between start now)) }
     ensures more { IsNone result → played < lines_limit }
     ensures counted { (S.faults source.old ≤ S.faults source.new) × (K.faults sink.old ≤ K.faults sink.new) }
 {
     a_drill_delivers_once();
     match next_line(alloc, reader, source) {
-        Next::Line(line) => play_line(stage, &line, sink, played),
-        Next::End => Some(finish(stage, sink)),
+        Next::Line(line) => play_line(state, &line, sink, played),
+        Next::End => Some(finish(state, sink)),
         Next::Outside => Some(DrillEnd::Line { number: played + 1 }),
         Next::Failed => Some(DrillEnd::ReadFault),
         Next::NoMemory => Some(DrillEnd::NoMemory),
@@ -96,28 +96,33 @@ fn play_next<S: Source, K: Sink>(
 }
 
 // Plays a line and writes its text, where so many were played before. It answers how the drill ends, if it does here.
-fn play_line<K: Sink>(stage: &mut Stage, line: &Line, sink: &mut K, played: u64) -> Option<DrillEnd>
+fn play_line<K: Sink>(
+    state: &mut DrillState,
+    line: &Line,
+    sink: &mut K,
+    played: u64,
+) -> Option<DrillEnd>
     requires spelled { IsTrue (is_line line.now) }
     requires short { length (line_text line.now) ≤ line_limit }
     requires few { played ≤ lines_limit }
-    ensures goes { (start : Flow) (held : List ℕ) (left : Option (List ℕ)) (reads : ℕ)
-        → SoFar stage.old (parted 10 (line_text line.now) held) played start (flow left (K.taken sink.old) reads (K.faults sink.old))
+    ensures so_far { (start : Flow) (held : List ℕ) (left : Option (List ℕ)) (reads : ℕ)
+        → SoFar state.old (parted 10 (line_text line.now) held) played start (flow left (K.taken sink.old) reads (K.faults sink.old))
         → let now : Flow = flow left (K.taken sink.new) reads (K.faults sink.new) in
-        MatchOption result (SoFar stage.new held (played + 1) start now) (λ end. Ends end (between start now)) }
+        MatchOption result (SoFar state.new held (played + 1) start now) (λ end. Ends end (between start now)) }
     ensures more { IsNone result → played < lines_limit }
     ensures counted { K.faults sink.old ≤ K.faults sink.new }
 
     // A line that isn't in its place, or one event too many, is told as such, whether or not memory would suffice.
-    ensures wrong { (played ≡ lines_limit) ⊎ (is_right line.now stage.old ≡ false)
+    ensures wrong { (played ≡ lines_limit) ⊎ (is_right line.now state.old ≡ false)
         → result ≡ Some (DrillEnd.Line (played + 1)) }
-    ensures full { played < lines_limit → is_right line.now stage.old ≡ true → is_too_many line.now stage.old ≡ true
+    ensures full { played < lines_limit → is_right line.now state.old ≡ true → is_too_many line.now state.old ≡ true
         → result ≡ Some DrillEnd.TooMany }
 {
     a_drill_delivers_once();
     if played == MAX_LINES {
         return Some(DrillEnd::Line { number: played + 1 });
     }
-    match stage.play(line) {
+    match state.play(line) {
         Ok(text) => match send_all(sink, text.bytes()) {
             Ok(()) => None,
             Err(_) => Some(DrillEnd::WriteFault),
@@ -129,15 +134,15 @@ fn play_line<K: Sink>(stage: &mut Stage, line: &Line, sink: &mut K, played: u64)
 }
 
 // Writes the numbers of both ends, where nothing is left to read.
-fn finish<K: Sink>(stage: &Stage, sink: &mut K) -> DrillEnd
+fn finish<K: Sink>(state: &DrillState, sink: &mut K) -> DrillEnd
     ensures ends { (start : Flow) (held : List ℕ) (count : ℕ) (left : Option (List ℕ)) (reads : ℕ)
-        → SoFar stage.now held count start (flow left (K.taken sink.old) reads (K.faults sink.old))
+        → SoFar state.now held count start (flow left (K.taken sink.old) reads (K.faults sink.old))
         → Told (before held left) (λ bytes. bytes ≡ [])
         → Ends result (between start (flow left (K.taken sink.new) reads (K.faults sink.new))) }
     ensures counted { K.faults sink.old ≤ K.faults sink.new }
 {
     a_drill_delivers_once();
-    match stage.end_lines() {
+    match state.end_lines() {
         Ok(text) => match send_all(sink, text.bytes()) {
             Ok(()) => DrillEnd::Read,
             Err(_) => DrillEnd::WriteFault,

@@ -8,7 +8,7 @@ use Rattle.drill_script.specs.declared.line.Line.{Line}
 use Rattle.drill_script.specs.declared.line.Line.TheVariants as line
 use Rattle.drill_script.specs.declared.verb.Counted.TheVariants.{Tick, Came, Lost, Read, Confirm, Status}
 use Rattle.drill_script.specs.declared.verb.Verb.{Verb}
-use Rattle.drill_script.specs.declared.verb.Verb.TheVariants.{Mode, Submit, Take, Ask, Count}
+use Rattle.drill_script.specs.declared.verb.Verb.TheVariants.{Mode, Submit, Take, Ask, Pair, Count}
 use Rattle.drill_script.proofs.LackingLemmas.{Lacks_tested}
 
 -- a first word behind which bytes are kept is one of those
@@ -16,6 +16,7 @@ pub kept_word : (verb : Verb) → IsKept verb → Contains kept_words (verb_text
 kept_word Mode kept = (0, omega arith, refl)
 kept_word Submit kept = (1, omega arith, refl)
 kept_word Ask kept = (2, omega arith, refl)
+kept_word Pair kept = (3, omega arith, refl)
 kept_word Take kept = absurd kept
 kept_word (Count counted) kept = absurd kept
 
@@ -24,6 +25,7 @@ verb_unspaced Mode = Lacks_tested 32 _ refl
 verb_unspaced Submit = Lacks_tested 32 _ refl
 verb_unspaced Take = Lacks_tested 32 _ refl
 verb_unspaced Ask = Lacks_tested 32 _ refl
+verb_unspaced Pair = Lacks_tested 32 _ refl
 verb_unspaced (Count Tick) = Lacks_tested 32 _ refl
 verb_unspaced (Count Came) = Lacks_tested 32 _ refl
 verb_unspaced (Count Lost) = Lacks_tested 32 _ refl
@@ -39,6 +41,7 @@ line_parts (line.Submit end mode load) = refl
 line_parts (line.Tick end moment) = refl
 line_parts (line.Take end) = refl
 line_parts (line.Ask end mode) = refl
+line_parts (line.Pair end mode number) = refl
 line_parts (line.Came end number) = refl
 line_parts (line.Lost end number) = refl
 line_parts (line.Read end number) = refl
@@ -65,7 +68,7 @@ verb_from word =
     else (if first == 116 then (if second == 97 then Take else Count Tick)
     else (if first == 97 then Ask
     else (if first == 99 then (if second == 97 then Count Came else Count Confirm)
-    else (if first == 108 then Count Lost else Count Read)))))
+    else (if first == 108 then Count Lost else (if first == 112 then Pair else Count Read))))))
 
 verb_from_text : (verb : Verb) → verb_from (verb_text verb) ≡ verb
 unfolding verb_from
@@ -73,6 +76,7 @@ verb_from_text Mode = refl
 verb_from_text Submit = refl
 verb_from_text Take = refl
 verb_from_text Ask = refl
+verb_from_text Pair = refl
 verb_from_text (Count Tick) = refl
 verb_from_text (Count Came) = refl
 verb_from_text (Count Lost) = refl

@@ -15,12 +15,12 @@ use Rattle.drill_script.specs.declared.line.ScriptLoad.TheVariants.{Nothing, Hex
 use Rattle.drill_script.specs.declared.line.Way.{Way}
 use Rattle.drill_script.specs.declared.line.Way.TheVariants.{Push, Pull}
 use Rattle.drill_script.specs.declared.verb.Verb.{Verb}
-use Rattle.drill_script.specs.declared.verb.Verb.TheVariants.{Mode, Submit, Take, Ask, Count}
+use Rattle.drill_script.specs.declared.verb.Verb.TheVariants.{Mode, Submit, Take, Ask, Pair, Count}
 use Rattle.drill_script.proofs.HexLemmas.{hex_done}
 use Rattle.drill_script.proofs.LackingLemmas.{one_cut}
 use Rattle.drill_script.proofs.LineLemmas.{line_parts, verb_unspaced, one_verb}
 use Rattle.drill_script.proofs.LoadLemmas.{none_only, none_text, hex_load_text, size_load_text}
-use Rattle.drill_script.proofs.SpellLemmas.{take_spelled, ask_spelled, submit_spelled, mode_spelled, counted_spelled}
+use Rattle.drill_script.proofs.SpellLemmas.{take_spelled, ask_spelled, pair_spelled, submit_spelled, mode_spelled, counted_spelled}
 use Rattle.drill_script.proofs.WordLemmas.{end_unspaced, way_unspaced, decimal_unspaced, name_unspaced}
 
 one_end : (end other : EndName) → end_text end ≡ end_text other → end ≡ other
@@ -77,6 +77,13 @@ one_spelled Ask tail one other first second =
     let b = ask_spelled tail other second in
     let parts = one_spaced_end a.0 b.0 a.1 b.1 (sym a.2.tail_is ∙ b.2.tail_is) in
     cc (a.2.line_is, b.2.line_is, parts.0, parts.1)
+one_spelled Pair tail one other first second =
+    let a = pair_spelled tail one first in
+    let b = pair_spelled tail other second in
+    let parts = one_spaced_end a.0 b.0 (spaced a.1 (decimal a.2)) (spaced b.1 (decimal b.2)) (sym a.3.tail_is ∙ b.3.tail_is) in
+    let modes = one_cut 32 a.1 (decimal a.2) b.1 (decimal b.2) parts.1 (name_unspaced a.1 a.3.named) (name_unspaced b.1 b.3.named) in
+    let numbers : a.2 ≡ b.2 = decimal_injective a.2 b.2 a.3.small b.3.small modes.1 in
+    cc (a.3.line_is, b.3.line_is, parts.0, modes.0, numbers)
 one_spelled Submit tail one other first second =
     let a = submit_spelled tail one first in
     let b = submit_spelled tail other second in

@@ -1,7 +1,7 @@
 -- Lemmas on lines by their verb and tail.
-use Rattle.std.proofs.Common.{◌≡◌, ℕ, ◌^◌, ◌<◌, ◌≤◌, true, ◌&&◌, nat_le, List, IsTrue, Option, Some, refl, ◌∙◌, ap, subst, arith}
+use Rattle.std.proofs.Common.{◌≡◌, ℕ, ◌^◌, ◌<◌, ◌≤◌, true, ◌&&◌, nat_le, nat_lt, List, IsTrue, Option, Some, refl, ◌∙◌, ap, subst, arith}
 use Rattle.std.specs.Fmt.{decimal}
-use Rattle.std.proofs.lemmas.Bool.{and_parts, and_from, le-leb, leb-true, ltb-true}
+use Rattle.std.proofs.lemmas.Bool.{and_parts, and_from, le-leb, leb-true, lt-ltb, ltb-true}
 use Rattle.drill_script.specs.Lacking.{spaced}
 use Rattle.drill_script.specs.LineText.{is_line, is_name, is_load, end_text, load_text}
 use Rattle.drill_script.specs.LineParts.{Spells, verb_of, settings_text, counted_line, is_counted}
@@ -12,7 +12,7 @@ use Rattle.drill_script.specs.declared.line.ScriptLoad.{ScriptLoad}
 use Rattle.drill_script.specs.declared.line.Way.{Way}
 use Rattle.drill_script.specs.declared.verb.Counted.{Counted}
 use Rattle.drill_script.specs.declared.verb.Counted.TheVariants.{Tick, Came, Lost, Read, Confirm, Status}
-use Rattle.drill_script.specs.declared.verb.Verb.TheVariants.{Mode, Submit, Take, Ask, Count}
+use Rattle.drill_script.specs.declared.verb.Verb.TheVariants.{Mode, Submit, Take, Ask, Pair, Count}
 
 pub take_spells : (tail : List ℕ) (end : EndName) → tail ≡ end_text end → Spells Take tail (line.Take end)
 unfolding is_line
@@ -21,6 +21,14 @@ take_spells tail end is = record { verb_is = refl; tail_is = is; in_range = refl
 pub ask_spells : (tail : List ℕ) (end : EndName) (mode : List ℕ) → tail ≡ spaced (end_text end) mode → IsTrue (is_name mode) → Spells Ask tail (line.Ask end mode)
 unfolding is_line
 ask_spells tail end mode is named = record { verb_is = refl; tail_is = is; in_range = named }
+
+pub pair_spells : (tail : List ℕ) (end : EndName) (mode : List ℕ) (number : ℕ) → tail ≡ spaced (end_text end) (spaced mode (decimal number)) → IsTrue (is_name mode) → number < 2 ^ 64 → Spells Pair tail (line.Pair end mode number)
+unfolding is_line
+pair_spells tail end mode number is named small = record {
+  verb_is = refl;
+  tail_is = is;
+  in_range = and_from (is_name mode) (nat_lt number (2 ^ 64)) named (lt-ltb number (2 ^ 64) small);
+}
 
 pub submit_spells : (tail : List ℕ) (end : EndName) (mode : List ℕ) (load : ScriptLoad) → tail ≡ spaced (end_text end) (spaced mode (load_text load)) → IsTrue (is_name mode) → IsTrue (is_load load) → Spells Submit tail (line.Submit end mode load)
 unfolding is_line
@@ -66,6 +74,24 @@ unfolding is_line
 ask_spelled tail (line.Ask end mode) spells =
     (end, mode, record { line_is = refl; tail_is = spells.tail_is; named = spells.in_range })
 ask_spelled tail other spells = let verb : verb_of other ≡ Ask = spells.verb_is in cc
+
+-- an asking line with a receipt
+pub record PairIs (tail : List ℕ) (said : Line) (end : EndName) (mode : List ℕ) (number : ℕ) : Type 0 where
+  pub line_is : said ≡ line.Pair end mode number
+  pub tail_is : tail ≡ spaced (end_text end) (spaced mode (decimal number))
+  pub named : IsTrue (is_name mode)
+  pub small : number < 2 ^ 64
+
+pub pair_spelled : (tail : List ℕ) (said : Line) → Spells Pair tail said → (end : EndName) × (mode : List ℕ) × (number : ℕ) × PairIs tail said end mode number
+unfolding is_line
+pair_spelled tail (line.Pair end mode number) spells =
+    let parts = and_parts (is_name mode) (nat_lt number (2 ^ 64)) spells.in_range in (
+      end,
+      mode,
+      number,
+      record { line_is = refl; tail_is = spells.tail_is; named = parts.0; small = ltb-true number (2 ^ 64) parts.1 },
+    )
+pair_spelled tail other spells = let verb : verb_of other ≡ Pair = spells.verb_is in cc
 
 -- a submission
 pub record SubmitIs (tail : List ℕ) (said : Line) (end : EndName) (mode : List ℕ) (load : ScriptLoad) : Type 0 where
@@ -164,3 +190,6 @@ mode_again said name found way found_way retries period found_retries found_peri
 
 pub submit_again : (said : Line) (end found_end : EndName) (mode found : List ℕ) (load found_load : ScriptLoad) → said ≡ line.Submit end mode load → found_end ≡ end → found ≡ mode → Some found_load ≡ Some load → Some (line.Submit found_end found found_load) ≡ Some said
 submit_again said end found_end mode found load found_load is ends modes loads = cc
+
+pub pair_again : (said : Line) (end found_end : EndName) (mode found : List ℕ) (number found_number : ℕ) → said ≡ line.Pair end mode number → found_end ≡ end → found ≡ mode → found_number ≡ number → Some (line.Pair found_end found found_number) ≡ Some said
+pair_again said end found_end mode found number found_number is ends modes numbers = cc

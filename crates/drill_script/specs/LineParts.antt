@@ -14,7 +14,7 @@ use Rattle.drill_script.specs.declared.line.Way.{Way}
 use Rattle.drill_script.specs.declared.verb.Counted.{Counted}
 use Rattle.drill_script.specs.declared.verb.Counted.TheVariants.{Tick, Came, Lost, Read, Confirm, Status}
 use Rattle.drill_script.specs.declared.verb.Verb.{Verb}
-use Rattle.drill_script.specs.declared.verb.Verb.TheVariants.{Mode, Submit, Take, Ask, Count}
+use Rattle.drill_script.specs.declared.verb.Verb.TheVariants.{Mode, Submit, Take, Ask, Pair, Count}
 
 -- the first word of a line of an end and a number
 abbrev pub counted_text : Counted → List ℕ
@@ -31,11 +31,12 @@ verb_text Mode = codes "mode"
 verb_text Submit = codes "submit"
 verb_text Take = codes "take"
 verb_text Ask = codes "ask"
+verb_text Pair = codes "pair"
 verb_text (Count counted) = counted_text counted
 
 -- the first words of lines that have bytes to be kept
 abbrev pub kept_words : List (List ℕ)
-kept_words = codes "mode" ∷ codes "submit" ∷ codes "ask" ∷ []
+kept_words = codes "mode" ∷ codes "submit" ∷ codes "ask" ∷ codes "pair" ∷ []
 
 -- bytes that begin with such a word and a space
 abbrev pub BeginsKept : List ℕ → Type 0
@@ -47,6 +48,7 @@ IsKept Mode = Unit {0}
 IsKept Submit = Unit {0}
 IsKept Take = ⊥
 IsKept Ask = Unit {0}
+IsKept Pair = Unit {0}
 IsKept (Count counted) = ⊥
 
 -- the line of an end and a number
@@ -75,6 +77,7 @@ verb_of (line.Submit end mode load) = Submit
 verb_of (line.Tick end moment) = Count Tick
 verb_of (line.Take end) = Take
 verb_of (line.Ask end mode) = Ask
+verb_of (line.Pair end mode number) = Pair
 verb_of (line.Came end number) = Count Came
 verb_of (line.Lost end number) = Count Lost
 verb_of (line.Read end number) = Count Read

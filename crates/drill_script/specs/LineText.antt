@@ -5,6 +5,7 @@
 --     tick END MOMENT
 --     take END
 --     ask END MODE
+--     pair END MODE NUMBER
 --     came END PACKAGE
 --     lost END PACKAGE
 --     read END NUMBER
@@ -53,6 +54,7 @@ line_words (line.Submit end mode load) = codes "submit" ∷ end_text end ∷ mod
 line_words (line.Tick end moment) = codes "tick" ∷ end_text end ∷ decimal moment ∷ []
 line_words (line.Take end) = codes "take" ∷ end_text end ∷ []
 line_words (line.Ask end mode) = codes "ask" ∷ end_text end ∷ mode ∷ []
+line_words (line.Pair end mode number) = codes "pair" ∷ end_text end ∷ mode ∷ decimal number ∷ []
 line_words (line.Came end number) = codes "came" ∷ end_text end ∷ decimal number ∷ []
 line_words (line.Lost end number) = codes "lost" ∷ end_text end ∷ decimal number ∷ []
 line_words (line.Read end number) = codes "read" ∷ end_text end ∷ decimal number ∷ []
@@ -88,6 +90,7 @@ is_line (line.Submit end mode load) = is_name mode && is_load load
 is_line (line.Tick end moment) = nat_le moment 253402300799999
 is_line (line.Take end) = true
 is_line (line.Ask end mode) = is_name mode
+is_line (line.Pair end mode number) = is_name mode && nat_lt number (2 ^ 64)
 is_line (line.Came end number) = nat_lt number (2 ^ 64)
 is_line (line.Lost end number) = nat_lt number (2 ^ 64)
 is_line (line.Read end number) = nat_lt number (2 ^ 64)

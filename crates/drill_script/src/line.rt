@@ -54,6 +54,12 @@ pub enum Line {
         end: EndName,
         mode: Octets,
     },
+    /// A pull request is sent with the receipt of a message in the inbox.
+    Pair {
+        end: EndName,
+        mode: Octets,
+        number: u64,
+    },
     /// The package of this number that the other end sent comes.
     Came {
         end: EndName,

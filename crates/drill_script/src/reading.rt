@@ -60,6 +60,7 @@ fn tail_of(alloc: Global, verb: Verb, tail: &[u8]) -> Result<Option<Line>, NoMem
         Verb::Submit => submit_of(alloc, tail),
         Verb::Take => Ok(take_of(tail)),
         Verb::Ask => ask_of(alloc, tail),
+        Verb::Pair => pair_of(alloc, tail),
         Verb::Count(counted) => Ok(counted_of(counted, tail)),
     }
 }
@@ -140,6 +141,24 @@ fn ask_of(alloc: Global, tail: &[u8]) -> Result<Option<Line>, NoMemory>
     }
     let mode = octets_of(alloc, word)?;
     Ok(Some(Line::Ask { end, mode }))
+}
+
+// Reads the end that asks, its mode, and the number of the message that is receipted.
+fn pair_of(alloc: Global, tail: &[u8]) -> Result<Option<Line>, NoMemory>
+    ensures found { IfOk result (λ read. IfSome read (Spells verb.Pair tail.now)) }
+    ensures only { (line : Line) → Spells verb.Pair tail.now line → IfOk result (λ read. read ≡ Some line) }
+{
+    let Some((end, words)) = end_and(tail) else {
+        return Ok(None);
+    };
+    let Some((mode, word)) = name_and(words) else {
+        return Ok(None);
+    };
+    let Some(number) = number_of(word) else {
+        return Ok(None);
+    };
+    let mode = octets_of(alloc, mode)?;
+    Ok(Some(Line::Pair { end, mode, number }))
 }
 
 // Reads an end and a number.

@@ -19,6 +19,7 @@ pub(crate) enum Verb {
     Submit,
     Take,
     Ask,
+    Pair,
     Count(Counted),
 }
 
@@ -40,6 +41,9 @@ pub(crate) fn read_verb(word: &[u8]) -> Option<Verb>
     }
     if word == b"ask".as_slice() {
         return Some(Verb::Ask);
+    }
+    if word == b"pair".as_slice() {
+        return Some(Verb::Pair);
     }
     let counted = read_counted(word)?;
     Some(Verb::Count(counted))

@@ -202,6 +202,86 @@ fn each_end_answers_by_the_rules(rt: HostRuntime) {
     assert!(rt; plays(rt.alloc(), ANSWERS, DrillEnd::Read, ANSWERS_TEXT));
 }
 
+const PAIRS: &[u8] = b"mode m pull 3 1000
+submit a m hex=31
+submit a m hex=32
+ask b m
+came a 0
+came b 0
+pair b m 0
+came a 2
+came a 2
+status a 0
+";
+
+const PAIRS_TEXT: &[u8] = b"a submitted 0 0.00000000-0000-0000-0000-000000000000@as4
+a submitted 1 1.00000000-0000-0000-0000-000000000001@as4
+b sent 0 pull drill-m
+a sent 0 user 0.00000000-0000-0000-0000-000000000000@as4
+b sent 1 receipt 0.00000000-0000-0000-0000-000000000000@as4
+b sent 2 pair 0.00000000-0000-0000-0000-000000000000@as4 drill-m
+a sent 1 user 1.00000000-0000-0000-0000-000000000001@as4
+a sent 2 error EBMS:0006
+a status 0 receipted
+a end 2 1 0 0 0
+b end 0 0 0 0 1
+";
+
+/// A receipt comes with the pull request for the next message; it comes again, and the channel is empty.
+#[test]
+fn a_receipt_is_bundled_with_the_next_pull(rt: HostRuntime) {
+    assert!(rt; plays(rt.alloc(), PAIRS, DrillEnd::Read, PAIRS_TEXT));
+}
+
+/// Where nothing came, there is no receipt to bundle.
+#[test]
+fn a_pair_of_no_entry_is_told(rt: HostRuntime) {
+    let script = b"mode m pull 3 1000\npair b m 0\n";
+    let wanted = b"b no-entry\na end 0 0 0 0 0\nb end 0 0 0 0 0\n";
+    assert!(rt; plays(rt.alloc(), script, DrillEnd::Read, wanted));
+}
+
+const PAIR_ANSWERS: &[u8] = b"mode m push 1 1000
+mode p pull 1 1000
+pair b none 0
+pair b m 0
+pair b p 0
+submit a m hex=01
+take a
+came b 0
+pair b p 0
+lost a 1
+status a 0
+confirm b 0
+pair b p 0
+pair b p 1
+pair b m 0
+";
+
+const PAIR_ANSWERS_TEXT: &[u8] = b"b no-mode
+b no-mode
+b no-entry
+a submitted 0 0.00000000-0000-0000-0000-000000000003@as4
+a sent 0 user 0.00000000-0000-0000-0000-000000000003@as4
+b sent 0 receipt 0.00000000-0000-0000-0000-000000000003@as4
+b sent 1 pair 0.00000000-0000-0000-0000-000000000003@as4 drill-p
+a lost error EBMS:0006
+a status 0 receipted
+b confirmed 0
+b gone
+b no-entry
+b no-mode
+a end 1 1 0 0 0
+b end 0 0 0 0 1
+";
+
+/// A mode that isn't there or only pushes, numbers before and past what the inbox holds, and the receipt of a message
+/// that was pushed with a pull request of another channel.
+#[test]
+fn a_pair_is_answered_by_the_rules(rt: HostRuntime) {
+    assert!(rt; plays(rt.alloc(), PAIR_ANSWERS, DrillEnd::Read, PAIR_ANSWERS_TEXT));
+}
+
 const LONG_LOAD_TEXT: &[u8] = b"a submitted 0 0.00000000-0000-0000-0000-000000000000@as4
 a sent 0 user 0.00000000-0000-0000-0000-000000000000@as4
 b sent 0 receipt 0.00000000-0000-0000-0000-000000000000@as4
@@ -231,7 +311,7 @@ fn a_line_has_at_most_1048576_bytes(rt: HostRuntime) {
 const WRONG: DrillEnd = DrillEnd::Line { number: 2 };
 
 /// A line, how a drill ends with it, and what it writes.
-const LIMITS: [(&[u8], DrillEnd, &[u8]); 16] = [
+const LIMITS: [(&[u8], DrillEnd, &[u8]); 17] = [
     (
         b"came a 18446744073709551615\n",
         DrillEnd::Read,
@@ -250,13 +330,14 @@ const LIMITS: [(&[u8], DrillEnd, &[u8]); 16] = [
         b"b no-entry\n",
     ),
     (b"confirm b 99999999999999999999\n", WRONG, b""),
+    (
+        b"pair b m 18446744073709551615\n",
+        DrillEnd::Read,
+        b"b no-mode\n",
+    ),
+    (b"pair b m 18446744073709551616\n", WRONG, b""),
     (b"tick a 253402300799999\n", DrillEnd::Read, b"a ticked 0\n"),
     (b"tick a 253402300800000\n", WRONG, b""),
-    (
-        b"submit a m size=16777216\n",
-        DrillEnd::Read,
-        b"a too-large\n",
-    ),
     (b"submit a m size=16777217\n", WRONG, b""),
     (b"mode n pull 1000 1000000000\n", DrillEnd::Read, b""),
     (b"mode n pull 1001 1000000000\n", WRONG, b""),
@@ -295,6 +376,15 @@ fn first_other(alloc: Global, rows: &[(&[u8], DrillEnd, &[u8])]) -> Option<usize
 #[test]
 fn numbers_and_names_have_limits(rt: HostRuntime) {
     assert_eq!(rt; first_other(rt.alloc(), &LIMITS), None);
+}
+
+/// The longest load that a line can name is taken in.
+#[test]
+fn a_load_of_16777216_bytes_is_handed_in(rt: HostRuntime) {
+    let script = b"mode m push 0 1\nsubmit a m size=16777216\n";
+    let wanted =
+        b"a submitted 0 0.00000000-0000-0000-0000-000000000000@as4\na end 1 0 0 0 0\nb end 0 0 0 0 0\n";
+    assert!(rt; plays(rt.alloc(), script, DrillEnd::Read, wanted));
 }
 
 const LETTERS: &[u8; 32] = b"abcdefghijklmnopqrstuvwxyz012345";

@@ -28,6 +28,7 @@ fn shape_of(line: &Line) -> Shape {
         Line::Tick { end, moment } => told(b't', is_b(*end), 0, *moment),
         Line::Take { end } => told(b'k', is_b(*end), 0, 0),
         Line::Ask { end, mode } => told(b'a', is_b(*end), mode.bytes().len(), 0),
+        Line::Pair { end, mode, number } => told(b'p', is_b(*end), mode.bytes().len(), *number),
         Line::Came { end, package } => told(b'c', is_b(*end), 0, *package),
         Line::Lost { end, package } => told(b'l', is_b(*end), 0, *package),
         Line::Read { end, number } => told(b'r', is_b(*end), 0, *number),
@@ -75,7 +76,7 @@ fn shape_in(alloc: Global, bytes: &[u8]) -> Result<Option<Shape>, Fail> {
 }
 
 /// Lines, and what each says: the fields of its shape.
-const LINES: [(&[u8], u8, bool, usize, u64); 14] = [
+const LINES: [(&[u8], u8, bool, usize, u64); 16] = [
     (b"mode m1 push 3 5000", b'm', false, 2, 5_000),
     (b"mode z pull 1000 1000000000", b'm', true, 1, 1_000_000_000),
     (b"submit a m1 none", b's', false, 2, 0),
@@ -91,6 +92,8 @@ const LINES: [(&[u8], u8, bool, usize, u64); 14] = [
     ),
     (b"take b", b'k', true, 0, 0),
     (b"ask b 0123456789abcdefghijklmnopqrstuv", b'a', true, 32, 0),
+    (b"pair b m1 0", b'p', true, 2, 0),
+    (b"pair a m 18446744073709551615", b'p', false, 1, u64::MAX),
     (b"came a 18446744073709551615", b'c', false, 0, u64::MAX),
     (b"lost b 0", b'l', true, 0, 0),
     (b"read a 7", b'r', false, 0, 7),
@@ -115,7 +118,7 @@ fn each_line_of_the_grammar_is_read(rt: HostRuntime) -> Result<(), Fail> {
     Ok(())
 }
 
-const WRONG_LINES: [&[u8]; 23] = [
+const WRONG_LINES: [&[u8]; 29] = [
     b"",
     b"take",
     b"take  a",
@@ -139,6 +142,12 @@ const WRONG_LINES: [&[u8]; 23] = [
     b"mode m1 push 3 0",
     b"mode m1 push 3 1000000001",
     b"mode m1 hold 3 5000",
+    b"pair b m1",
+    b"pair b 0",
+    b"pair b m1 0x1f",
+    b"pair b m1 00",
+    b"pair b M1 0",
+    b"pair b m1 18446744073709551616",
 ];
 
 /// The first row that is a line.

@@ -111,6 +111,7 @@ fn a_reply_with_parts_tells_the_identifier_or_the_code(rt: HostRuntime) {
     let submitted = b"a submitted 0 0.00000000-0000-0000-0000-000000000000@as4\n";
     let pushed = b"a sent 0 user 0.00000000-0000-0000-0000-000000000000@as4\n";
     let requested = b"a sent 0 pull drill-m\n";
+    let paired = b"a sent 0 pair 0.00000000-0000-0000-0000-000000000000@as4 drill-m\n";
     let entry = b"a entry 0 0.00000000-0000-0000-0000-000000000000@as4 1 5\n";
     let refused = b"a status 0 refused EBMS:0010\n";
     let alloc = rt.alloc();
@@ -118,10 +119,11 @@ fn a_reply_with_parts_tells_the_identifier_or_the_code(rt: HostRuntime) {
         tells(alloc, made::submitted(alloc), submitted),
         tells(alloc, made::pushed(alloc), pushed),
         tells(alloc, made::requested(alloc), requested),
+        tells(alloc, made::paired(alloc), paired),
         tells(alloc, made::entry(alloc), entry),
         tells(alloc, made::refused(alloc), refused),
     ];
-    assert_eq!(rt; told, [true; 5]);
+    assert_eq!(rt; told, [true; 6]);
 }
 
 #[test]
@@ -131,8 +133,8 @@ fn an_answer_is_sent_or_lost(rt: HostRuntime) {
     let error = b"b sent 0 error EBMS:0006\n";
     let alloc = rt.alloc();
     let told = [
-        answers(alloc, false, made::receipt(alloc), sent),
-        answers(alloc, true, made::receipt(alloc), lost),
+        answers(alloc, false, made::receipted(alloc), sent),
+        answers(alloc, true, made::receipted(alloc), lost),
         answers(alloc, false, made::error(alloc), error),
     ];
     assert_eq!(rt; told, [true; 3]);

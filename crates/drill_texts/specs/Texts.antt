@@ -36,10 +36,20 @@ signal_summary ref_to (body.Pull mpc) = codes "pull " ++ mpc
 signal_summary ref_to (body.Receipt copy) = codes "receipt " ++ reference_text ref_to
 signal_summary ref_to (body.Errors items) = codes "error " ++ first_code items
 
+-- the channel of a pull request
+abbrev pub channel_text : SignalBody → List ℕ
+channel_text (body.Pull mpc) = mpc
+channel_text other = []
+
+-- a receipt and a pull request, by what the one is for and by the channel of the other
+abbrev pub pair_summary : Option (List ℕ) → SignalBody → List ℕ
+pair_summary ref_to pull = codes "pair " ++ reference_text ref_to ++ codes " " ++ channel_text pull
+
 -- a message in short
 abbrev pub summary : Message → List ℕ
 summary (message.User header payloads) = codes "user " ++ header.id
 summary (message.Signal signal) = signal_summary signal.ref_to signal.body
+summary (message.Pair pair) = pair_summary pair.receipt.ref_to pair.pull.body
 
 -- a message that an end sent as its package of this number, or that was lost
 abbrev pub message_text : Bool → ℕ → Message → List ℕ

@@ -3,11 +3,11 @@
 ghost use Rattle.std.specs.Prelude.{◌≡◌, ◌++◌, OnOk, length};
 ghost use Rattle.std.specs.List.{sum_by};
 ghost use Rattle.as4_values.specs.declared.payload.Payload.{Payload as Part};
-ghost use Rattle.drill_texts.specs.Texts.{entry_text, first_code, message_text, reference_text, signal_summary, summary};
+ghost use Rattle.drill_texts.specs.Texts.{channel_text, entry_text, first_code, message_text, pair_summary, reference_text, signal_summary, summary};
 
 use crate::pieces::{add, add_counted, add_named, add_wide};
 use as4_values::{
-    ErrorItem, Message, MessageId, NoMemory, Payload, Signal, SignalBody, UserHeader,
+    ErrorItem, Message, MessageId, NoMemory, Pair, Payload, Signal, SignalBody, UserHeader,
 };
 
 /// Adds what is written of a message that an end sent as its package of this number, or that was lost.
@@ -34,7 +34,15 @@ fn add_summary(out: &mut Vec<u8>, message: &Message) -> Result<(), NoMemory>
     match message {
         Message::User { header, .. } => add_named(out, b"user ", header.id.bytes()),
         Message::Signal(signal) => add_signal(out, signal),
+        Message::Pair(pair) => add_pair(out, pair),
     }
+}
+
+fn add_pair(out: &mut Vec<u8>, pair: &Pair) -> Result<(), NoMemory>
+    ensures { OnOk result (out.new.items ≡ out.old.items ++ pair_summary pair.now.receipt.ref_to pair.now.pull.body) }
+{
+    add_named(out, b"pair ", reference_bytes(&pair.receipt.ref_to))?;
+    add_named(out, b" ", channel_bytes(&pair.pull.body))
 }
 
 fn add_signal(out: &mut Vec<u8>, signal: &Signal) -> Result<(), NoMemory>
@@ -54,6 +62,16 @@ fn reference_bytes(reference: &Option<MessageId>) -> &[u8]
     match reference {
         Some(id) => id.bytes(),
         None => &[],
+    }
+}
+
+/// The channel of a pull request, none where it is no pull request.
+fn channel_bytes(body: &SignalBody) -> &[u8]
+    ensures { result.now ≡ channel_text body.now }
+{
+    match body {
+        SignalBody::Pull { mpc } => mpc.bytes(),
+        _ => &[],
     }
 }
 

@@ -3,7 +3,8 @@
 //!     END submitted NUMBER ID
 //!     END no-mode, outbox-full or too-large
 //!     END ticked FAILED
-//!     END sent PACKAGE MESSAGE             MESSAGE is user ID, receipt ID, error CODE or pull CHANNEL
+//!     END sent PACKAGE MESSAGE             MESSAGE is user ID, receipt ID, error CODE, pull CHANNEL or
+//!                                          pair ID CHANNEL
 //!     END lost MESSAGE
 //!     END nothing or quiet
 //!     END no-package

@@ -23,6 +23,8 @@ const A_REPEAT: Steps = &[
     (End::B, Step::Inbox, Said::Count(1)),
     (End::B, Step::Read(0), Said::Entry(5)),
     (End::B, Step::Read(1), Said::NoEntry),
+    (End::A, Step::Size, Said::Count(384)),
+    (End::B, Step::Size, Said::Count(306)),
 ];
 
 /// A message is taken over once, and not before it came; its repeat isn't delivered anew.
@@ -132,7 +134,37 @@ const ERRORS: Steps = &[
     (End::A, Step::Status, Said::Refused),
 ];
 
-const EXCHANGES: [Steps; 10] = [
+/// A receipt goes with the next pull request: of what came in first. Both of its effects stand in one record; where it
+/// comes again, it settles nothing and gives what is due.
+const PAIRS: Steps = &[
+    (End::A, Step::Submit("pulled"), Said::Submitted(0)),
+    (End::A, Step::Submit("pulled"), Said::Submitted(1)),
+    (End::B, Step::AskWith("pulled", 0), Said::NoEntry),
+    (End::B, Step::Ask("pulled"), Said::Request),
+    (End::A, Step::HearRequest, Said::User(0)),
+    (End::A, Step::Size, Said::Count(781)),
+    (End::B, Step::Hear, Said::Receipt),
+    (End::B, Step::AskWith("none", 0), Said::NoMode),
+    (End::B, Step::AskWith("once", 0), Said::NoMode),
+    (End::B, Step::AskWith("pulled", 1), Said::NoEntry),
+    (End::B, Step::AskWith("pulled", 0), Said::RequestWith(0)),
+    (End::A, Step::HearRequest, Said::User(1)),
+    (End::A, Step::Receipts, Said::Count(1)),
+    (End::A, Step::Size, Said::Count(810)),
+    (End::B, Step::AskWith("pulled", 0), Said::RequestWith(0)),
+    (End::A, Step::HearRequest, Said::Error(6)),
+    (End::A, Step::Size, Said::Count(810)),
+    (End::A, Step::Tick(1000), Said::Ticked(0)),
+    (End::A, Step::HearRequest, Said::User(1)),
+    (End::A, Step::Status, Said::Pending(2)),
+    (End::A, Step::Receipts, Said::Count(1)),
+    (End::A, Step::Size, Said::Count(850)),
+    (End::B, Step::Confirm(0), Said::Confirmed(0)),
+    (End::B, Step::AskWith("pulled", 0), Said::Gone),
+    (End::B, Step::Size, Said::Count(336)),
+];
+
+const EXCHANGES: [Steps; 11] = [
     A_REPEAT,
     TAKEN_OVER,
     LIGHTLY,
@@ -140,6 +172,7 @@ const EXCHANGES: [Steps; 10] = [
     NO_MODE,
     NO_CHANNEL,
     PULLS,
+    PAIRS,
     A_LOST_RECEIPT,
     RECEIPTS,
     ERRORS,
@@ -207,26 +240,29 @@ fn all_tries_are_spent(rt: HostRuntime) {
     assert_eq!(rt; right_tries(rt.alloc()), Some(3008));
 }
 
-/// In a full journal nothing has room, and all that needs no record is as before.
+/// In a full journal nothing has room but what just fits, and all that needs no record is as before.
 const A_FULL_JOURNAL: Steps = &[
     (End::B, Step::Submit("once"), Said::Submitted(0)),
     (End::B, Step::Take, Said::Push),
+    (End::B, Step::Size, Said::Count(381)),
     (End::A, Step::Submit("invoice"), Said::Submitted(0)),
     (End::A, Step::Take, Said::Push),
-    (End::B, Step::Fill, Said::Count(1_073_741_814)),
-    (End::B, Step::Tick(5000), Said::Full),
-    (End::B, Step::TickLightly(5000), Said::Full),
-    (End::B, Step::Submit("invoice"), Said::Full),
-    (End::B, Step::Hear, Said::Full),
-    (End::B, Step::Receipt, Said::Full),
-    (End::B, Step::Failure, Said::Full),
-    (End::B, Step::Confirm(70), Said::Full),
-    (End::B, Step::ConfirmLightly(70), Said::Full),
-    (End::B, Step::Confirm(69), Said::Gone),
+    (End::B, Step::Fill, Said::Count(4_294_967_276)),
+    (End::B, Step::Submit("invoice"), Said::Full(355)),
+    (End::B, Step::Hear, Said::Full(297)),
+    (End::B, Step::Failure, Said::Full(33)),
+    (End::B, Step::TickLightly(1), Said::Ticked(0)),
+    (End::B, Step::Size, Said::Count(4_294_967_296)),
+    (End::B, Step::Tick(5000), Said::Full(20)),
+    (End::B, Step::TickLightly(5000), Said::Full(20)),
+    (End::B, Step::Receipt, Said::Full(20)),
+    (End::B, Step::Confirm(136), Said::Full(20)),
+    (End::B, Step::ConfirmLightly(136), Said::Full(20)),
+    (End::B, Step::Confirm(135), Said::Gone),
     (End::B, Step::Status, Said::Pending(1)),
     (End::B, Step::Take, Said::Nothing),
-    (End::B, Step::Inbox, Said::Count(71)),
-    (End::B, Step::Size, Said::Count(1_073_741_814)),
+    (End::B, Step::Inbox, Said::Count(137)),
+    (End::B, Step::Size, Said::Count(4_294_967_296)),
 ];
 
 #[test]

@@ -1,8 +1,8 @@
 use as4_effects::Effect;
 use as4_values::{Code, ErrorItem, MessageId, Seq, Severity};
 use end_tables::EndTables;
-use made_messages::{act, submission};
 use machine_rows::refusals_of;
+use made_messages::{act, submission};
 use std::alloc::Global;
 
 /// Takes in the submission of this number.

@@ -1,5 +1,5 @@
-use as4_values::{PlainData, Signal, SignalBody, Text, UserHeader};
 use as4_codes::{pull_request, receipt};
+use as4_values::{PlainData, Signal, SignalBody, Text, UserHeader};
 use made_messages::{header_of, text};
 use std::alloc::Global;
 

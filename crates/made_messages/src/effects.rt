@@ -4,9 +4,10 @@ ghost use Rattle.as4_effects.specs.Sound.{is_id_of, is_route, delivered_body, fi
 
 use crate::headers::{header_of, text};
 use as4_effects::{
-    Delivery, Submission, delivery_fits, is_id_of, is_route, pairs, submission_fits,
+    Carried, Delivery, Kept, Mark, Submission, delivery_fits, header_fits, is_id_of, is_route,
+    pairs, submission_fits,
 };
-use as4_values::{Payload, Route, Seq, UserHeader};
+use as4_values::{MAX_MOMENT, Payload, Route, Seq, UserHeader};
 use std::alloc::Global;
 
 /// The submission of this number that is pushed to `http://h/` and sent again so often, each minute, handed in at
@@ -23,6 +24,30 @@ pub fn submission(alloc: Global, number: u64, retries: u32) -> Option<Submission
         Route::Push { address },
         retries,
     )
+}
+
+/// The same, which waits in the channel `c`.
+pub fn pulled(alloc: Global, number: u64, retries: u32) -> Option<Submission> {
+    if number >= 1_048_576 || retries > 1000 {
+        return None;
+    }
+    match (text(alloc, b"c"), text(alloc, b"http://h/")) {
+        (Some(mpc), Some(address)) => {
+            let route = Route::Pull { mpc, address };
+            match header_of(alloc, number) {
+                Some(header) => submission_of(alloc, number, header, route, retries),
+                None => {
+                    drop(route);
+                    None
+                }
+            }
+        }
+        (mpc, address) => {
+            drop(mpc);
+            drop(address);
+            None
+        }
+    }
 }
 
 // The submission of these, where they make one.
@@ -98,4 +123,30 @@ fn is_delivery(alloc: Global, header: &UserHeader, payloads: &Seq<Payload>) -> O
 {
     let paired = pairs(alloc, header.parts.items(), payloads.items()).ok()?;
     Some(paired && delivery_fits(header, payloads))
+}
+
+/// The submission as it stands after so many tries, the last at this moment.
+pub fn carried(submission: Submission, tries: u32, last: u64, standing: Mark) -> Option<Carried> {
+    if last > MAX_MOMENT {
+        drop(submission);
+        drop(standing);
+        return None;
+    }
+    Some(Carried {
+        submission,
+        tries,
+        last,
+        standing,
+    })
+}
+
+/// The header of the message of the submission of this number, as it is kept once the message was taken over.
+pub fn kept(alloc: Global, number: u64) -> Option<Kept> {
+    let header = header_of(alloc, number)?;
+    if header_fits(&header) {
+        Some(Kept { header })
+    } else {
+        drop(header);
+        None
+    }
 }

@@ -1,5 +1,16 @@
-use as4_values::{MessageId, Party, Seq, Service, Side, StampText, Text, UserHeader, read_stamp};
+ghost use Rattle.std.specs.Prelude.{◌≡◌, IfSome};
+
+use as4_values::{
+    MessageId, Octets, Party, Seq, Service, Side, StampText, Text, UserHeader, read_stamp,
+};
 use std::alloc::Global;
+
+/// These bytes.
+pub fn octets(alloc: Global, bytes: &[u8]) -> Option<Octets>
+    ensures { IfSome result (λ octets. octets ≡ bytes.now) }
+{
+    Some(Octets::of(Vec::from_slice(alloc, bytes).ok()?))
+}
 
 /// The text of these bytes, where they are one.
 pub fn text(alloc: Global, bytes: &[u8]) -> Option<Text> {

@@ -6,5 +6,5 @@ mod effects;
 mod headers;
 
 pub use acts::act;
-pub use effects::{delivery, submission};
-pub use headers::{header, header_of, text};
+pub use effects::{carried, delivery, kept, pulled, submission};
+pub use headers::{header, header_of, octets, text};

@@ -5,6 +5,7 @@ use as4_effects::Submission;
 use as4_values::{
     Load, Mode, Octets, PartInfo, Party, Payload, Route, Seq, Service, Side, Text, is_address,
 };
+use made_messages::octets;
 use std::alloc::Global;
 use std::process::Abort;
 use submissions::{Intake, are_too_large, submission};
@@ -81,17 +82,13 @@ fn mode(rt: &(impl Abort + AllocGlobal), is_pulled: bool) -> Mode {
     }
 }
 
-fn octets(rt: &(impl Abort + AllocGlobal), bytes: &[u8]) -> Octets {
-    Octets::of(Vec::from_slice(rt.alloc(), bytes).expect(rt, "memory"))
-}
-
 /// So many loads of three bytes with this media text.
 fn loads(rt: &(impl Abort + AllocGlobal), count: usize, media: &[u8]) -> Seq<Load> {
     let mut loads = Vec::new(rt.alloc());
     for _ in 0..count {
         let load = Load {
-            media: octets(rt, media),
-            content: octets(rt, b"abc"),
+            media: octets(rt.alloc(), media).expect(rt, "memory"),
+            content: octets(rt.alloc(), b"abc").expect(rt, "memory"),
         };
         loads.push(load).expect(rt, "memory");
     }
@@ -218,4 +215,35 @@ fn media_texts_are_one_line_of_1024_bytes(rt: HostRuntime) {
 fn there_are_64_loads(rt: HostRuntime) {
     assert!(rt; !too_large(&rt, 64, b""));
     assert!(rt; too_large(&rt, 65, b""));
+}
+
+/// So many zeros, with no media text.
+fn zeros(alloc: Global, length: usize) -> Option<Load> {
+    Some(Load {
+        media: Octets::of(Vec::new(alloc)),
+        content: Octets::of(vec![in alloc; 0; length].ok()?),
+    })
+}
+
+/// Whether two loads of so many bytes are too large.
+fn are_too_long(alloc: Global, lengths: [usize; 2]) -> Option<bool> {
+    match (zeros(alloc, lengths[0]), zeros(alloc, lengths[1])) {
+        (Some(one), Some(other)) => {
+            let loads = [one, other];
+            let told = are_too_large(&loads);
+            drop(loads);
+            Some(told)
+        }
+        (one, other) => {
+            drop(one);
+            drop(other);
+            None
+        }
+    }
+}
+
+#[test]
+fn contents_have_62914560_bytes_together(rt: HostRuntime) {
+    assert_eq!(rt; are_too_long(rt.alloc(), [62_914_559, 1]), Some(false));
+    assert_eq!(rt; are_too_long(rt.alloc(), [62_914_559, 2]), Some(true));
 }

@@ -2,7 +2,7 @@ ghost use Rattle.std.specs.Prelude.{◌≡◌, IfSome, length};
 
 use as4_values::{MessageId, Octets, Payload, Seq, UserHeader};
 use inbox::{Held, Inbox};
-use made_messages::header;
+use made_messages::{header, octets};
 use std::alloc::Global;
 
 /// The header of a message of this identifier.
@@ -13,9 +13,8 @@ fn header_of(alloc: Global, id: &[u8]) -> Option<UserHeader> {
 /// The payload of no bytes with this Content-ID.
 #[tactic(auto, unfolding(as4_values::specs::Payload::is_media_text))]
 fn payload(alloc: Global, name: &MessageId) -> Option<Payload> {
-    let cid = Vec::from_slice(alloc, name.bytes()).ok()?;
     Some(Payload {
-        cid: Octets::of(cid),
+        cid: octets(alloc, name.bytes())?,
         media: Octets::of(Vec::new(alloc)),
         content: Octets::of(Vec::new(alloc)),
     })
@@ -121,4 +120,77 @@ fn an_identifier_is_held_for_good(rt: HostRuntime) {
         held_ids(rt.alloc()),
         Some([Some(true), Some(false), Some(true)])
     );
+}
+
+/// Adds a message of this identifier that came and was taken over, where all that came were.
+fn keep(inbox: &mut Inbox, header: UserHeader) -> Option<()> {
+    if inbox.holds(&header.id) || inbox.confirmed() != inbox.len() {
+        drop(header);
+        return None;
+    }
+    match inbox.reserve(&header.id) {
+        Ok(()) => {
+            inbox.keep(header);
+            Some(())
+        }
+        Err(_) => {
+            drop(header);
+            None
+        }
+    }
+}
+
+/// Whether the header of this number is that of a message of this identifier.
+fn is_headed(inbox: &Inbox, n: u64, id: &[u8]) -> bool {
+    matches!(inbox.header(n), Some(header) if header.id.bytes() == id)
+}
+
+/// How many messages came and were taken over, whether they have their headers, and whether the first is gone and its
+/// identifier is held, of an inbox in which two messages are kept.
+fn told_of_kept(alloc: Global) -> Option<(u64, u64, [bool; 4], Option<bool>)> {
+    let mut inbox = Inbox::new(alloc);
+    let kept = keep_two(alloc, &mut inbox);
+    let headed = [
+        is_headed(&inbox, 0, b"m1"),
+        is_headed(&inbox, 1, b"m2"),
+        inbox.header(2).is_none(),
+        matches!(inbox.read(0), Held::Gone),
+    ];
+    let told = (
+        inbox.len(),
+        inbox.confirmed(),
+        headed,
+        holds(alloc, &inbox, b"m1"),
+    );
+    drop(inbox);
+    kept?;
+    Some(told)
+}
+
+fn keep_two(alloc: Global, inbox: &mut Inbox) -> Option<()> {
+    keep(inbox, header_of(alloc, b"m1")?)?;
+    keep(inbox, header_of(alloc, b"m2")?)
+}
+
+#[test]
+fn one_that_is_kept_was_taken_over(rt: HostRuntime) {
+    assert_eq!(rt;
+        told_of_kept(rt.alloc()),
+        Some((2, 2, [true; 4], Some(true)))
+    );
+}
+
+/// Whether the header of a message can be read, before it is taken over and behind that.
+fn told_of_header(alloc: Global) -> Option<[bool; 2]> {
+    let mut inbox = one_message(alloc)?;
+    let before = is_headed(&inbox, 0, b"m1");
+    inbox.confirm(0);
+    let after = is_headed(&inbox, 0, b"m1");
+    drop(inbox);
+    Some([before, after])
+}
+
+#[test]
+fn a_header_stays_once_its_message_is_taken_over(rt: HostRuntime) {
+    assert_eq!(rt; told_of_header(rt.alloc()), Some([true; 2]));
 }

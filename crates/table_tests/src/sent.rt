@@ -2,10 +2,10 @@ ghost use Rattle.std.specs.Prelude.{IsTrue};
 ghost use Rattle.exchange_model.specs.Questions.{is_pending, is_waiting, sent_at};
 ghost use Rattle.exchange_model.specs.Apply.{is_one};
 
-use as4_effects::Submission;
+use as4_effects::{Carried, Mark, Submission};
 use as4_values::{Code, MAX_MOMENT, MessageId};
 use exchange_model::Standing;
-use made_messages::submission;
+use made_messages::{carried, submission};
 use outbox::Outbox;
 use std::alloc::Global;
 
@@ -22,6 +22,25 @@ fn submit(outbox: &mut Outbox, submission: Submission) -> Option<()> {
         }
         Err(_) => {
             drop(submission);
+            None
+        }
+    }
+}
+
+/// The same of a submission as it was carried over.
+fn carry(outbox: &mut Outbox, carried: Carried) -> Option<()> {
+    let (number, id) = (carried.submission.number, &carried.submission.header.id);
+    if outbox.len() != number || outbox.number_of(id).is_some() {
+        drop(carried);
+        return None;
+    }
+    match outbox.reserve(id) {
+        Ok(()) => {
+            outbox.carry(carried);
+            Some(())
+        }
+        Err(_) => {
+            drop(carried);
             None
         }
     }
@@ -125,6 +144,9 @@ enum Step {
     NumberOf { number: u64, nonce: u128 },
     Status(u64),
     Due(u64),
+    /// How often, and when last.
+    Tried(u64),
+    Mark(u64),
     HasNoCode(u64),
     HasCode(u64),
 }
@@ -138,6 +160,26 @@ enum Said {
     Number(Option<u64>),
     Status(Option<Standing>),
     Due(Option<u64>),
+    Tried(Option<(u32, u64)>),
+    Mark(Option<Marked>),
+}
+
+/// A mark without its code.
+#[derive(Clone, Copy, PartialEq, Eq)]
+enum Marked {
+    Pending,
+    Receipted,
+    Failed,
+    Refused,
+}
+
+fn without_code(mark: &Mark) -> Marked {
+    match mark {
+        Mark::Pending => Marked::Pending,
+        Mark::Receipted => Marked::Receipted,
+        Mark::Failed => Marked::Failed,
+        Mark::Refused { .. } => Marked::Refused,
+    }
 }
 
 fn said_if(done: bool) -> Said {
@@ -156,6 +198,8 @@ fn answer(alloc: Global, outbox: &mut Outbox, step: Step) -> Option<Said> {
         }
         Step::Status(number) => Said::Status(outbox.status(number)),
         Step::Due(number) => Said::Due(outbox.due(number)),
+        Step::Tried(number) => Said::Tried(outbox.tried(number)),
+        Step::Mark(number) => Said::Mark(outbox.mark(number).map(without_code)),
         Step::HasNoCode(number) => said_if(outbox.refused_code(number).is_none()),
         Step::HasCode(number) => said_if(has_code(outbox, number, b"EBMS:0004")),
     })
@@ -222,7 +266,9 @@ fn submissions_stand_at_their_numbers(rt: HostRuntime) {
 }
 
 /// A try and a receipt of one submission, and an error about another.
-const MARKED: [(Step, Said); 9] = [
+const MARKED: [(Step, Said); 15] = [
+    (Step::Tried(0), Said::Tried(Some((0, 0)))),
+    (Step::Mark(0), Said::Mark(Some(Marked::Pending))),
     (
         Step::Try {
             number: 0,
@@ -238,6 +284,10 @@ const MARKED: [(Step, Said); 9] = [
     (Step::Status(1), Said::Status(Some(Standing::Refused))),
     (Step::HasNoCode(0), Said::Done),
     (Step::HasCode(1), Said::Done),
+    (Step::Tried(0), Said::Tried(Some((1, 5000)))),
+    (Step::Mark(0), Said::Mark(Some(Marked::Receipted))),
+    (Step::Mark(1), Said::Mark(Some(Marked::Refused))),
+    (Step::Mark(2), Said::Mark(None)),
 ];
 
 #[test]
@@ -301,4 +351,69 @@ fn one_with_tries_left_or_a_receipt_is_not_given_up(rt: HostRuntime) {
         right(rt.alloc(), &[2, 0], &NOT_SPENT),
         Some(NOT_SPENT.len())
     );
+}
+
+/// Carries over a submission that is sent again three times.
+fn carry_one(
+    alloc: Global,
+    outbox: &mut Outbox,
+    number: u64,
+    tries: u32,
+    last: u64,
+    standing: Mark,
+) -> Option<()> {
+    match submission(alloc, number, 3) {
+        Some(submission) => carry(outbox, carried(submission, tries, last, standing)?),
+        None => {
+            drop(standing);
+            None
+        }
+    }
+}
+
+/// Carries over one that is pending, one that is receipted, one that was given up and one that was refused.
+fn carry_all(alloc: Global, outbox: &mut Outbox) -> Option<()> {
+    carry_one(alloc, outbox, 0, 2, 5000, Mark::Pending)?;
+    carry_one(alloc, outbox, 1, 1, 7000, Mark::Receipted)?;
+    carry_one(alloc, outbox, 2, 4, 9000, Mark::Failed)?;
+    let code = Code::read(alloc, b"EBMS:0004").ok()?;
+    carry_one(alloc, outbox, 3, 0, 0, Mark::Refused { code })
+}
+
+/// What an outbox tells of submissions that were carried over.
+const CARRIED: [(Step, Said); 13] = [
+    (Step::Len, Said::Count(4)),
+    (Step::Status(0), TRIED_TWICE),
+    (Step::Tried(0), Said::Tried(Some((2, 5000)))),
+    (Step::Due(0), Said::Due(Some(65_000))),
+    (Step::Status(1), Said::Status(Some(Standing::Receipted))),
+    (Step::Tried(1), Said::Tried(Some((1, 7000)))),
+    (Step::Mark(2), Said::Mark(Some(Marked::Failed))),
+    (Step::Tried(2), Said::Tried(Some((4, 9000)))),
+    (Step::HasCode(3), Said::Done),
+    (Step::Tried(3), Said::Tried(Some((0, 0)))),
+    (
+        Step::Try {
+            number: 0,
+            moment: 65_000,
+        },
+        Said::Done,
+    ),
+    (Step::Tried(0), Said::Tried(Some((3, 65_000)))),
+    (Step::FailSpent(MAX_MOMENT), Said::Count(0)),
+];
+
+fn right_carried(alloc: Global) -> Option<usize> {
+    let mut outbox = Outbox::new(alloc);
+    let right = match carry_all(alloc, &mut outbox) {
+        Some(()) => Some(right_of(alloc, &mut outbox, &CARRIED)),
+        None => None,
+    };
+    drop(outbox);
+    right
+}
+
+#[test]
+fn one_that_is_carried_over_stands_as_it_stood(rt: HostRuntime) {
+    assert_eq!(rt; right_carried(rt.alloc()), Some(CARRIED.len()));
 }

@@ -1,8 +1,8 @@
-use as4_effects::{Effect, Queue, Tick};
+use as4_effects::{Effect, Mark, Queue, Tick};
 use as4_values::MessageId;
 use end_tables::{EndTables, Held, Totals};
 use exchange_model::Standing;
-use made_messages::{act, delivery, submission};
+use made_messages::{act, carried, delivery, kept, pulled, submission, text};
 use std::alloc::Global;
 
 fn tick(tables: &mut EndTables, moment: u64) -> Option<()> {
@@ -133,4 +133,219 @@ fn taken_over(alloc: Global) -> (Option<()>, bool, Option<bool>) {
 #[test]
 fn a_message_that_came_is_held_for_good(rt: HostRuntime) {
     assert_eq!(rt; taken_over(rt.alloc()), (Some(()), true, Some(true)));
+}
+
+/// A submission is carried over that is sent again once, after so many tries.
+fn carry(
+    alloc: Global,
+    tables: &mut EndTables,
+    number: u64,
+    tries: u32,
+    last: u64,
+    standing: Mark,
+) -> Option<()> {
+    match submission(alloc, number, 1) {
+        Some(submission) => {
+            let carried = carried(submission, tries, last, standing)?;
+            act(tables, Effect::Carried(carried))
+        }
+        None => {
+            drop(standing);
+            None
+        }
+    }
+}
+
+/// One that was tried at 5,000 ms, one that is spent and one that was given up are carried over.
+fn carry_three(alloc: Global, tables: &mut EndTables) -> Option<()> {
+    carry(alloc, tables, 0, 1, 5000, Mark::Pending)?;
+    carry(alloc, tables, 1, 2, 5000, Mark::Pending)?;
+    carry(alloc, tables, 2, 2, 5000, Mark::Failed)
+}
+
+/// How often a submission was tried, when last, and the totals; and the head at three moments and how the second stands
+/// at the last of them.
+fn told_of_carried(
+    alloc: Global,
+    tables: &mut EndTables,
+) -> Option<(Option<(u32, u64)>, u64, [Option<u64>; 2], Option<Standing>)> {
+    carry_three(alloc, tables)?;
+    let tried = tables.tried(0);
+    let failed = tables.totals().failed;
+    let heads = [head_at(tables, 64_999)?, head_at(tables, 65_000)?];
+    Some((tried, failed, heads, tables.status(1)))
+}
+
+fn carried_over(
+    alloc: Global,
+) -> Option<(Option<(u32, u64)>, u64, [Option<u64>; 2], Option<Standing>)> {
+    let mut tables = EndTables::new(alloc);
+    let told = told_of_carried(alloc, &mut tables);
+    drop(tables);
+    told
+}
+
+#[test]
+fn one_that_is_carried_over_goes_on_as_it_stood(rt: HostRuntime) {
+    let wanted = (Some((1, 5000)), 1, [None, Some(0)], Some(Standing::Failed));
+    assert_eq!(rt; carried_over(rt.alloc()), Some(wanted));
+}
+
+#[derive(Clone, Copy)]
+enum Marked {
+    Pending,
+    Receipted,
+    Failed,
+}
+
+fn mark_of(marked: Marked) -> Mark {
+    match marked {
+        Marked::Pending => Mark::Pending,
+        Marked::Receipted => Mark::Receipted,
+        Marked::Failed => Mark::Failed,
+    }
+}
+
+/// Whether the clock was set before, the number of a submission that is sent again once, how often and when last it was
+/// sent, and how it stands; and whether it can be carried over to a new end.
+type Carrying = (bool, u64, u32, u64, Marked, bool);
+
+const CARRYINGS: [Carrying; 9] = [
+    (false, 0, 0, 0, Marked::Pending, true),
+    (false, 0, 2, 1000, Marked::Pending, true),
+    (false, 0, 0, 0, Marked::Receipted, true),
+    (false, 0, 2, 1000, Marked::Failed, true),
+    // It was sent too often, was given up too early, or was sent at a moment and never.
+    (false, 0, 3, 1000, Marked::Pending, false),
+    (false, 0, 1, 1000, Marked::Failed, false),
+    (false, 0, 0, 1000, Marked::Pending, false),
+    // It isn't the next one.
+    (false, 1, 0, 0, Marked::Pending, false),
+    // The clock was set.
+    (true, 0, 0, 0, Marked::Pending, false),
+];
+
+/// Whether it can be carried over.
+fn fits_as(alloc: Global, row: Carrying) -> bool {
+    let (ticked, number, tries, last, standing, _) = row;
+    let mut tables = EndTables::new(alloc);
+    let made = if ticked {
+        tick(&mut tables, 1)
+    } else {
+        Some(())
+    };
+    let done = carry(alloc, &mut tables, number, tries, last, mark_of(standing));
+    drop(tables);
+    made.is_some() && done.is_some()
+}
+
+fn first_other_carrying(alloc: Global) -> Option<usize> {
+    for (at, row) in CARRYINGS.iter().enumerate() {
+        if fits_as(alloc, *row) != row.5 {
+            return Some(at);
+        }
+    }
+    None
+}
+
+#[test]
+fn one_is_carried_over_where_its_tries_agree_and_no_clock_is_set(rt: HostRuntime) {
+    assert_eq!(rt; first_other_carrying(rt.alloc()), None);
+}
+
+fn keep(alloc: Global, tables: &mut EndTables, number: u64) -> Option<()> {
+    act(tables, Effect::Kept(kept(alloc, number)?))
+}
+
+/// Whether a header is kept at a new end, is so again, and is gone with its identifier held.
+fn kept_at(alloc: Global) -> [bool; 4] {
+    let mut tables = EndTables::new(alloc);
+    let first = keep(alloc, &mut tables, 0).is_some();
+    let again = keep(alloc, &mut tables, 0).is_some();
+    let held = holds_it(alloc, &tables) == Some(true);
+    let gone = is_gone(&tables);
+    drop(tables);
+    [first, again, gone, held]
+}
+
+#[test]
+fn one_that_is_kept_is_gone_and_held(rt: HostRuntime) {
+    assert_eq!(rt; kept_at(rt.alloc()), [true, false, true, true]);
+}
+
+/// Whether a header is kept behind a message that came, and behind the same once it is taken over.
+fn kept_behind(alloc: Global) -> Option<[bool; 2]> {
+    let mut tables = EndTables::new(alloc);
+    let came = comes(alloc, &mut tables);
+    let early = keep(alloc, &mut tables, 1).is_some();
+    let taken = act(&mut tables, Effect::Confirmed { upto: 0 });
+    let late = keep(alloc, &mut tables, 1).is_some();
+    drop(tables);
+    came?;
+    taken?;
+    Some([early, late])
+}
+
+fn comes(alloc: Global, tables: &mut EndTables) -> Option<()> {
+    act(tables, Effect::Delivered(delivery(alloc)?))
+}
+
+#[test]
+fn one_is_kept_behind_those_that_were_taken_over(rt: HostRuntime) {
+    assert_eq!(rt; kept_behind(rt.alloc()), Some([false, true]));
+}
+
+/// Two submissions wait in the channel `c`, and one is pushed. The first was tried.
+fn wait_in_two(alloc: Global, tables: &mut EndTables) -> Option<()> {
+    act(tables, Effect::Submitted(pulled(alloc, 0, 1)?))?;
+    act(tables, Effect::Submitted(pulled(alloc, 1, 1)?))?;
+    act(tables, Effect::Submitted(submission(alloc, 2, 1)?))?;
+    tick(tables, 1000)?;
+    act(tables, Effect::Tried { number: 0 })
+}
+
+/// The head behind the receipt of this submission, where it is pending.
+fn head_behind(tables: &EndTables, queue: &Queue, number: u64) -> Option<u64> {
+    let receipt = Effect::Receipted { number };
+    if tables.fits(&receipt) {
+        drop(receipt);
+        return tables.head_behind(queue, number);
+    }
+    drop(receipt);
+    None
+}
+
+/// The heads of the channel behind the receipts of the two that wait there and of the one that is pushed, and the head
+/// of those that are pushed behind its own receipt.
+fn heads_behind(tables: &EndTables, channel: &Queue) -> [Option<u64>; 4] {
+    [
+        head_behind(tables, channel, 0),
+        head_behind(tables, channel, 1),
+        head_behind(tables, channel, 2),
+        head_behind(tables, &Queue::Push, 2),
+    ]
+}
+
+/// The same, once the first was tried, and where it is due again.
+fn heads_behind_receipts(alloc: Global) -> Option<[[Option<u64>; 4]; 2]> {
+    let channel = Queue::Channel(text(alloc, b"c")?);
+    let mut tables = EndTables::new(alloc);
+    let made = wait_in_two(alloc, &mut tables);
+    let before = heads_behind(&tables, &channel);
+    let ticked = tick(&mut tables, 61_000);
+    let after = heads_behind(&tables, &channel);
+    drop(tables);
+    drop(channel);
+    made?;
+    ticked?;
+    Some([before, after])
+}
+
+#[test]
+fn the_head_behind_a_receipt_is_of_the_others(rt: HostRuntime) {
+    let wanted = [
+        [Some(1), None, Some(1), None],
+        [Some(1), Some(0), Some(1), None],
+    ];
+    assert_eq!(rt; heads_behind_receipts(rt.alloc()), Some(wanted));
 }

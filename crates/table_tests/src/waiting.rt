@@ -83,3 +83,37 @@ fn queues_do_not_mix(rt: HostRuntime) {
     let heads = heads_in_new(rt.alloc(), b"orders", b"bills");
     assert_eq!(rt; heads, Some([Some(1), None, Some(2)]));
 }
+
+/// The heads at one moment of two that are pushed and one that is pulled: where the first waits no more, where the
+/// second doesn't, where the one that is pulled doesn't, and where one doesn't that there isn't.
+#[tactic(auto, unfolding(channels::specs::Queues::inserted))]
+fn heads_without(channels: &mut Channels, bills: &Queue) -> Result<[Option<u64>; 5], NoMemory>
+    requires { channels.old.waiting ≡ [] }
+{
+    add(channels, &Queue::Push, 20, 1)?;
+    add(channels, &Queue::Push, 30, 2)?;
+    add(channels, bills, 10, 3)?;
+    Ok([
+        channels.head_without(&Queue::Push, 30, 1),
+        channels.head_without(&Queue::Push, 29, 1),
+        channels.head_without(&Queue::Push, 30, 2),
+        channels.head_without(&Queue::Push, 30, 3),
+        channels.head_without(bills, 30, 3),
+    ])
+}
+
+/// The same, of a channel of this name.
+fn heads_without_in_new(alloc: Global, bills: &[u8]) -> Option<[Option<u64>; 5]> {
+    let bills = Queue::Channel(Text::read(alloc, bills).ok()?);
+    let mut channels = Channels::new(alloc);
+    let heads = heads_without(&mut channels, &bills);
+    drop(channels);
+    drop(bills);
+    heads.ok()
+}
+
+#[test]
+fn the_head_without_one_is_the_next(rt: HostRuntime) {
+    let heads = heads_without_in_new(rt.alloc(), b"bills");
+    assert_eq!(rt; heads, Some([Some(2), None, Some(1), Some(1), None]));
+}

@@ -1,9 +1,10 @@
 //! Replies and messages made by hand.
 
-ghost use Rattle.std.specs.Prelude.{◌≡◌, IfOk, IfSome, length};
+ghost use Rattle.std.specs.Prelude.{◌≡◌, IfOk, IfSome, IsTrue, length};
+ghost use Rattle.as4_values.specs.SignalParts.{is_pull, is_receipt};
 
 use as4_values::{
-    Code, ErrorItem, Message, MessageId, NoMemory, Octets, Payload, Seq, Severity, Signal,
+    Code, ErrorItem, Message, MessageId, NoMemory, Octets, Pair, Payload, Seq, Severity, Signal,
     SignalBody, StampText, UserHeader, stamp_text,
 };
 use exchange_model::Reply;
@@ -84,15 +85,17 @@ pub fn pushed(alloc: Global) -> Option<Reply> {
     }
 }
 
-/// A pull request of the submission 0.
-fn request(alloc: Global) -> Option<Message> {
+/// A pull request of the channel of the mode m.
+fn request(alloc: Global) -> Option<Signal>
+    ensures { IfSome result (λ signal. IsTrue (is_pull signal.body)) }
+{
     match (stamp(alloc), id(alloc), text(alloc, b"drill-m")) {
-        (Some(stamp), Some(id), Some(mpc)) => Some(Message::Signal(Signal {
+        (Some(stamp), Some(id), Some(mpc)) => Some(Signal {
             stamp,
             id,
             ref_to: None,
             body: SignalBody::Pull { mpc },
-        })),
+        }),
         (stamp, id, mpc) => {
             drop(stamp);
             drop(id);
@@ -103,10 +106,26 @@ fn request(alloc: Global) -> Option<Message> {
 }
 
 pub fn requested(alloc: Global) -> Option<Reply> {
-    match (text(alloc, b"http://drill/"), request(alloc)) {
-        (Some(address), Some(message)) => Some(Reply::Request { address, message }),
-        (address, message) => {
-            drop(address);
+    asked(alloc, Message::Signal(request(alloc)?))
+}
+
+/// A pull request, bundled with the receipt of the submission 0.
+pub fn paired(alloc: Global) -> Option<Reply> {
+    match (receipt(alloc), request(alloc)) {
+        (Some(receipt), Some(pull)) => asked(alloc, Message::Pair(Pair { receipt, pull })),
+        (receipt, pull) => {
+            drop(receipt);
+            drop(pull);
+            None
+        }
+    }
+}
+
+/// This message goes to the address of a drill.
+fn asked(alloc: Global, message: Message) -> Option<Reply> {
+    match text(alloc, b"http://drill/") {
+        Some(address) => Some(Reply::Request { address, message }),
+        None => {
             drop(message);
             None
         }
@@ -134,14 +153,16 @@ fn signal_id(alloc: Global) -> Option<MessageId> {
 }
 
 /// The receipt of the submission 0.
-pub fn receipt(alloc: Global) -> Option<Message> {
+fn receipt(alloc: Global) -> Option<Signal>
+    ensures { IfSome result (λ signal. IsTrue (is_receipt signal.body)) }
+{
     match (stamp(alloc), signal_id(alloc), id(alloc)) {
-        (Some(stamp), Some(signal), Some(id)) => Some(Message::Signal(Signal {
+        (Some(stamp), Some(signal), Some(id)) => Some(Signal {
             stamp,
             id: signal,
             ref_to: Some(id),
             body: SignalBody::Receipt { copy: None },
-        })),
+        }),
         (stamp, signal, id) => {
             drop(stamp);
             drop(signal);
@@ -149,6 +170,11 @@ pub fn receipt(alloc: Global) -> Option<Message> {
             None
         }
     }
+}
+
+/// The same, as a message.
+pub fn receipted(alloc: Global) -> Option<Message> {
+    Some(Message::Signal(receipt(alloc)?))
 }
 
 fn one_item(alloc: Global) -> Option<Seq<ErrorItem>>

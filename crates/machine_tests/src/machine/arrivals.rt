@@ -1,14 +1,14 @@
-//! Messages that were made from one that another end pushed.
+//! Messages that were made from one that another end sent.
 
 use super::rig::Rig;
 use super::steps::Said;
 use as4_values::{Message, PlainData, Text, UserHeader};
 
 impl Rig {
-    /// The message comes that the other end pushed last, with another action.
+    /// The message comes that the other end sent last, with another action.
     pub fn hears_of_another_action(&mut self, sender: &Rig) -> Option<Said> {
         let action = Text::read(self.alloc, b"order").ok()?;
-        match sender.pushed.as_ref()?.try_clone(self.alloc) {
+        match sender.sent.as_ref()?.try_clone(self.alloc) {
             Ok(Message::User { header, payloads }) => {
                 let header = with_action(header, action);
                 self.hears_message(Message::User { header, payloads })

@@ -1,48 +1,37 @@
 ghost use Rattle.std.specs.Prelude.{◌≡◌};
 
 use super::rig::new_core;
-use as4_effects::{Effect, Tick};
+use crate::changes::{Change, effects_of};
+use as4_effects::Effect;
 use as4_values::{NoMemory, Seq};
-use event_code::body_len;
-use made_messages::{delivery, submission};
+use end_tables::Totals;
+use event_code::{body_len, read_body};
 use msh_core::{Core, MAX_JOURNAL, ReplayRefusal};
 use std::alloc::Global;
-
-/// One effect, without its texts.
-#[derive(Clone, Copy)]
-enum Change {
-    Submitted,
-    /// The clock was set to five milliseconds.
-    Ticked,
-    Tried(u64),
-    Delivered,
-    Receipted(u64),
-    Confirmed(u64),
-}
 
 /// The effects of a record, and the place of the first that can't stand where those before it have led.
 type Record = (&'static [Change], Option<usize>);
 
-const RECORDS: [Record; 10] = [
+const RECORDS: [Record; 15] = [
     (&[Change::Tried(0)], Some(0)),
-    (&[Change::Receipted(0), Change::Ticked], Some(0)),
+    (&[Change::Receipted(0), Change::Ticked(5)], Some(0)),
     (&[Change::Confirmed(0)], Some(0)),
-    (&[Change::Submitted, Change::Submitted], Some(1)),
+    (&[Change::Submitted(0), Change::Submitted(0)], Some(1)),
     (
-        &[Change::Submitted, Change::Tried(0), Change::Tried(1)],
+        &[Change::Submitted(0), Change::Tried(0), Change::Tried(1)],
         Some(2),
     ),
     (
         &[
-            Change::Submitted,
+            Change::Submitted(0),
             Change::Receipted(0),
             Change::Receipted(0),
         ],
         Some(2),
     ),
-    (&[Change::Ticked, Change::Ticked], Some(1)),
+    (&[Change::Ticked(5), Change::Ticked(5)], Some(1)),
     (
-        &[Change::Delivered, Change::Ticked, Change::Delivered],
+        &[Change::Delivered, Change::Ticked(5), Change::Delivered],
         Some(2),
     ),
     (
@@ -55,42 +44,39 @@ const RECORDS: [Record; 10] = [
     ),
     (
         &[
-            Change::Submitted,
+            Change::Submitted(0),
             Change::Tried(0),
             Change::Delivered,
-            Change::Ticked,
+            Change::Ticked(5),
             Change::Receipted(0),
             Change::Confirmed(0),
         ],
         None,
     ),
+    // An end that was written again: no clock is set before all are carried over, no message waits before all that were
+    // taken over are kept, and no identifier is kept twice.
+    (
+        &[
+            Change::Carried(0, 2, 1000),
+            Change::CarriedReceipted(1, 1, 1000),
+            Change::Kept(0),
+            Change::Kept(1),
+            Change::Ticked(5),
+        ],
+        None,
+    ),
+    (&[Change::Ticked(5), Change::Carried(0, 0, 0)], Some(1)),
+    (&[Change::Carried(0, 5, 1000)], Some(0)),
+    (&[Change::Delivered, Change::Kept(1)], Some(1)),
+    (&[Change::Kept(0), Change::Delivered], Some(1)),
 ];
-
-fn effect_of(alloc: Global, change: Change) -> Option<Effect> {
-    match change {
-        Change::Submitted => Some(Effect::Submitted(submission(alloc, 0, 3)?)),
-        Change::Ticked => Some(Effect::Ticked(Tick { moment: 5 })),
-        Change::Tried(number) => Some(Effect::Tried { number }),
-        Change::Delivered => Some(Effect::Delivered(delivery(alloc)?)),
-        Change::Receipted(number) => Some(Effect::Receipted { number }),
-        Change::Confirmed(upto) => Some(Effect::Confirmed { upto }),
-    }
-}
-
-fn effects_of(alloc: Global, changes: &[Change]) -> Option<Seq<Effect>> {
-    let mut effects = Vec::new(alloc);
-    for change in changes {
-        effects.push(effect_of(alloc, *change)?).ok()?;
-    }
-    Some(Seq::of(effects))
-}
 
 /// Makes the effects again as one record, where there are any and the journal has room.
 #[tactic(auto, unfolding(exchange_model::specs::Apply::record_len))]
 pub fn replays(core: &mut Core, effects: Seq<Effect>) -> Option<Result<(), ReplayRefusal>> {
     let count = effects.items().len();
     let room = MAX_JOURNAL.saturating_sub(core.size());
-    if count == 0 || count > 1024 || body_len(&effects) + 5 > room {
+    if count == 0 || count > 1024 || body_len(&effects) + 9 > room {
         drop(effects);
         return None;
     }
@@ -130,4 +116,50 @@ fn first_other(alloc: Global) -> Option<usize> {
 #[test]
 fn the_first_unfit_effect_is_named(rt: HostRuntime) {
     assert_eq!(rt; first_other(rt.alloc()), None);
+}
+
+/// A body of two effects: the submission 0, which was sent twice, the last time at 1,000, and was receipted; and the
+/// header of a message `m1` that came and was taken over. The header of either goes from `a` to `b`.
+const BODY: &[u8] = b"\x00\x02\
+    \x08\x00\x00\x00\x00\x00\x00\x00\x00\
+    \x00\x00\x00\x00\x142025-01-02T03:04:05Z\x00\x00\x00\x2a0.00000000-0000-0000-0000-000000000001@as4\x00\
+    \x00\x00\x00\x01\x00\x00\x00\x01a\x00\x00\x00\x00\x01r\x00\x00\x00\x01\x00\x00\x00\x01b\x00\x00\x00\x00\x01r\
+    \x00\x00\x00\x00\x01s\x00\x00\x00\x00\x03act\x00\x00\x00\x00\x00\x00\x00\x00\x00\
+    \x00\x00\x00\x00\x00\x00\x00\x00\x09http://h/\x00\x00\x00\x03\x00\x00\x00\x00\x00\x00\xea\x60\
+    \x00\x00\x00\x00\x00\x00\x03\xe8\x00\x00\x00\x02\x00\x00\x00\x00\x00\x00\x03\xe8\x01\
+    \x09\x00\x00\x00\x00\x142025-01-02T03:04:05Z\x00\x00\x00\x02m1\x00\
+    \x00\x00\x00\x01\x00\x00\x00\x01a\x00\x00\x00\x00\x01r\x00\x00\x00\x01\x00\x00\x00\x01b\x00\x00\x00\x00\x01r\
+    \x00\x00\x00\x00\x01s\x00\x00\x00\x00\x03act\x00\x00\x00\x00\x00\x00\x00\x00\x00";
+
+/// The nine bytes of a new journal, the nine of a record's head, and the body: 2 + 185 + 86 bytes.
+const BODY_SIZE: u64 = 291;
+
+/// The totals and the size of a new end that makes this body's effects again.
+fn end_of(alloc: Global, body: &[u8]) -> Option<(Totals, u64)> {
+    match (new_core(alloc), read_body(alloc, body)) {
+        (Some(mut core), Ok(effects)) => {
+            let answer = replays(&mut core, effects);
+            let end = (core.totals(), core.size());
+            drop(core);
+            answer?.ok()?;
+            Some(end)
+        }
+        (core, effects) => {
+            drop(core);
+            drop(effects);
+            None
+        }
+    }
+}
+
+#[test]
+fn an_end_that_was_written_again_is_read_from_its_bytes(rt: HostRuntime) {
+    let totals = Totals {
+        submitted: 1,
+        receipted: 1,
+        failed: 0,
+        refused: 0,
+        inbox: 1,
+    };
+    assert_eq!(rt; end_of(rt.alloc(), BODY), Some((totals, BODY_SIZE)));
 }

@@ -8,13 +8,13 @@ ghost use Rattle.msh_core.specs.Small.{IsSmallReady};
 use super::replayed::replays;
 use super::said::summary;
 use super::steps::{End, Said, Step};
-use as4_codes::error_signal;
+use as4_codes::{error_signal, pull_request, receipt};
 use as4_effects::{Effect, delivery_fits, pairs};
 use as4_values::{
-    Load, MAX_MOMENT, Message, MessageId, NoMemory, Octets, PlainData, Seq, Signal, SignalBody,
-    Text, UserHeader, stamp_text,
+    Load, MAX_MOMENT, Message, MessageId, NoMemory, PlainData, Seq, Signal, SignalBody, Text,
+    UserHeader, stamp_text,
 };
-use as4_codes::{pull_request, receipt};
+use made_messages::octets;
 use msh_core::{Core, Event, Plan, Reply, SmallPlan, What};
 use pmodes::Modes;
 use std::alloc::Global;
@@ -67,10 +67,12 @@ pub struct Rig {
     pub(super) core: Core,
     pub(super) alloc: Global,
     nonce: u128,
-    /// The message that it pushed last.
-    pub(super) pushed: Option<Message>,
+    /// The user message that it sent last.
+    pub(super) sent: Option<Message>,
+    /// The request that it sent last.
+    asked: Option<Message>,
     /// An end that makes the same effects again, from their records.
-    follower: Core,
+    pub(super) follower: Option<Core>,
 }
 
 /// How many steps two new ends answer as they should, up to the first that they don't.
@@ -116,8 +118,9 @@ fn new_end(alloc: Global) -> Option<Rig> {
             core,
             alloc,
             nonce: 0,
-            pushed: None,
-            follower,
+            sent: None,
+            asked: None,
+            follower: Some(follower),
         }),
         (core, follower) => {
             drop(core);
@@ -143,7 +146,9 @@ impl Rig {
             Step::TickLightly(moment) => self.ticks_lightly(moment),
             Step::Take => self.says(What::Take),
             Step::Ask(mode) => self.asks(mode),
-            Step::Hear => self.hears(other),
+            Step::AskWith(mode, n) => self.asks_with(mode, n),
+            Step::Hear => self.hears(&other.sent),
+            Step::HearRequest => self.hears(&other.asked),
             Step::HearOfAnotherAction => self.hears_of_another_action(other),
             Step::Fill => self.fills(other),
             Step::Read(n) => self.says(What::Read { n }),
@@ -190,16 +195,24 @@ impl Rig {
     {
         let event = Event {
             stamp,
-            nonce: self.nonce,
+            nonce: self.next_nonce(),
             what,
         };
-        self.nonce = self.nonce.wrapping_add(1);
         let prepared = self.core.prepare(&event);
         drop(event);
         self.hands_out_if(prepared)
     }
 
-    fn hands_out_if(&mut self, prepared: Result<Plan, NoMemory>) -> Option<Said>
+    /// A nonce of its own.
+    pub(super) fn next_nonce(&mut self) -> u128
+        ensures { self.new.core ≡ self.old.core }
+    {
+        let nonce = self.nonce;
+        self.nonce = nonce.wrapping_add(1);
+        nonce
+    }
+
+    pub(super) fn hands_out_if(&mut self, prepared: Result<Plan, NoMemory>) -> Option<Said>
         requires { IfOk prepared (IsReady self.old.core) }
     {
         match prepared {
@@ -218,17 +231,25 @@ impl Rig {
     fn is_followed(&mut self, effects: &Seq<Effect>)
         ensures { self.new.core ≡ self.old.core }
     {
+        let Some(follower) = &mut self.follower else {
+            return;
+        };
         if let Ok(effects) = effects.try_clone(self.alloc) {
-            let made = replays(&mut self.follower, effects);
+            let made = replays(follower, effects);
             drop(made);
         }
     }
 
-    /// Whether the follower stands where this end does.
+    /// Whether the follower, where it has one, stands where this end does.
     fn has_its_follower(&self) -> bool {
-        self.core.totals() == self.follower.totals()
-            && self.core.size() == self.follower.size()
-            && self.core.moment() == self.follower.moment()
+        match &self.follower {
+            Some(follower) => {
+                self.core.totals() == follower.totals()
+                    && self.core.size() == follower.size()
+                    && self.core.moment() == follower.moment()
+            }
+            None => true,
+        }
     }
 
     fn hands_out(&mut self, plan: Plan) -> Said
@@ -240,12 +261,19 @@ impl Rig {
         said
     }
 
-    /// Keeps the message that is pushed.
+    /// Keeps the message or the request that is sent.
     fn keep(&mut self, reply: Reply) {
         match reply {
             Reply::Push { address, message } => {
                 drop(address);
-                drop(self.pushed.replace(message));
+                drop(self.sent.replace(message));
+            }
+            Reply::Request { address, message } => {
+                drop(address);
+                drop(self.asked.replace(message));
+            }
+            Reply::Answer(message) if matches!(message, Message::User { .. }) => {
+                drop(self.sent.replace(message));
             }
             other => drop(other),
         }
@@ -263,6 +291,12 @@ impl Rig {
     fn asks(&mut self, mode: &str) -> Option<Said> {
         let mode = Text::read(self.alloc, mode.as_bytes()).ok()?;
         self.says(What::Ask { mode })
+    }
+
+    #[tactic(auto, unfolding(exchange_model::specs::Coming::may_come))]
+    fn asks_with(&mut self, mode: &str, n: u64) -> Option<Said> {
+        let mode = Text::read(self.alloc, mode.as_bytes()).ok()?;
+        self.says(What::AskWith { mode, n })
     }
 
     fn ticks_lightly(&mut self, moment: u64) -> Option<Said> {
@@ -287,14 +321,17 @@ impl Rig {
     fn is_followed_lightly(&mut self, plan: &SmallPlan)
         ensures { self.new.core ≡ self.old.core }
     {
+        let Some(follower) = &mut self.follower else {
+            return;
+        };
         let reply = match plan {
             SmallPlan::Tick { moment } if *moment <= MAX_MOMENT => {
-                let plan = self.follower.plan_tick(*moment);
-                self.follower.commit_small(plan)
+                let plan = follower.plan_tick(*moment);
+                follower.commit_small(plan)
             }
             SmallPlan::Confirm { upto } => {
-                let plan = self.follower.plan_confirm(*upto);
-                self.follower.commit_small(plan)
+                let plan = follower.plan_confirm(*upto);
+                follower.commit_small(plan)
             }
             _ => Reply::Quiet,
         };
@@ -302,7 +339,7 @@ impl Rig {
     }
 
     fn submits_too_much(&mut self, mode: &str) -> Option<Said> {
-        let bytes = vec![in self.alloc; 0; 15_728_641].ok()?;
+        let bytes = vec![in self.alloc; 0; 62_914_561].ok()?;
         let said = self.submits(mode, bytes.as_slice());
         drop(bytes);
         said
@@ -330,17 +367,17 @@ impl Rig {
 }
 
 impl Rig {
-    /// The header of the message that it pushed last.
+    /// The header of the message that it sent last.
     fn header(&self) -> Option<&UserHeader> {
-        match &self.pushed {
+        match &self.sent {
             Some(Message::User { header, .. }) => Some(header),
             _ => None,
         }
     }
 
-    /// The message that the other end pushed last comes.
-    fn hears(&mut self, sender: &Rig) -> Option<Said> {
-        match sender.pushed.as_ref()?.try_clone(self.alloc) {
+    /// The message comes, where there is one.
+    fn hears(&mut self, message: &Option<Message>) -> Option<Said> {
+        match message.as_ref()?.try_clone(self.alloc) {
             Ok(message) => self.hears_message(message),
             Err(error) => {
                 drop(error);
@@ -376,7 +413,7 @@ impl Rig {
         self.hears_signal(signal)
     }
 
-    /// A receipt comes of the message that it pushed last, with a copy of its header or without.
+    /// A receipt comes of the message that it sent last, with a copy of its header or without.
     fn is_answered(&mut self, with_copy: bool) -> Option<Said> {
         let header = self.header()?;
         let signal = if with_copy {
@@ -401,7 +438,7 @@ impl Rig {
         self.hears_signal(signal)
     }
 
-    /// An error with this code comes, about the message that it pushed last.
+    /// An error with this code comes, about the message that it sent last.
     fn is_refused(&mut self, code: u16) -> Option<Said>
         requires { IsSome (error_row code) }
     {
@@ -410,7 +447,7 @@ impl Rig {
         self.hears_signal(signal)
     }
 
-    /// How the message that it pushed last stands.
+    /// How the message that it sent last stands.
     #[tactic(auto, unfolding(exchange_model::specs::Coming::may_come))]
     fn status(&mut self) -> Option<Said> {
         let id = self.header()?.id.try_clone(self.alloc).ok()?;
@@ -436,10 +473,6 @@ fn loads_of(alloc: Global, bytes: &[u8]) -> Option<Seq<Load>> {
             None
         }
     }
-}
-
-fn octets(alloc: Global, bytes: &[u8]) -> Option<Octets> {
-    Some(Octets::of(Vec::from_slice(alloc, bytes).ok()?))
 }
 
 /// A receipt of the message of this identifier, without a copy of its header.
@@ -477,7 +510,7 @@ fn receipt_for_another_action(alloc: Global, header: &UserHeader) -> Result<Sign
 
 /// Whether an end takes the message as an event.
 #[tactic(auto, unfolding(exchange_model::specs::Coming::may_come, exchange_model::specs::Coming::is_deliverable))]
-fn may_come(alloc: Global, message: &Message) -> bool
+pub fn may_come(alloc: Global, message: &Message) -> bool
     ensures { IsTrue result → IsTrue (may_come (What.Came message.now)) }
 {
     match message {
@@ -485,6 +518,6 @@ fn may_come(alloc: Global, message: &Message) -> bool
             let paired = pairs(alloc, header.parts.items(), payloads.items());
             matches!(paired, Ok(true)) && delivery_fits(header, payloads)
         }
-        Message::Signal(_) => true,
+        Message::Signal(_) | Message::Pair(_) => true,
     }
 }

@@ -11,7 +11,7 @@ pub fn summary(reply: &Reply) -> Said {
         Reply::Ticked { failed } => Said::Ticked(*failed),
         Reply::Push { .. } => Said::Push,
         Reply::Nothing => Said::Nothing,
-        Reply::Request { .. } => Said::Request,
+        Reply::Request { message, .. } => summary_of_request(message),
         Reply::Answer(Message::User { header, .. }) => Said::User(first_digit(header.id.bytes())),
         Reply::Answer(Message::Signal(signal)) => summary_of(&signal.body),
         Reply::Quiet => Said::Quiet,
@@ -26,8 +26,18 @@ pub fn summary(reply: &Reply) -> Said {
         Reply::Confirmed { upto } => Said::Confirmed(*upto),
         Reply::NoMode => Said::NoMode,
         Reply::TooLarge => Said::TooLarge,
-        Reply::Full { .. } => Said::Full,
+        Reply::Full { need, .. } => Said::Full(*need),
         _ => Said::Other,
+    }
+}
+
+fn summary_of_request(message: &Message) -> Said {
+    match message {
+        Message::Pair(pair) => match &pair.receipt.ref_to {
+            Some(id) => Said::RequestWith(first_digit(id.bytes())),
+            None => Said::Other,
+        },
+        _ => Said::Request,
     }
 }
 

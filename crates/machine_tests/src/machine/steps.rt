@@ -9,6 +9,8 @@ pub enum Said {
     Nothing,
     /// A pull request goes out.
     Request,
+    /// A pull request goes out, bundled with the receipt of the message whose identifier begins with this digit.
+    RequestWith(u8),
     /// A user message, whose identifier begins with this digit.
     User(u8),
     Receipt,
@@ -28,8 +30,8 @@ pub enum Said {
     Confirmed(u64),
     NoMode,
     TooLarge,
-    /// The journal has no room.
-    Full,
+    /// The journal has no room for so many bytes.
+    Full(u64),
     /// So many messages in the inbox, submissions with a receipt, or bytes in the journal.
     Count(u64),
     Other,
@@ -48,15 +50,19 @@ pub enum Step {
     Take,
     /// A pull request by this mode is asked for.
     Ask(&'static str),
-    /// The message comes that the other end pushed last.
+    /// The same, bundled with the receipt of the message of this number in the inbox.
+    AskWith(&'static str, u64),
+    /// The message comes that the other end sent last.
     Hear,
     /// The same with another action, for which there is no mode.
     HearOfAnotherAction,
-    /// Messages come until ten bytes are left in the journal, and all but the last are taken over.
+    /// The request comes that the other end sent last.
+    HearRequest,
+    /// Messages come until twenty bytes are left in the journal, and all but the last are taken over.
     Fill,
     /// A pull request for this channel comes.
     Pull(&'static str),
-    /// A receipt comes of the message that it pushed last.
+    /// A receipt comes of the message that it sent last.
     Receipt,
     /// The same, without a copy of the header.
     BareReceipt,
@@ -64,7 +70,7 @@ pub enum Step {
     OtherReceipt,
     /// A receipt comes of the message of this identifier.
     ReceiptOf(&'static str),
-    /// The error 0006, a warning, comes about the message that it pushed last.
+    /// The error 0006, a warning, comes about the message that it sent last.
     Warning,
     /// The error 0301, a failure, comes about it.
     Failure,
@@ -72,7 +78,7 @@ pub enum Step {
     Confirm(u64),
     /// The same, without memory.
     ConfirmLightly(u64),
-    /// How the message that it pushed last stands is asked.
+    /// How the message that it sent last stands is asked.
     Status,
     /// How the message of this identifier stands is asked.
     StatusOf(&'static str),

@@ -7,10 +7,10 @@ use Rattle.drill.proofs.generated.carry_both.Goals as goal
 
 pub carry-requires-2 : goal.carry-requires-2
 carry-requires-2 c =
-    let more = leads_events (carried c.args.counter name.B c.args.place) c.args.stage.now c.carry.new.stage c.in_ok-carry.ensures in
+    let more = leads_events (carried c.args.counter name.B c.args.place) c.args.state.now c.carry.new.state c.in_ok-carry.ensures in
     omega (arith, more, carried_few c.args.counter name.B c.args.place)
 
 pub returns : goal.returns
 returns c =
-    both_carried c.carry-2.result c.args.counter c.args.place c.args.answer c.args.stage.now c.carry.new.stage c.carry-2.new.stage
+    both_carried c.carry-2.result c.args.counter c.args.place c.args.answer c.args.state.now c.carry.new.state c.carry-2.new.state
     c.if-counter-eq2.false c.in_ok-carry.ensures c.carry-2.ensures

@@ -6,10 +6,10 @@ use Rattle.drill.proofs.generated.play_rounds.Given as goal
 abbrev pub invariant-rounds : goal.invariant-rounds
 invariant-rounds l = record {
   within : l.round ≤ 11;
-  counter : l.counter ≤ 2 * l.stage.events;
-  handed : handed l.stage ≤ 1000;
-  few : l.stage.events ≤ 1000 + l.round * 5002;
-  on : RoundsOn l.fn.stage l.round l.counter l.stage;
+  counter : l.counter ≤ 2 * l.state.events;
+  handed : handed l.state ≤ 1000;
+  few : l.state.events ≤ 1000 + l.round * 5002;
+  on : RoundsOn l.fn.state l.round l.counter l.state;
 }
 
 abbrev pub decreases-rounds : goal.decreases-rounds

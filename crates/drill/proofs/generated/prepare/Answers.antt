@@ -9,4 +9,4 @@ pub returns-clause-leads : goal.returns-clause-leads
 returns-clause-leads c =
     leads_more c.submit_all.result (line.Mode invoice Push 10 3000 ∷ []) (submissions c.args.seed c.args.seed c.args.count)
     (line.Mode invoice Push 10 3000 ∷ submissions c.args.seed c.args.seed c.args.count)
-    c.args.stage.now c.name_mode.new.stage c.submit_all.new.stage refl c.in_ok-name_mode.ensures c.submit_all.ensures.leads
+    c.args.state.now c.name_mode.new.state c.submit_all.new.state refl c.in_ok-name_mode.ensures c.submit_all.ensures.leads

@@ -1,6 +1,6 @@
 use Rattle.std.proofs.Common.{◌∷◌, subst}
 use Rattle.drill.specs.Generated.{IsGenerated, Leads, Rounds, invoice, submissions, ticks_a}
-use Rattle.drill.specs.Transcript.{Stage, new_stage}
+use Rattle.drill.specs.Transcript.{DrillState, new_state}
 use Rattle.drill_script.specs.declared.line.Line.TheVariants as line
 use Rattle.drill_script.specs.declared.line.Way.TheVariants.{Push}
 use Rattle.drill.proofs.GeneratedLemmas.{on_ok}
@@ -9,10 +9,10 @@ use Rattle.drill.proofs.generated.run.Goals as goal
 pub returns : goal.returns
 unfolding IsGenerated
 returns c =
-    let begun : Leads (line.Mode invoice Push 10 3000 ∷ submissions c.args.seed c.args.seed c.args.count) new_stage c.prepare.new.stage =
-    subst (λ (s : Stage). Leads (line.Mode invoice Push 10 3000 ∷ submissions c.args.seed c.args.seed c.args.count) s c.prepare.new.stage)
+    let begun : Leads (line.Mode invoice Push 10 3000 ∷ submissions c.args.seed c.args.seed c.args.count) new_state c.prepare.new.state =
+    subst (λ (s : DrillState). Leads (line.Mode invoice Push 10 3000 ∷ submissions c.args.seed c.args.seed c.args.count) s c.prepare.new.state)
     c.requires.new c.in_ok-prepare.ensures.leads in
     on_ok c.run_on.result
-    ((done : Stage) × Rounds 11 0 0 c.prepare.new.stage done × Leads (ticks_a 33000) done c.run_on.new.stage)
-    (IsGenerated c.args.seed c.args.count c.run_on.new.stage)
-    (λ on. (c.prepare.new.stage, on.0, begun, on.1, on.2)) c.run_on.ensures
+    ((done : DrillState) × Rounds 11 0 0 c.prepare.new.state done × Leads (ticks_a 33000) done c.run_on.new.state)
+    (IsGenerated c.args.seed c.args.count c.run_on.new.state)
+    (λ on. (c.prepare.new.state, on.0, begun, on.1, on.2)) c.run_on.ensures

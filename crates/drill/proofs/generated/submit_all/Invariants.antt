@@ -5,7 +5,7 @@ use Rattle.drill.proofs.generated.submit_all.Given as goal
 abbrev pub invariant-messages : goal.invariant-messages
 invariant-messages l = record {
   within : l.sent ≤ l.fn.count;
-  so_far : SubmitsSoFar l.fn.seed l.fn.stage l.sent l.number l.stage;
+  so_far : SubmitsSoFar l.fn.seed l.fn.state l.sent l.number l.state;
 }
 
 abbrev pub decreases-messages : goal.decreases-messages

@@ -6,11 +6,11 @@ use Rattle.drill.proofs.generated.take_all.Given as goal
 
 abbrev pub invariant-takes : goal.invariant-takes
 invariant-takes l = record {
-  counter : l.now ≤ 2 * l.stage.events;
-  taken : TakenSome l.fn.counter l.fn.stage l.now l.stage;
-  handed : handed l.stage ≤ handed l.fn.stage;
-  few : l.stage.events + 5 * to_push l.stage.world.left.end ≤ l.fn.stage.events + 5 * to_push l.fn.stage.world.left.end;
+  counter : l.now ≤ 2 * l.state.events;
+  taken : TakenSome l.fn.counter l.fn.state l.now l.state;
+  handed : handed l.state ≤ handed l.fn.state;
+  few : l.state.events + 5 * to_push l.state.world.left.end ≤ l.fn.state.events + 5 * to_push l.fn.state.world.left.end;
 }
 
 abbrev pub decreases-takes : goal.decreases-takes
-decreases-takes l = events_limit - l.stage.events
+decreases-takes l = events_limit - l.state.events

@@ -9,10 +9,10 @@ pub play_one-requires-clause-short : goal.play_one-requires-clause-short
 play_one-requires-clause-short c = take_short
 
 pub play_one-requires-clause-right : goal.play_one-requires-clause-right
-play_one-requires-clause-right c = take_right c.args.stage.now
+play_one-requires-clause-right c = take_right c.args.state.now
 
 pub returns : goal.returns
 returns c = (
   c.in_ok-play_one.ensures,
-  pushed_is c.said-before.result c.said.result c.args.stage.now c.play_one.new.stage c.in_ok-play_one.ensures c.said-before.ensures c.said.ensures,
+  pushed_is c.said-before.result c.said.result c.args.state.now c.play_one.new.state c.in_ok-play_one.ensures c.said-before.ensures c.said.ensures,
 )

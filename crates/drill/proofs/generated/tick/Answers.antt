@@ -9,4 +9,4 @@ pub play_one-requires-clause-short : goal.play_one-requires-clause-short
 play_one-requires-clause-short c = tick_short c.args.moment (omega arith)
 
 pub play_one-requires-clause-right : goal.play_one-requires-clause-right
-play_one-requires-clause-right c = tick_right c.args.moment c.args.stage.now c.requires.dated
+play_one-requires-clause-right c = tick_right c.args.moment c.args.state.now c.requires.dated

@@ -1,16 +1,16 @@
 use Rattle.std.proofs.Common.{sym, subst}
 use Rattle.exchange_model.specs.DeliveredOnce.{BothDeliverOnce}
 use Rattle.exchange_model.specs.World.{World}
-use Rattle.drill.specs.Transcript.{new_stage}
+use Rattle.drill.specs.Transcript.{new_state}
 use Rattle.drill.proofs.WorldLemmas.{lines_lead}
 use Rattle.drill.proofs.laws.a_drill_delivers_once.Goals as goal
 
 pub returns : goal.returns
-returns c lines text stage plays =
-    let leads = lines_lead lines new_stage stage text plays in
+returns c lines text state plays =
+    let leads = lines_lead lines new_state state text plays in
     record {
-      acts = leads.acts;
+      all = leads.all;
       may = leads.may;
       leads = sym leads.after;
-      once = subst (λ (w : World). BothDeliverOnce leads.acts w) (sym leads.after) (c.messages_are_delivered_once.ensures leads.acts leads.may);
+      once = subst (λ (w : World). BothDeliverOnce leads.all w) (sym leads.after) (c.messages_are_delivered_once.ensures leads.all leads.may);
     }

@@ -6,7 +6,7 @@ use Rattle.drill.proofs.script.drill.Given as goal
 abbrev pub invariant-lines : goal.invariant-lines
 invariant-lines g l = record {
   within : l.played ≤ lines_limit;
-  so_far : SoFar l.stage l.reader l.played
+  so_far : SoFar l.state l.reader l.played
       (flow (g.S.Source.left l.fn.source) (g.K.Sink.taken l.fn.sink) (g.S.Source.faults l.fn.source) (g.K.Sink.faults l.fn.sink))
       (flow (g.S.Source.left l.source) (g.K.Sink.taken l.sink) (g.S.Source.faults l.source) (g.K.Sink.faults l.sink));
 }

@@ -7,49 +7,49 @@ use Rattle.drill_script.specs.Lacking.{parted}
 use Rattle.drill_script.specs.LineText.{line_text}
 use Rattle.drill.proofs.script.play_line.Goals as goal
 
-pub returns-in-Ok-send_all-clause-goes : goal.returns-in-Ok-send_all-clause-goes
-returns-in-Ok-send_all-clause-goes g c start held left reads s =
+pub returns-in-Ok-send_all-clause-so_far : goal.returns-in-Ok-send_all-clause-so_far
+returns-in-Ok-send_all-clause-so_far g c start held left reads s =
     let text : c.bytes.result.now ≡ c.in-Ok.text = cc in
-    let turn : Turn c.args.line.now c.in-Ok.text c.args.stage.now c.play.new.self =
+    let turn : Turn c.args.line.now c.in-Ok.text c.args.state.now c.play.new.self =
     record { right = c.in-Ok.ensures.right.0; one_more = c.in-Ok.ensures.right.1; plays = c.in-Ok.ensures.plays } in
     let few : c.args.played < lines_limit = omega arith in
-    so_far_played c.args.line.now c.in-Ok.text c.args.stage.now c.play.new.self held c.args.played start
+    so_far_played c.args.line.now c.in-Ok.text c.args.state.now c.play.new.self held c.args.played start
     (flow left (g.K.Sink.taken c.args.sink.now) reads (g.K.Sink.faults c.args.sink.now))
     (g.K.Sink.taken c.send_all.new.sink) (g.K.Sink.faults c.send_all.new.sink) s turn few
     (c.in-Ok-send_all.ensures.ok ∙ ap (behind (g.K.Sink.taken c.args.sink.now)) text)
     c.in-Ok-send_all.ensures.quiet
 
-pub returns-in-Ok-clause-goes : goal.returns-in-Ok-clause-goes
-returns-in-Ok-clause-goes g c start held left reads s =
+pub returns-in-Ok-clause-so_far : goal.returns-in-Ok-clause-so_far
+returns-in-Ok-clause-so_far g c start held left reads s =
     let text : c.bytes.result.now ≡ c.in-Ok.text = cc in
-    let turn : Turn c.args.line.now c.in-Ok.text c.args.stage.now c.play.new.self =
+    let turn : Turn c.args.line.now c.in-Ok.text c.args.state.now c.play.new.self =
     record { right = c.in-Ok.ensures.right.0; one_more = c.in-Ok.ensures.right.1; plays = c.in-Ok.ensures.plays } in
     let few : c.args.played < lines_limit = omega arith in
     let front : TakesFront c.in-Ok.text (g.K.Sink.taken c.args.sink.now) (g.K.Sink.taken c.send_all.new.sink) =
     subst (λ (l : List ℕ). TakesFront l (g.K.Sink.taken c.args.sink.now) (g.K.Sink.taken c.send_all.new.sink)) text c.in-Err.ensures.front in
-    ends_unwritten c.a_drill_delivers_once.ensures c.args.line.now c.in-Ok.text c.args.stage.now c.play.new.self held c.args.played start
+    ends_unwritten c.a_drill_delivers_once.ensures c.args.line.now c.in-Ok.text c.args.state.now c.play.new.self held c.args.played start
     (flow left (g.K.Sink.taken c.args.sink.now) reads (g.K.Sink.faults c.args.sink.now))
     (g.K.Sink.taken c.send_all.new.sink) (g.K.Sink.faults c.send_all.new.sink) s turn few front c.in-Err.ensures.err
 
-pub returns-in-Err-Wrong-clause-goes : goal.returns-in-Err-Wrong-clause-goes
-returns-in-Err-Wrong-clause-goes g c start held left reads s =
-    ends_wrong c.a_drill_delivers_once.ensures c.args.line.now c.args.stage.now held c.args.played start
+pub returns-in-Err-Wrong-clause-so_far : goal.returns-in-Err-Wrong-clause-so_far
+returns-in-Err-Wrong-clause-so_far g c start held left reads s =
+    ends_wrong c.a_drill_delivers_once.ensures c.args.line.now c.args.state.now held c.args.played start
     (flow left (g.K.Sink.taken c.args.sink.now) reads (g.K.Sink.faults c.args.sink.now)) s c.requires.spelled
     (c.in-Err-Wrong.ensures.wrong (cc))
 
-pub returns-then-played-eq-MAX_LINES-clause-goes : goal.returns-then-played-eq-MAX_LINES-clause-goes
-returns-then-played-eq-MAX_LINES-clause-goes g c start held left reads s =
-    ends_full c.a_drill_delivers_once.ensures c.args.line.now c.args.stage.now held c.args.played start
+pub returns-then-played-eq-MAX_LINES-clause-so_far : goal.returns-then-played-eq-MAX_LINES-clause-so_far
+returns-then-played-eq-MAX_LINES-clause-so_far g c start held left reads s =
+    ends_full c.a_drill_delivers_once.ensures c.args.line.now c.args.state.now held c.args.played start
     (flow left (g.K.Sink.taken c.args.sink.now) reads (g.K.Sink.faults c.args.sink.now)) s (omega arith)
 
-pub returns-in-Err-TooMany-clause-goes : goal.returns-in-Err-TooMany-clause-goes
-returns-in-Err-TooMany-clause-goes g c start held left reads s =
+pub returns-in-Err-TooMany-clause-so_far : goal.returns-in-Err-TooMany-clause-so_far
+returns-in-Err-TooMany-clause-so_far g c start held left reads s =
     let many = c.in-Err-TooMany.ensures.too_many (cc) in
     let few : c.args.played < lines_limit = omega arith in
-    ends_too_many c.a_drill_delivers_once.ensures c.args.line.now c.args.stage.now held c.args.played start
+    ends_too_many c.a_drill_delivers_once.ensures c.args.line.now c.args.state.now held c.args.played start
     (flow left (g.K.Sink.taken c.args.sink.now) reads (g.K.Sink.faults c.args.sink.now)) s many.0 many.1 few
 
-pub returns-clause-goes : goal.returns-clause-goes
-returns-clause-goes g c start held left reads s =
-    ends_without_memory c.a_drill_delivers_once.ensures c.args.stage.now (parted 10 (line_text c.args.line.now) held) c.args.played start
+pub returns-clause-so_far : goal.returns-clause-so_far
+returns-clause-so_far g c start held left reads s =
+    ends_without_memory c.a_drill_delivers_once.ensures c.args.state.now (parted 10 (line_text c.args.line.now) held) c.args.played start
     (flow left (g.K.Sink.taken c.args.sink.now) reads (g.K.Sink.faults c.args.sink.now)) s
