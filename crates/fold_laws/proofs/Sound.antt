@@ -91,7 +91,7 @@ first_fits true None e = (refl, refl)
 first_fits true (Some n) e = absurd cc
 first_fits false o e = absurd cc
 
-sound_all : (effects : List Effect) (end : End) → first_unfit effects end ≡ None → IsSound end → IsSound (after_all effects end)
+pub sound_all : (effects : List Effect) (end : End) → first_unfit effects end ≡ None → IsSound end → IsSound (after_all effects end)
 sound_all [] end fits sound = sound
 sound_all (e ∷ effects) end fits sound =
     let both = first_fits (is_fit e end) (first_unfit effects (after e end)) fits in
