@@ -1,5 +1,6 @@
 mod arrivals;
 mod filling;
+mod folded;
 mod replayed;
 mod rig;
 mod said;

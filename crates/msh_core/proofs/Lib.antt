@@ -1,3 +1,5 @@
+pub mod FoldLemmas
+pub mod FoldSizeLemmas
 pub mod PlanLemmas
 pub mod PreparedLemmas
 pub mod RecordLemmas

@@ -1,9 +1,16 @@
 -- Effects are made again one after another, until one doesn't fit.
-use Rattle.std.proofs.Common.{◌≡◌, ℕ, suc, ◌+◌, List, ◌∷◌, Bool, true, false, Option, Some, None, option_map, length, refl, ap, ◌∙◌, arith}
+use Rattle.std.proofs.Common.{◌≡◌, ℕ, suc, ◌+◌, ◌<◌, ◌≤◌, List, [], ◌∷◌, Bool, true, false, Option, Some, None, option_map, length, refl, sym, ap, subst, ◌∙◌, arith}
 use Rattle.std.specs.Prelude.{if◌then◌else◌}
+use Rattle.std.proofs.lemmas.Bool.Decides.{nat_tests}
 use Rattle.as4_effects.specs.declared.effect.Effect.{Effect}
-use Rattle.exchange_model.specs.Apply.{after, after_all, first_unfit, is_fit}
+use Rattle.as4_effects.specs.declared.effect.Effect.TheVariants as effect
+use Rattle.as4_effects.specs.declared.effect.Tick.{Tick}
+use Rattle.exchange_model.specs.Apply.{after, after_all, applied, first_unfit, is_fit, record_len}
 use Rattle.exchange_model.specs.End.{End}
+use Rattle.fold_laws.specs.Reached.{AreReplayed, IsReached}
+use Rattle.fold_laws.proofs.ReachedLemmas.{reached_applied, reached_resized}
+use Rattle.msh_core.specs.Folding.{CanBeReplayed}
+use Rattle.msh_core.proofs.RecordLemmas.{size_after}
 
 -- from an end on these effects lead to the same end, and the first unfit one of all stands so many places before
 pub record IsBehind (effects : List Effect) (start : End) (at : ℕ) (rest : List Effect) (end : End) : Type 0 where
@@ -19,6 +26,28 @@ chosen : (b : Bool) (x : Option ℕ) → b ≡ true → (if b then option_map su
 chosen true x e = refl
 chosen false x e = absurd cc
 
+-- behind an effect that fits an end stays reached, whatever its journal's size
+pub reached_after : (e : Effect) (end : End) → is_fit e end ≡ true → IsReached end → IsReached (after e end)
+unfolding applied
+reached_after e end fits reached =
+    reached_resized (applied (e ∷ []) end) (after e end).size
+    (reached_applied end (e ∷ []) reached (chosen (is_fit e end) None fits))
+
+-- so it does behind a tick and behind a confirmation, whose records have 20 bytes
+pub tick_reached : (end mid new : End) (tick : Tick) → end.moment < tick.moment → mid ≡ after (effect.Ticked tick) end
+    → new ≡ record mid { size = mid.size + 20 } → IsReached end → IsReached new
+unfolding is_fit
+tick_reached end mid new tick later makes grows reached =
+    subst IsReached (sym grows) (reached_resized mid (mid.size + 20)
+    (subst IsReached (sym makes) (reached_after (effect.Ticked tick) end (grind (arith, nat_tests)) reached)))
+
+pub confirm_reached : (end mid new : End) (upto : ℕ) → end.confirmed ≤ upto → upto < length end.inbox → mid ≡ after (effect.Confirmed upto) end
+    → new ≡ record mid { size = mid.size + 20 } → IsReached end → IsReached new
+unfolding is_fit
+confirm_reached end mid new upto left within makes grows reached =
+    subst IsReached (sym grows) (reached_resized mid (mid.size + 20)
+    (subst IsReached (sym makes) (reached_after (effect.Confirmed upto) end (grind (arith, nat_tests)) reached)))
+
 -- one more is made
 pub one_made : (effects : List Effect) (start : End) (at : ℕ) (e : Effect) (rest : List Effect) (end : End)
     → IsBehind effects start at (e ∷ rest) end → is_fit e end ≡ true → IsBehind effects start (at + 1) rest (after e end)
@@ -28,3 +57,25 @@ one_made effects start at e rest end behind fits = record {
       ∙ moved_on at (first_unfit rest (after e end));
   counted = let all : at + length (e ∷ rest) ≡ length effects = behind.counted in omega arith;
 }
+
+-- a journal grows by the record of one effect, and so by those of all
+one_size : (e : Effect) (end : End) → (applied (e ∷ []) end).size ≡ end.size + record_len (e ∷ [])
+unfolding applied
+one_size e end = ap (λ n. n + record_len (e ∷ [])) (size_after e end)
+
+replayed_grows : (effects : List Effect) (start end : End) → AreReplayed effects start end → start.size ≤ end.size
+replayed_grows [] start end way = let same : start.size ≡ end.size = ap (λ (e : End). e.size) way in omega (arith, same)
+replayed_grows (e ∷ effects) start end way =
+    let one : (applied (e ∷ []) start).size ≡ start.size + record_len (e ∷ []) = one_size e start in
+    let rest : (applied (e ∷ []) start).size ≤ end.size = replayed_grows effects (applied (e ∷ []) start) end way.1 in omega (arith, one, rest)
+
+-- where the journal has room in the end, each record on the way has room
+pub can_be_replayed : (effects : List Effect) (start end : End) → AreReplayed effects start end → end.size ≤ 4294967296 → CanBeReplayed effects start end
+can_be_replayed [] start end way room = way
+can_be_replayed (e ∷ effects) start end way room =
+    let one : (applied (e ∷ []) start).size ≡ start.size + record_len (e ∷ []) = one_size e start in
+    let rest : (applied (e ∷ []) start).size ≤ end.size = replayed_grows effects (applied (e ∷ []) start) end way.1 in (
+      chosen (is_fit e start) None way.0,
+      omega (arith, one, rest, room),
+      can_be_replayed effects (applied (e ∷ []) start) end way.1 room,
+    )

@@ -2,6 +2,7 @@
 #![tactic(auto)]
 
 mod applying;
+mod folding;
 mod machine;
 mod plan;
 mod replaying;
@@ -9,6 +10,7 @@ mod small;
 
 pub use end_tables::Totals;
 pub use exchange_model::{Event, Outcome, Reply, What};
+pub use folding::a_fold_can_be_replayed;
 pub use machine::{Core, MAX_JOURNAL};
 pub use plan::Plan;
 pub use replaying::ReplayRefusal;

@@ -31,21 +31,26 @@ const _: () = prove!(MAX_JOURNAL == 4294967296);
 /// One end with its processing modes. It asks no clock, disk or peer: what happens comes in as events.
 #[derive(Drop)]
 pub struct Core {
-    alloc: Global,
+    pub(crate) alloc: Global,
     modes: Modes,
     pub(crate) tables: EndTables,
 }
 
 impl Model for Core {
+    ghost use Rattle.fold_laws.specs.Reached.{IsReached};
     ghost use Rattle.msh_core.specs.Machine.{Machine};
 
     ghost Value = { Machine };
 
     ghost view = { λ core. record { end = core.tables.end; modes = core.modes; rooms = core.tables.rooms } };
+
+    // Fit effects have led to the end.
+    ghost invariant = { λ core. IsReached core.tables.end };
 }
 
 impl Core {
     /// An end to which nothing happened yet.
+    #[tactic(auto, using(fold_laws::proofs::ReachedLemmas::reached_first))]
     pub fn new(alloc: Global, modes: Modes) -> Core
         ensures { result ≡ record { end = new_tables.end; modes = modes; rooms = new_tables.rooms } }
     {

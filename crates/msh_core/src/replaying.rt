@@ -3,6 +3,7 @@ ghost use Rattle.std.specs.Prelude.{◌≡◌, ◌+◌, ◌≤◌, ℕ, Err, IfO
 ghost use Rattle.as4_effects.specs.Effects.{effects_limit};
 ghost use Rattle.end_tables.specs.Rooms.{HasRoom, queue_for};
 ghost use Rattle.exchange_model.specs.Apply.{after, after_all, applied, first_unfit, is_fit, record_len};
+ghost use Rattle.fold_laws.specs.Reached.{IsReached};
 ghost use Rattle.msh_core.specs.declared.replaying.ReplayRefusal.TheVariants.{NoMemory as NoMemoryLeft};
 
 use crate::machine::{Core, MAX_JOURNAL, record_len};
@@ -52,6 +53,7 @@ fn replay_all(tables: &mut EndTables, effects: Seq<Effect>) -> Result<(), Replay
     ensures fit { OnOk result (first_unfit effects tables.old.end ≡ None) }
     ensures unfit { (index : ℕ) → result ≡ Err (ReplayRefusal.Unfit index) → first_unfit effects tables.old.end ≡ Some index }
     ensures first { first_unfit effects tables.old.end ≡ Some 0 → result ≡ Err (ReplayRefusal.Unfit 0) }
+    ensures reached { IsReached tables.old.end → IsReached tables.new.end }
 {
     let mut index = 0;
     for effect in effects.into_vec() {
@@ -68,7 +70,8 @@ fn replay_all(tables: &mut EndTables, effects: Seq<Effect>) -> Result<(), Replay
 /// Makes an effect that fits.
 fn replay_one(tables: &mut EndTables, effect: Effect) -> Result<(), NoMemory>
     requires { IsTrue (is_fit effect tables.old.end) }
-    ensures { OnOk result (tables.new.end ≡ after effect tables.old.end) }
+    ensures ok { OnOk result (tables.new.end ≡ after effect tables.old.end) }
+    ensures reached { IsReached tables.old.end → IsReached tables.new.end }
 {
     match room_for_one(tables, &effect) {
         Ok(queue) => {

@@ -10,7 +10,7 @@ use as4_values::MAX_MOMENT;
 use exchange_model::{Reply, What};
 
 /// How many bytes the record of a tick or of a confirmation has.
-const SMALL_RECORD: u64 = 20;
+pub(crate) const SMALL_RECORD: u64 = 20;
 
 /// What an end is about to do at a tick or a confirmation.
 #[derive(Drop)]

@@ -5,6 +5,7 @@ ghost use Rattle.as4_codes.specs.ErrorCodes.{error_row};
 ghost use Rattle.msh_core.specs.Machine.{IsReady};
 ghost use Rattle.msh_core.specs.Small.{IsSmallReady};
 
+use super::folded::is_given_back;
 use super::replayed::replays;
 use super::said::summary;
 use super::steps::{End, Said, Step};
@@ -104,7 +105,7 @@ fn right_steps_of(a: &mut Rig, b: &mut Rig, steps: &[(End, Step, Said)]) -> usiz
             return place;
         }
     }
-    if a.has_its_follower() && b.has_its_follower() {
+    if a.is_well_kept() && b.is_well_kept() {
         steps.len()
     } else {
         0
@@ -238,6 +239,11 @@ impl Rig {
             let made = replays(follower, effects);
             drop(made);
         }
+    }
+
+    /// Whether its records, and its fold, lead where it stands.
+    fn is_well_kept(&self) -> bool {
+        self.has_its_follower() && is_given_back(self.alloc, &self.core)
     }
 
     /// Whether the follower, where it has one, stands where this end does.

@@ -1,6 +1,5 @@
-use Rattle.std.proofs.Common.{◌≡◌, ◌<◌, length, sym, arith}
+use Rattle.std.proofs.Common.{◌<◌, length, sym, arith}
 use Rattle.std.proofs.lemmas.Result.{on_ok_weaker}
-use Rattle.end_tables.specs.Rooms.{HasRoom, IsThere}
 use Rattle.msh_core.proofs.PlanLemmas.{last_has, last_there}
 use Rattle.msh_core.proofs.applying.reserve_last.Goals as goal
 

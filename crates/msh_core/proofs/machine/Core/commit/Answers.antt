@@ -1,9 +1,11 @@
-use Rattle.std.proofs.Common.{◌≡◌, ◌==◌, length, true, false, ap, sym, ◌∙◌}
-use Rattle.exchange_model.specs.Apply.{applied}
+use Rattle.std.proofs.Common.{◌≡◌, ◌==◌, None, length, true, false, ap, subst, sym, ◌∙◌}
+use Rattle.exchange_model.specs.Apply.{applied, first_unfit}
 use Rattle.exchange_model.specs.End.{End}
 use Rattle.exchange_model.specs.Table.{has_room}
 use Rattle.msh_core.specs.Machine.{Machine}
 use Rattle.msh_core.proofs.RecordLemmas.{grown, rests, room_to_grow}
+use Rattle.fold_laws.specs.Reached.{IsReached}
+use Rattle.fold_laws.proofs.ReachedLemmas.{reached_applied}
 use Rattle.msh_core.proofs.machine.Core.commit.Goals as goal
 
 pub grow-requires : goal.grow-requires
@@ -31,3 +33,13 @@ returns-clause-end c =
     c.apply_all.ensures (rw c.record_len-len.ensures.value at c.grow.ensures.end)
     ∙ ap (λ (e : End). applied effects e) same_end
     ∙ ap (λ l. applied l c.args.self.now.end) c.into_parts-effects.ensures.effects
+
+pub invariant_of-self : goal.invariant_of-self
+invariant_of-self c =
+    let effects = c.into_parts-effects.result.0 in
+    let same_end : c.self.inside.tables.end ≡ c.args.self.now.end = ap (λ (m : Machine). m.end) c.self.view_is in
+    let fits : first_unfit effects c.self.inside.tables.end ≡ None = rw (same_end, c.into_parts-effects.ensures.effects) c.requires.stands.fit in
+    let some : (length effects == 0) ≡ false = rw (sym c.items.ensures) (sym c.is_empty.ensures ∙ c.if-is_empty.false) in
+    subst IsReached (sym (grown effects c.self.inside.tables.end c.apply_all.new.tables.end c.grow.new.self.end some c.apply_all.ensures
+    (rw c.record_len-len.ensures.value at c.grow.ensures.end)))
+    (reached_applied c.self.inside.tables.end effects c.self.invariant fits)

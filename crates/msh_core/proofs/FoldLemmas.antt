@@ -1,0 +1,242 @@
+-- An end's fold by places: what is found for a place of its parts stands in a fold of it there.
+use Rattle.std.proofs.Common.{◌≡◌, ℕ, zero, suc, ◌+◌, ◌-◌, ◌<◌, ◌≤◌, min, List, [], ◌∷◌, ◌++◌, ◌⊎◌, inl, inr, Option, Some, None, true, option_map, length, take, drop, refl, sym, ap, subst, ◌∙◌, arith}
+use Rattle.std.specs.List.{Contains, slice_get}
+use Rattle.std.proofs.lemmas.Option.{get_or_from_slice_get, same_Some, slice_get_within}
+use Rattle.std.proofs.lemmas.List.{length-append, length-drop, length-take}
+use Rattle.as4_values.specs.declared.header.UserHeader.{UserHeader}
+use Rattle.as4_values.specs.declared.payload.Payload.{Payload}
+use Rattle.as4_effects.specs.Pairing.{pair}
+use Rattle.as4_effects.specs.Sound.{delivered_body, fits_an_effect, kept_body}
+use Rattle.as4_effects.specs.declared.effect.Effect.{Effect}
+use Rattle.as4_effects.specs.declared.effect.Effect.TheVariants as effect
+use Rattle.as4_effects.specs.declared.effect.Tick.{Tick}
+use Rattle.exchange_model.specs.End.{End}
+use Rattle.exchange_model.specs.Fold.{ItemByItem, CarriesOver, KeepsHeader, DeliversAgain, SetsClock, IsFolded}
+use Rattle.exchange_model.specs.Numbered.{AreNumberedFrom}
+use Rattle.exchange_model.specs.Questions.{sent_at}
+use Rattle.exchange_model.specs.declared.inbox_entry.InboxEntry.{InboxEntry}
+use Rattle.exchange_model.proofs.NumberedLemmas.{place}
+use Rattle.fold_laws.specs.Reached.{IsReached}
+use Rattle.fold_laws.specs.Written.{CanBeWritten}
+use Rattle.fold_laws.proofs.SomeFold.{reached_written, some_fold}
+use Rattle.msh_core.specs.Folding.{OneFor}
+
+-- as many items as there are things
+pub length_each : {X Y : Type 0} (is : X → Y → Type 0) (xs : List X) (ys : List Y) → ItemByItem is xs ys → length xs ≡ length ys
+length_each is [] [] each = refl
+length_each is [] (y ∷ ys) each = absurd each
+length_each is (x ∷ xs) [] each = absurd each
+length_each is (x ∷ xs) (y ∷ ys) each = ap suc (length_each is xs ys each.1)
+
+-- another item of the same thing may stand at its place
+pub with_at : {X Y : Type 0} (is : X → Y → Type 0) (xs : List X) (ys : List Y) (n : ℕ) (found : Option Y) → ItemByItem is xs ys
+    → OneFor is (slice_get xs n) found → (zs : List Y) × ItemByItem is xs zs × (found ≡ slice_get zs n)
+with_at is [] [] n None each one = ([], each, refl)
+with_at is [] (y ∷ ys) n None each one = absurd each
+with_at is [] ys n (Some y) each one = absurd one
+with_at is (x ∷ xs) [] n found each one = absurd each
+with_at is (x ∷ xs) (y ∷ ys) zero None each one = absurd one
+with_at is (x ∷ xs) (y ∷ ys) zero (Some z) each one = (z ∷ ys, (one, each.1), refl)
+with_at is (x ∷ xs) (y ∷ ys) (suc n) found each one =
+    let rest = with_at is xs ys n found each.1 one in (y ∷ rest.0, (each.0, rest.1), rest.2)
+
+-- an item of two lists, one behind the other
+pub slice_get_left : {X : Type 0} (a b : List X) (n : ℕ) → n < length a → slice_get (a ++ b) n ≡ slice_get a n
+slice_get_left [] b n within = absurd (omega (arith, within))
+slice_get_left (x ∷ a) b zero within = refl
+slice_get_left (x ∷ a) b (suc n) within = slice_get_left a b n (omega (arith, within))
+
+pub slice_get_right : {X : Type 0} (a b : List X) (n : ℕ) → slice_get (a ++ b) (length a + n) ≡ slice_get b n
+slice_get_right [] b n = ap (slice_get b) (let e : 0 + n ≡ n = omega arith in e)
+slice_get_right (x ∷ a) b n =
+    ap (slice_get (x ∷ a ++ b)) (let e : suc (length a) + n ≡ suc (length a + n) = omega arith in e) ∙ slice_get_right a b n
+
+pub slice_get_taken : {X : Type 0} (xs : List X) (count n : ℕ) → n < count → slice_get (take count xs) n ≡ slice_get xs n
+slice_get_taken [] zero n within = absurd (omega (arith, within))
+slice_get_taken [] (suc count) n within = refl
+slice_get_taken (x ∷ xs) zero n within = absurd (omega (arith, within))
+slice_get_taken (x ∷ xs) (suc count) zero within = refl
+slice_get_taken (x ∷ xs) (suc count) (suc n) within = slice_get_taken xs count n (omega (arith, within))
+
+pub slice_get_dropped : {X : Type 0} (xs : List X) (count n : ℕ) → slice_get (drop count xs) n ≡ slice_get xs (count + n)
+slice_get_dropped xs zero n = ap (slice_get xs) (let e : n ≡ 0 + n = omega arith in e)
+slice_get_dropped [] (suc count) n = refl
+slice_get_dropped (x ∷ xs) (suc count) n =
+    slice_get_dropped xs count n ∙ ap (slice_get (x ∷ xs)) (let e : suc (count + n) ≡ suc count + n = omega arith in e)
+
+-- found at a place of an end's fold
+abbrev pub IsFoundAt : End → ℕ → Option Effect → Type 0
+IsFoundAt end part found = (effects : List Effect) × IsFolded end effects × (found ≡ slice_get effects part)
+
+pub found_carried : (end : End) (part : ℕ) (found : Option Effect) → IsReached end → AreNumberedFrom 0 end.sent → part < length end.sent
+    → OneFor CarriesOver (sent_at part end.sent) found → IsFoundAt end part found
+found_carried end part found reached numbered within one =
+    let fold = some_fold end (reached_written end reached) in
+    let h = fold.1 in
+    let put = with_at CarriesOver end.sent h.carried part found h.submissions (subst (λ o. OneFor CarriesOver o found) (place part end.sent numbered) one) in
+    let long : length end.sent ≡ length put.0 = length_each CarriesOver end.sent put.0 put.1 in
+    let ab : length (put.0 ++ h.kept) ≡ length put.0 + length h.kept = length-append put.0 h.kept in
+    let abc : length (put.0 ++ h.kept ++ h.delivered) ≡ length (put.0 ++ h.kept) + length h.delivered = length-append (put.0 ++ h.kept) h.delivered in (
+      put.0 ++ h.kept ++ h.delivered ++ h.clock,
+      record {
+        carried = put.0;
+        kept = h.kept;
+        delivered = h.delivered;
+        clock = h.clock;
+        submissions = put.1;
+        taken_over = h.taken_over;
+        waiting = h.waiting;
+        set = h.set;
+        is = refl;
+      },
+      put.2
+          ∙ sym (slice_get_left (put.0 ++ h.kept ++ h.delivered) h.clock part (omega (arith, within, long, ab, abc))
+          ∙ slice_get_left (put.0 ++ h.kept) h.delivered part (omega (arith, within, long, ab))
+          ∙ slice_get_left put.0 h.kept part (omega (arith, within, long))),
+    )
+
+pub found_kept : (end : End) (part at : ℕ) (found : Option Effect) → IsReached end → part ≡ length end.sent + at → at < end.confirmed
+    → end.confirmed ≤ length end.inbox → OneFor KeepsHeader (slice_get end.inbox at) found → IsFoundAt end part found
+found_kept end part at found reached is within came one =
+    let fold = some_fold end (reached_written end reached) in
+    let h = fold.1 in
+    let taken : List InboxEntry = take end.confirmed end.inbox in
+    let put = with_at KeepsHeader taken h.kept at found h.taken_over (subst (λ o. OneFor KeepsHeader o found) (sym (slice_get_taken end.inbox end.confirmed at within)) one) in
+    let long : length end.sent ≡ length h.carried = length_each CarriesOver end.sent h.carried h.submissions in
+    let some : length taken ≡ length put.0 = length_each KeepsHeader taken put.0 put.1 in
+    let count : length taken ≡ min end.confirmed (length end.inbox) = length-take end.confirmed end.inbox in
+    let ab : length (h.carried ++ put.0) ≡ length h.carried + length put.0 = length-append h.carried put.0 in
+    let abc : length (h.carried ++ put.0 ++ h.delivered) ≡ length (h.carried ++ put.0) + length h.delivered = length-append (h.carried ++ put.0) h.delivered in
+    let at_end : part ≡ length h.carried + at = omega (arith, is, long) in (
+      h.carried ++ put.0 ++ h.delivered ++ h.clock,
+      record {
+        carried = h.carried;
+        kept = put.0;
+        delivered = h.delivered;
+        clock = h.clock;
+        submissions = h.submissions;
+        taken_over = put.1;
+        waiting = h.waiting;
+        set = h.set;
+        is = refl;
+      },
+      put.2
+          ∙ sym (slice_get_left (h.carried ++ put.0 ++ h.delivered) h.clock part (omega (arith, at_end, within, came, some, count, ab, abc))
+          ∙ slice_get_left (h.carried ++ put.0) h.delivered part (omega (arith, at_end, within, came, some, count, ab))
+          ∙ ap (slice_get (h.carried ++ put.0)) at_end
+          ∙ slice_get_right h.carried put.0 at),
+    )
+
+pub found_delivered : (end : End) (part at : ℕ) (found : Option Effect) → IsReached end → part ≡ length end.sent + at → end.confirmed ≤ at
+    → at < length end.inbox → OneFor DeliversAgain (slice_get end.inbox at) found → IsFoundAt end part found
+found_delivered end part at found reached is behind within one =
+    let fold = some_fold end (reached_written end reached) in
+    let h = fold.1 in
+    let taken : List InboxEntry = take end.confirmed end.inbox in
+    let left : List InboxEntry = drop end.confirmed end.inbox in
+    let count : length taken ≡ min end.confirmed (length end.inbox) = length-take end.confirmed end.inbox in
+    let fewer : length left ≡ length end.inbox - end.confirmed = length-drop end.confirmed end.inbox in
+    let there : slice_get left (at - end.confirmed) ≡ slice_get end.inbox at =
+    slice_get_dropped end.inbox end.confirmed (at - end.confirmed)
+    ∙ ap (slice_get end.inbox) (let e : end.confirmed + (at - end.confirmed) ≡ at = omega (arith, behind) in e) in
+    let put = with_at DeliversAgain left h.delivered (at - end.confirmed) found h.waiting (subst (λ o. OneFor DeliversAgain o found) (sym there) one) in
+    let long : length end.sent ≡ length h.carried = length_each CarriesOver end.sent h.carried h.submissions in
+    let some : length taken ≡ length h.kept = length_each KeepsHeader taken h.kept h.taken_over in
+    let more : length left ≡ length put.0 = length_each DeliversAgain left put.0 put.1 in
+    let ab : length (h.carried ++ h.kept) ≡ length h.carried + length h.kept = length-append h.carried h.kept in
+    let abc : length (h.carried ++ h.kept ++ put.0) ≡ length (h.carried ++ h.kept) + length put.0 = length-append (h.carried ++ h.kept) put.0 in
+    let at_end : part ≡ length (h.carried ++ h.kept) + (at - end.confirmed) = omega (arith, is, behind, within, long, some, count, ab) in (
+      h.carried ++ h.kept ++ put.0 ++ h.clock,
+      record {
+        carried = h.carried;
+        kept = h.kept;
+        delivered = put.0;
+        clock = h.clock;
+        submissions = h.submissions;
+        taken_over = h.taken_over;
+        waiting = put.1;
+        set = h.set;
+        is = refl;
+      },
+      put.2
+          ∙ sym (slice_get_left (h.carried ++ h.kept ++ put.0) h.clock part (omega (arith, at_end, behind, within, more, fewer, ab, abc))
+          ∙ ap (slice_get (h.carried ++ h.kept ++ put.0)) at_end
+          ∙ slice_get_right (h.carried ++ h.kept) put.0 (at - end.confirmed)),
+    )
+
+pub found_clock : (end : End) (part at : ℕ) (found : Option Effect) → IsReached end → part ≡ length end.sent + (length end.inbox + at)
+    → end.confirmed ≤ length end.inbox → (clock : List Effect) × SetsClock end.moment clock × (found ≡ slice_get clock at) → IsFoundAt end part found
+found_clock end part at found reached is came clock =
+    let fold = some_fold end (reached_written end reached) in
+    let h = fold.1 in
+    let taken : List InboxEntry = take end.confirmed end.inbox in
+    let left : List InboxEntry = drop end.confirmed end.inbox in
+    let count : length taken ≡ min end.confirmed (length end.inbox) = length-take end.confirmed end.inbox in
+    let fewer : length left ≡ length end.inbox - end.confirmed = length-drop end.confirmed end.inbox in
+    let long : length end.sent ≡ length h.carried = length_each CarriesOver end.sent h.carried h.submissions in
+    let some : length taken ≡ length h.kept = length_each KeepsHeader taken h.kept h.taken_over in
+    let more : length left ≡ length h.delivered = length_each DeliversAgain left h.delivered h.waiting in
+    let ab : length (h.carried ++ h.kept) ≡ length h.carried + length h.kept = length-append h.carried h.kept in
+    let abc : length (h.carried ++ h.kept ++ h.delivered) ≡ length (h.carried ++ h.kept) + length h.delivered = length-append (h.carried ++ h.kept) h.delivered in
+    let at_end : part ≡ length (h.carried ++ h.kept ++ h.delivered) + at = omega (arith, is, came, long, some, more, count, fewer, ab, abc) in (
+      h.carried ++ h.kept ++ h.delivered ++ clock.0,
+      record {
+        carried = h.carried;
+        kept = h.kept;
+        delivered = h.delivered;
+        clock = clock.0;
+        submissions = h.submissions;
+        taken_over = h.taken_over;
+        waiting = h.waiting;
+        set = clock.1;
+        is = refl;
+      },
+      clock.2
+          ∙ sym (ap (slice_get (h.carried ++ h.kept ++ h.delivered ++ clock.0)) at_end ∙ slice_get_right (h.carried ++ h.kept ++ h.delivered) clock.0 at),
+    )
+
+-- a clock that never was set has no record, and no clock has a second one
+pub clock_none : (moment at : ℕ) → moment ≤ 253402300799999 → (moment ≡ 0) ⊎ (0 < at)
+    → (clock : List Effect) × SetsClock moment clock × (None ≡ slice_get clock at)
+clock_none zero at dated none = ([], refl, refl)
+clock_none (suc moment) at dated (inl e) = absurd (omega (arith, e))
+clock_none (suc moment) zero dated (inr more) = absurd (omega (arith, more))
+clock_none (suc moment) (suc at) dated (inr more) =
+    let tick : Tick = record { moment = suc moment; dated = dated } in (effect.Ticked tick ∷ [], (tick, refl, refl), refl)
+
+pub clock_some : (moment at : ℕ) (tick : Tick) → tick.moment ≡ moment → 0 < moment → at ≡ 0
+    → (clock : List Effect) × SetsClock moment clock × (Some (effect.Ticked tick) ≡ slice_get clock at)
+clock_some zero at tick is set first = absurd (omega (arith, set))
+clock_some (suc moment) zero tick is set first = (effect.Ticked tick ∷ [], (tick, is, refl), refl)
+clock_some (suc moment) (suc at) tick is set first = absurd (omega (arith, first))
+
+-- what is found at a place is one of the list
+found_contained : {X : Type 0} (xs : List X) (n : ℕ) (x : X) → slice_get xs n ≡ Some x → Contains xs x
+found_contained xs n x e = (n, slice_get_within xs n x e, get_or_from_slice_get xs n x x e)
+
+-- the header of an entry that was taken over can be kept
+pub kept_fits : (end : End) (at : ℕ) (header copy : UserHeader) → CanBeWritten end → at < end.confirmed
+    → Some header ≡ option_map (λ (entry : InboxEntry). entry.header) (slice_get end.inbox at) → copy ≡ header
+    → fits_an_effect (kept_body copy) ≡ true
+kept_fits end at header copy can within is same = by_entry (slice_get end.inbox at) refl is
+  where
+    by_entry : (o : Option InboxEntry) → slice_get end.inbox at ≡ o → Some header ≡ option_map (λ (entry : InboxEntry). entry.header) o
+        → fits_an_effect (kept_body copy) ≡ true
+    by_entry None there e = absurd cc
+    by_entry (Some entry) there e =
+        let one : entry.header ≡ copy = same_Some entry.header copy (sym e ∙ ap Some (sym same)) in
+        subst (λ (h : UserHeader). fits_an_effect (kept_body h) ≡ true) one
+        (can.kept entry (found_contained (take end.confirmed end.inbox) at entry (slice_get_taken end.inbox end.confirmed at within ∙ there)))
+
+-- what waits can be delivered again
+pub delivered_fits : (end : End) (at : ℕ) (header copy : UserHeader) (payloads copies : List Payload) → CanBeWritten end → end.confirmed ≤ at
+    → slice_get end.inbox at ≡ Some (record { header = header; payloads = payloads }) → copy ≡ header → copies ≡ payloads
+    → (pair copy.parts copies ≡ true) × (fits_an_effect (delivered_body copy copies) ≡ true)
+delivered_fits end at header copy payloads copies can behind is same_header same_payloads =
+    let entry : InboxEntry = record { header = header; payloads = payloads } in
+    let there : slice_get (drop end.confirmed end.inbox) (at - end.confirmed) ≡ Some entry =
+    slice_get_dropped end.inbox end.confirmed (at - end.confirmed)
+    ∙ ap (slice_get end.inbox) (let e : end.confirmed + (at - end.confirmed) ≡ at = omega (arith, behind) in e) ∙ is in
+    let held = can.delivered entry (found_contained (drop end.confirmed end.inbox) (at - end.confirmed) entry there) in
+    subst (λ (h : UserHeader). (pair h.parts copies ≡ true) × (fits_an_effect (delivered_body h copies) ≡ true)) (sym same_header)
+    (subst (λ (p : List Payload). (pair header.parts p ≡ true) × (fits_an_effect (delivered_body header p) ≡ true)) (sym same_payloads) held)

@@ -1,0 +1,23 @@
+use Rattle.std.proofs.Common.{◌≡◌, ap, sym, subst, ◌∙◌}
+use Rattle.exchange_model.specs.Fold.{resized}
+use Rattle.fold_laws.specs.Reached.{IsReached}
+use Rattle.fold_laws.proofs.ReachedLemmas.{reached_resized}
+use Rattle.msh_core.specs.Machine.{Machine}
+use Rattle.msh_core.proofs.FoldSizeLemmas.{size_is, size_within}
+use Rattle.msh_core.proofs.machine.Core.set_folded.Goals as goal
+
+pub resize-requires-clause-begun : goal.resize-requires-clause-begun
+resize-requires-clause-begun c = (size_within c.args.self.now.end c.folded_size-size.result c.folded_size-size.ensures.size c.requires).0
+
+pub resize-requires-clause-limited : goal.resize-requires-clause-limited
+resize-requires-clause-limited c = (size_within c.args.self.now.end c.folded_size-size.result c.folded_size-size.ensures.size c.requires).1
+
+pub invariant_of-self : goal.invariant_of-self
+invariant_of-self c =
+    subst IsReached (sym c.resize.ensures.end) (reached_resized c.self.inside.tables.end c.folded_size-size.result c.self.invariant)
+
+pub returns-clause-end : goal.returns-clause-end
+returns-clause-end c size is =
+    let same : c.self.inside.tables.end ≡ c.args.self.now.end = ap (λ (m : Machine). m.end) c.self.view_is in
+    c.resize.ensures.end ∙ ap (resized c.folded_size-size.result) same
+    ∙ ap (λ n. resized n c.args.self.now.end) (size_is c.args.self.now.end c.folded_size-size.result size c.folded_size-size.ensures.size c.requires is)

@@ -1,0 +1,50 @@
+-- An end's fold by places, and how many bytes it has.
+use Rattle.std.specs.Prelude.{◌≡◌, ℕ, zero, suc, ◌+◌, ◌-◌, ◌^◌, ◌≤◌, List, [], ◌∷◌, Option, Some, None, length, min}
+use Rattle.as4_effects.specs.Effects.{submission_body}
+use Rattle.as4_effects.specs.Marks.{mark_body}
+use Rattle.as4_effects.specs.Sound.{delivered_body, kept_body}
+use Rattle.as4_effects.specs.declared.effect.Effect.{Effect}
+use Rattle.exchange_model.specs.Apply.{applied, first_unfit, record_len}
+use Rattle.exchange_model.specs.End.{End}
+use Rattle.exchange_model.specs.Table.{journal_limit}
+use Rattle.exchange_model.specs.declared.inbox_entry.InboxEntry.{InboxEntry}
+use Rattle.exchange_model.specs.declared.sent.Sent.{Sent}
+
+-- something is found exactly where there is a thing, and is so
+abbrev pub OneFor : {X Y : Type 0} → (X → Y → Type 0) → Option X → Option Y → Type 0
+OneFor is None None = Unit {0}
+OneFor is (Some x) (Some y) = is x y
+OneFor is x y = ⊥
+
+-- a number, or the greatest of 64 bits where it is more
+abbrev pub capped : ℕ → ℕ
+capped size = min size (2 ^ 64 - 1)
+
+-- how many bytes the record has of a submission that is carried over, with its tries, its last moment and its mark
+unfoldable pub carried_len : Sent → ℕ
+carried_len s = length (submission_body s.submission) + 12 + length (mark_body s.mark) + 11
+
+-- of a header that is kept
+unfoldable pub kept_len : InboxEntry → ℕ
+kept_len entry = length (kept_body entry.header) + 11
+
+-- of a message that is delivered again
+unfoldable pub delivered_len : InboxEntry → ℕ
+delivered_len entry = length (delivered_body entry.header entry.payloads) + 11
+
+-- and of the clock, unless it never was set
+abbrev pub clock_len : ℕ → ℕ
+clock_len zero = 0
+clock_len (suc moment) = 20
+
+-- the length of a thing, if there is one
+abbrev pub len_at : {X : Type 0} → (X → ℕ) → Option X → ℕ
+len_at len None = 0
+len_at len (Some x) = len x
+
+-- `replay` may be called with each effect alone, one after another, and makes it: it fits, and its record has room
+abbrev pub CanBeReplayed : List Effect → End → End → Type 0
+CanBeReplayed [] start end = start ≡ end
+CanBeReplayed (e ∷ effects) start end =
+    (first_unfit (e ∷ []) start ≡ None) × (start.size + record_len (e ∷ []) ≤ journal_limit)
+    × CanBeReplayed effects (applied (e ∷ []) start) end

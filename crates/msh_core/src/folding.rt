@@ -1,0 +1,237 @@
+//! An end's fold: the effects that give the end back from the empty end, each in a record of its own. A journal that is
+//! written again has these, and is mostly shorter than one that grew with all that ever happened.
+//!
+//!     place                 effect      of
+//!     from 0                Carried     each submission as it stands, in order
+//!     behind them           Kept        each message that was taken over, its header alone
+//!     behind them           Delivered   each other message that came
+//!     behind them, if set   Ticked      the clock
+//!
+//! The effects are made one at a time, so that no list of them has to be held.
+
+ghost use Rattle.std.specs.Prelude.{◌≡◌, ℕ, ◌+◌, ◌<◌, ◌≤◌, IfOk, List, Some, drop, length, slice_get, take};
+ghost use Rattle.std.specs.List.{sum_by};
+ghost use Rattle.as4_effects.specs.declared.effect.Effect.{Effect as EffectValue};
+ghost use Rattle.end_tables.specs.Rooms.{new_tables};
+ghost use Rattle.exchange_model.specs.End.{End};
+ghost use Rattle.exchange_model.specs.Fold.{CarriesOver, DeliversAgain, IsFolded, IsFoldedSize, KeepsHeader, SetsClock, folded_size, resized};
+ghost use Rattle.exchange_model.specs.Questions.{sent_at};
+ghost use Rattle.fold_laws.specs.Reached.{IsReached};
+ghost use Rattle.fold_laws.specs.Written.{CanBeWritten};
+ghost use Rattle.msh_core.specs.Folding.{CanBeReplayed, OneFor, capped, carried_len, clock_len, delivered_len, kept_len, len_at};
+
+use crate::machine::{Core, MAX_JOURNAL};
+use crate::small::SMALL_RECORD;
+use as4_effects::{Carried, Delivery, Effect, Kept, Measured, Tick};
+use as4_values::{NoMemory, PlainData, try_clone_two};
+use end_tables::{EndTables, Held};
+use std::alloc::Global;
+
+/// How many bytes a journal has before its first record.
+const JOURNAL_HEAD: u64 = 9;
+
+/// How many bytes the record of one effect has beside the effect: its gate, the length of its body, and the count of its
+/// effects.
+const BESIDE_EFFECT: u64 = 11;
+
+/// How many bytes a submission that is carried over has between its fields and its mark: how often it was sent, and when
+/// last.
+const TRIES_AND_LAST: u64 = 12;
+
+impl Core {
+    /// The effect at this place of the end's fold, from 0; none behind the last.
+    pub fn folded(&self, part: u64) -> Result<Option<Effect>, NoMemory>
+        ensures { IfOk result (λ found. (effects : List EffectValue) × IsFolded self.now.end effects × (found ≡ slice_get effects part)) }
+    {
+        let submitted = self.tables.submitted();
+        if part < submitted {
+            return carried_over(self.alloc, &self.tables, part);
+        }
+        let place = part - submitted;
+        if place < self.tables.confirmed() {
+            return kept_header(self.alloc, &self.tables, place);
+        }
+        let received = self.tables.received();
+        if place < received {
+            return delivered_again(self.alloc, &self.tables, place);
+        }
+        Ok(set_clock(&self.tables, place - received))
+    }
+
+    /// How many bytes a journal has with the end's fold alone, or the greatest number where they are more. Takes no memory.
+    pub fn folded_size(&self) -> u64
+        ensures reached { IsReached self.now.end }
+        ensures size { (size : ℕ) × IsFoldedSize self.now.end size × (result ≡ capped size) }
+    {
+        let sum = submissions_size(&self.tables, JOURNAL_HEAD);
+        let sum = taken_over_size(&self.tables, sum);
+        let sum = waiting_size(&self.tables, sum);
+        clock_size(&self.tables, sum)
+    }
+
+    /// The journal has the size of the end's fold from now on. Takes no memory.
+    pub fn set_folded(&mut self)
+        requires { (size : ℕ) → IsFoldedSize self.old.end size → size ≤ MAX_JOURNAL }
+        ensures end { (size : ℕ) → IsFoldedSize self.old.end size → self.new.end ≡ resized size self.old.end }
+        ensures modes { self.new.modes ≡ self.old.modes }
+    {
+        let size = self.folded_size();
+        self.tables.resize(size);
+    }
+}
+
+/// What an end is folded to can be made again on a new core, each effect in a record of its own: `replay` may be called
+/// with each, none is unfit, and the end that they lead to is the same, but for its journal's size.
+pub fn a_fold_can_be_replayed()
+    ensures { (end : End) (effects : List EffectValue) → IsReached end → IsFolded end effects → folded_size effects ≤ MAX_JOURNAL
+        → CanBeReplayed effects new_tables.end (resized (folded_size effects) end) }
+{}
+
+/// The submission of this number as it stands.
+fn carried_over(alloc: Global, tables: &EndTables, number: u64) -> Result<Option<Effect>, NoMemory>
+    ensures { IfOk result (λ found. OneFor CarriesOver (sent_at number tables.now.end.sent) found) }
+{
+    let Some(submission) = tables.get(number) else {
+        return Ok(None);
+    };
+    let Some((tries, last)) = tables.tried(number) else {
+        return Ok(None);
+    };
+    let Some(mark) = tables.mark(number) else {
+        return Ok(None);
+    };
+    let (submission, standing) = try_clone_two(alloc, submission, mark)?;
+    Ok(Some(Effect::Carried(Carried {
+        submission,
+        tries,
+        last,
+        standing,
+    })))
+}
+
+/// The header of the message that came at this place, which was taken over.
+fn kept_header(alloc: Global, tables: &EndTables, place: u64) -> Result<Option<Effect>, NoMemory>
+    requires written { CanBeWritten tables.now.end }
+    requires taken_over { place < tables.now.end.confirmed }
+    ensures { IfOk result (λ found. OneFor KeepsHeader (slice_get tables.now.end.inbox place) found) }
+{
+    let Some(header) = tables.header(place) else {
+        return Ok(None);
+    };
+    let header = header.try_clone(alloc)?;
+    Ok(Some(Effect::Kept(Kept { header })))
+}
+
+/// The message that came at this place, which wasn't taken over.
+fn delivered_again(
+    alloc: Global,
+    tables: &EndTables,
+    place: u64,
+) -> Result<Option<Effect>, NoMemory>
+    requires written { CanBeWritten tables.now.end }
+    requires waits { tables.now.end.confirmed ≤ place }
+    ensures { IfOk result (λ found. OneFor DeliversAgain (slice_get tables.now.end.inbox place) found) }
+{
+    match tables.read(place) {
+        Held::Entry { header, payloads } => {
+            let (header, payloads) = try_clone_two(alloc, header, payloads)?;
+            Ok(Some(Effect::Delivered(Delivery { header, payloads })))
+        }
+        Held::Gone | Held::NoEntry => Ok(None),
+    }
+}
+
+/// The clock, at the first place behind all others, unless it never was set.
+fn set_clock(tables: &EndTables, place: u64) -> Option<Effect>
+    ensures { (clock : List EffectValue) × SetsClock tables.now.end.moment clock × (result ≡ slice_get clock place) }
+{
+    let moment = tables.moment();
+    if place > 0 || moment == 0 {
+        return None;
+    }
+    Some(Effect::Ticked(Tick { moment }))
+}
+
+/// The sum and the bytes of the records of all submissions.
+fn submissions_size(tables: &EndTables, sum: u64) -> u64
+    ensures { result ≡ capped (sum + sum_by carried_len tables.now.end.sent) }
+{
+    let mut total = sum;
+    for number in 0..tables.submitted() {
+        total = carried_size(tables, number, total);
+    }
+    total
+}
+
+/// The sum and the bytes of the record of this submission.
+fn carried_size(tables: &EndTables, number: u64, sum: u64) -> u64
+    ensures { result ≡ capped (sum + len_at carried_len (sent_at number tables.now.end.sent)) }
+{
+    let Some(submission) = tables.get(number) else {
+        return sum;
+    };
+    let Some(mark) = tables.mark(number) else {
+        return sum;
+    };
+    let sum = submission.add_len(sum).saturating_add(TRIES_AND_LAST);
+    mark.add_len(sum).saturating_add(BESIDE_EFFECT)
+}
+
+/// The sum and the bytes of the records of all messages that were taken over.
+fn taken_over_size(tables: &EndTables, sum: u64) -> u64
+    ensures { result ≡ capped (sum + sum_by kept_len (take tables.now.end.confirmed tables.now.end.inbox)) }
+{
+    let mut total = sum;
+    for place in 0..tables.confirmed() {
+        total = kept_size(tables, place, total);
+    }
+    total
+}
+
+/// The sum and the bytes of the record of the header of the message at this place.
+fn kept_size(tables: &EndTables, place: u64, sum: u64) -> u64
+    ensures { result ≡ capped (sum + len_at kept_len (slice_get tables.now.end.inbox place)) }
+{
+    let Some(header) = tables.header(place) else {
+        return sum;
+    };
+    header
+        .add_len(sum.saturating_add(1))
+        .saturating_add(BESIDE_EFFECT)
+}
+
+/// The sum and the bytes of the records of all other messages.
+fn waiting_size(tables: &EndTables, sum: u64) -> u64
+    ensures { result ≡ capped (sum + sum_by delivered_len (drop tables.now.end.confirmed tables.now.end.inbox)) }
+{
+    let confirmed = tables.confirmed();
+    let mut total = sum;
+    for count in 0..tables.received() - confirmed {
+        total = delivered_size(tables, confirmed + count, total);
+    }
+    total
+}
+
+/// The sum and the bytes of the record of the message at this place, which wasn't taken over.
+fn delivered_size(tables: &EndTables, place: u64, sum: u64) -> u64
+    requires { tables.now.end.confirmed ≤ place }
+    ensures { result ≡ capped (sum + len_at delivered_len (slice_get tables.now.end.inbox place)) }
+{
+    match tables.read(place) {
+        Held::Entry { header, payloads } => {
+            let sum = header.add_len(sum.saturating_add(1));
+            payloads.add_len(sum).saturating_add(BESIDE_EFFECT)
+        }
+        Held::Gone | Held::NoEntry => sum,
+    }
+}
+
+/// The sum and the bytes of the clock's record.
+fn clock_size(tables: &EndTables, sum: u64) -> u64
+    ensures { result ≡ capped (sum + clock_len tables.now.end.moment) }
+{
+    if tables.moment() == 0 {
+        return sum;
+    }
+    sum.saturating_add(SMALL_RECORD)
+}
