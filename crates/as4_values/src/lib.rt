@@ -8,6 +8,7 @@ mod lists;
 mod memory;
 mod message;
 mod message_id;
+mod message_id_order;
 mod mode;
 mod moment;
 mod payload;

@@ -12,7 +12,7 @@ use Rattle.as4_values.specs.declared.signal_body.SignalBody.{SignalBody}
 use Rattle.as4_values.specs.declared.signal_body.SignalBody.TheVariants as body
 use Rattle.drill_script.specs.LineText.{end_text}
 use Rattle.drill_script.specs.declared.line.EndName.{EndName}
-use Rattle.end_tables.specs.Totals.{is_receipted_mark, is_failed_mark, is_refused_mark}
+use Rattle.exchange_model.specs.Questions.{is_failed_mark, is_receipted_mark, is_refused_mark}
 use Rattle.exchange_model.specs.End.{End}
 use Rattle.exchange_model.specs.declared.reply.Reply.{Reply}
 use Rattle.exchange_model.specs.declared.reply.Reply.TheVariants as reply

@@ -6,7 +6,7 @@ use Rattle.as4_effects.specs.declared.effect.Effect.{Effect}
 use Rattle.as4_effects.specs.declared.effect.Effect.TheVariants as effect
 use Rattle.as4_effects.specs.declared.submission.Submission.{Submission}
 use Rattle.exchange_model.specs.End.{End}
-use Rattle.exchange_model.specs.Questions.{is_pending, is_waiting, is_spent, is_known, sent_at, sent_of}
+use Rattle.exchange_model.specs.Questions.{is_failed_mark, is_pending, is_waiting, is_spent, is_known, sent_at, sent_of}
 use Rattle.exchange_model.specs.declared.inbox_entry.InboxEntry.{InboxEntry}
 use Rattle.as4_effects.specs.declared.mark.Mark.{Mark}
 use Rattle.as4_effects.specs.declared.mark.Mark.TheVariants as mark
@@ -82,10 +82,6 @@ is_next submission end =
     (submission.number == length end.sent) && not (is_one (λ s. true) (sent_of submission.header.id end.sent))
 
 -- how often it was sent and when last agree, and what was given up was sent as often as its mode says
-abbrev pub is_failed_mark : Mark → Bool
-is_failed_mark mark.Failed = true
-is_failed_mark other = false
-
 abbrev pub are_tries : Sent → Bool
 are_tries s =
     nat_le s.tries (s.submission.retries + 1)

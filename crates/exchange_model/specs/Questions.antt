@@ -20,6 +20,19 @@ abbrev pub is_pending_mark : Mark → Bool
 is_pending_mark mark.Pending = true
 is_pending_mark other = false
 
+-- and in which way one was settled
+abbrev pub is_receipted_mark : Mark → Bool
+is_receipted_mark mark.Receipted = true
+is_receipted_mark other = false
+
+abbrev pub is_failed_mark : Mark → Bool
+is_failed_mark mark.Failed = true
+is_failed_mark other = false
+
+abbrev pub is_refused_mark : Mark → Bool
+is_refused_mark (mark.Refused code) = true
+is_refused_mark other = false
+
 -- neither receipted, given up nor refused
 abbrev pub is_pending : Sent → Bool
 is_pending s = is_pending_mark s.mark

@@ -29,8 +29,8 @@
 --     Came, pair            its receipt gives an error                       none         that error
 --                           no mode names the channel                        none         error 0001
 --                           else, behind the receipt's effect, if any:
---                           no head in the channel                           none         error 0006
---                           else                                             Tried        the user message
+--                           no head in the channel                           that         error 0006
+--                           else                                             that, Tried  the user message
 --     Came, errors          each pending submission that a failure names     Refused      Quiet
 --     Read                  below the confirmed count                        none         Gone
 --                           at least the inbox's length                      none         NoEntry

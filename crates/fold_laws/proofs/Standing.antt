@@ -7,9 +7,9 @@ use Rattle.as4_effects.specs.declared.carried.Carried.{Carried}
 use Rattle.as4_effects.specs.declared.mark.Mark.{Mark}
 use Rattle.as4_effects.specs.declared.mark.Mark.TheVariants as mark
 use Rattle.as4_effects.specs.declared.submission.Submission.{Submission}
-use Rattle.exchange_model.specs.Apply.{are_tries, as_carried, changed, failed_if_spent, is_failed_mark, is_one, marked, tried, unsent}
+use Rattle.exchange_model.specs.Apply.{are_tries, as_carried, changed, failed_if_spent, is_one, marked, tried, unsent}
 use Rattle.exchange_model.specs.Numbered.{AreNumberedFrom}
-use Rattle.exchange_model.specs.Questions.{due, is_pending, is_pending_mark, is_spent, is_waiting, sent_at}
+use Rattle.exchange_model.specs.Questions.{due, is_failed_mark, is_pending, is_pending_mark, is_spent, is_waiting, sent_at}
 use Rattle.exchange_model.specs.declared.sent.Sent.{Sent}
 use Rattle.exchange_model.proofs.FoundLemmas.{sent_at_has}
 use Rattle.exchange_model.proofs.ListLemmas.{Has}
