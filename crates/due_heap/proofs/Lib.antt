@@ -1,0 +1,12 @@
+pub mod ExchangeLemmas
+pub mod HeapsLemmas
+pub mod LeastLemmas
+pub mod MovingLemmas
+pub mod OrderLemmas
+pub mod PlaceLemmas
+pub mod PointLemmas
+pub mod PutLemmas
+pub mod RemoveLemmas
+pub mod SumLemmas
+pub mod TableLemmas
+pub mod TreeLemmas

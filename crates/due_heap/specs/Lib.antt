@@ -1,0 +1,4 @@
+pub mod Counting
+pub mod Heaps
+pub mod Keeping
+pub mod Order

@@ -1,0 +1,25 @@
+//! How many pairs of a heap are due by a moment: only these are looked at, and those that stand next to them.
+
+ghost use Rattle.std.specs.Prelude.{◌≡◌, ◌<◌, ◌≤◌, ◌^◌, All, length};
+ghost use Rattle.due_heap.specs.Counting.{count_under};
+ghost use Rattle.due_heap.specs.Order.{rank_at, IsOrdered};
+
+use crate::pair::Pair;
+
+/// How many at this place and under it are due by this moment: under one that is later, none is.
+pub fn count_under(pairs: &[Pair], at: usize, moment: u64) -> u64
+    requires order { IsOrdered (rank_at pairs.now) (length pairs.now) }
+    requires few { All (λ pair. pair.number < 1048576) pairs.now }
+    requires short { length pairs.now < 2 ^ 63 }
+    ensures count { result ≡ count_under moment at pairs.now }
+    ensures within { result ≤ length pairs.now }
+{
+    match pairs.get(at) {
+        Some(pair) if pair.due <= moment => {
+            let left = count_under(pairs, at * 2 + 1, moment);
+            let right = count_under(pairs, at * 2 + 2, moment);
+            1 + left + right
+        }
+        _ => 0,
+    }
+}
