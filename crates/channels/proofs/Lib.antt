@@ -1,3 +1,7 @@
 pub mod FilterLemmas
-pub mod LeastLemmas
+pub mod HeadLemmas
+pub mod KeptHeadLemmas
+pub mod NameLemmas
+pub mod QueueLemmas
 pub mod RisingLemmas
+pub mod ViewLemmas

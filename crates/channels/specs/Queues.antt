@@ -1,5 +1,5 @@
 -- What waits in queues to be sent (ebMS 3.0 Core, section 3.4, on message partition channels).
-use Rattle.std.specs.Prelude.{ℕ, List, [], ◌∷◌, Bool, false, not, ◌&&◌, ◌==◌, nat_lt, nat_le, if◌then◌else◌, Option, Some, None, option_map}
+use Rattle.std.specs.Prelude.{ℕ, List, [], ◌∷◌, Bool, not, ◌&&◌, ◌==◌, nat_lt, nat_le, if◌then◌else◌, Option, option_map}
 use Rattle.std.specs.List.{filter, find}
 use Rattle.as4_effects.specs.declared.queue.Queue.{Queue}
 use Rattle.channels.specs.declared.waiting.Place.{Place}
@@ -16,11 +16,6 @@ pub record Queues : Type 0 where
 unfoldable pub inserted : Waiting → List Waiting → List Waiting
 inserted w [] = w ∷ []
 inserted w (x ∷ xs) = if nat_lt w.number x.number then w ∷ x ∷ xs else x ∷ inserted w xs
-
--- whether it is the one of a number
-abbrev pub is_number : Option ℕ → Waiting → Bool
-is_number None w = false
-is_number (Some number) w = w.number == number
 
 -- all but the one of this number
 unfoldable pub without : ℕ → List Waiting → List Waiting

@@ -2,6 +2,8 @@
 #![tactic(auto)]
 
 mod channels;
+mod names;
+mod places;
 mod waiting;
 
 pub use channels::Channels;

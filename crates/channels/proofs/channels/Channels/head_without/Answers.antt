@@ -1,14 +1,17 @@
-use Rattle.std.proofs.Common.{Some, not, ap, sym, ◌∙◌}
-use Rattle.std.specs.Option.{option_map}
-use Rattle.exchange_model.specs.Least.{first_least}
-use Rattle.channels.specs.Queues.{head_in, is_due_in, is_number, without}
-use Rattle.channels.specs.declared.waiting.Waiting.{Waiting}
-use Rattle.channels.proofs.FilterLemmas.{filter-filter}
+use Rattle.std.proofs.Common.{ap, ◌∙◌}
+use Rattle.std.proofs.lemmas.Option.{none-some}
+use Rattle.channels.specs.Queues.{Queues, without, head_in}
+use Rattle.channels.proofs.KeptHeadLemmas.{head_without_of_heap, head_without_of_none}
 use Rattle.channels.proofs.channels.Channels.head_without.Goals as goal
 
+pub returns-in_err-heap : goal.returns-in_err-heap
+returns-in_err-heap c =
+    c.from_residual.ensures
+    ∙ head_without_of_none c.self.inside.names c.self.inside.heaps c.args.queue.now c.args.moment c.args.number c.self.invariant (λ heap is there. none-some heap (c.in_err-heap.ensures.only heap is there))
+    ∙ ap (λ (q : Queues). head_in c.args.queue.now c.args.moment (without c.args.number q.waiting)) c.self.view_is
+
 pub returns : goal.returns
-unfolding head_in without
 returns c =
-    c.head_but.ensures
-    ∙ ap (λ waiting. option_map (λ (w : Waiting). w.number) (first_least (λ (w : Waiting). w.due) waiting))
-    (sym (filter-filter (is_due_in c.args.queue.now c.args.moment) (λ w. not (is_number (Some c.args.number) w)) c.args.self.now.waiting))
+    c.if_due.ensures
+    ∙ head_without_of_heap c.self.inside.names c.self.inside.heaps c.args.queue.now c.in_ok-heap.heap c.args.moment c.args.number c.least_without.result c.self.invariant c.in_ok-heap.ensures.found.0 c.least_without.ensures
+    ∙ ap (λ (q : Queues). head_in c.args.queue.now c.args.moment (without c.args.number q.waiting)) c.self.view_is

@@ -1,22 +1,19 @@
-use Rattle.std.proofs.Common.{◌≡◌, Option, Some}
-use Rattle.channels.specs.declared.waiting.Place.{Place}
-use Rattle.channels.proofs.RisingLemmas.{IsInserted, inserted_at}
+use Rattle.std.proofs.Common.{ap, ◌∙◌}
+use Rattle.channels.specs.Queues.{Queues, inserted}
+use Rattle.channels.proofs.QueueLemmas.{queue_within}
+use Rattle.channels.proofs.ViewLemmas.{none_stands, put_in, put_kept}
 use Rattle.channels.proofs.channels.Channels.insert.Goals as goal
-use Rattle.channels.proofs.channels.Channels.insert.Goals.{Joined-added}
 
-same_queue : (room : Option Place) (made taken : Place) → room ≡ Some made → Some taken ≡ room → taken.queue ≡ made.queue
-same_queue room made taken is took = cc
-
-is_inserted : (c : Joined-added) → IsInserted (record { queue = c.args.queue.now; due = c.args.due; number = c.args.number }) c.self.inside.waiting.items c.insert-added.new.self.items
-is_inserted c =
-    let queue = same_queue c.self.inside.room (record { queue = c.args.queue.now; number = c.args.number }) c.in-Some.field-0 (rw (← c.self.view_is) at c.requires.room) c.in-Some.ensures.value in
-    inserted_at (record { queue = c.args.queue.now; due = c.args.due; number = c.args.number }) c.self.inside.waiting.items c.insert-added.new.self.items c.how_many_up_to-front.result c.self.invariant.0
-    (rw (← c.self.view_is) at c.requires.new)
-    (rw c.as_slice.ensures.value at c.how_many_up_to-front.ensures)
-    (rw (c.if-is_err.ensures.negation, queue) at c.insert-added.ensures.items)
+pub insert-requires-clause-new : goal.insert-requires-clause-new
+insert-requires-clause-new c =
+    none_stands c.self.inside.names c.self.inside.heaps c.args.number c.self.invariant (rw (← c.self.view_is) at c.requires.new)
 
 pub invariant_of-self : goal.invariant_of-self
-invariant_of-self c = ((is_inserted c).rises, rw c.take.ensures.after (λ some. absurd (cc)))
+invariant_of-self c =
+    put_kept c.self.inside.names c.in-Some.heap c.args.due c.args.number c.self.inside.heaps c.insert.new.self c.self.invariant
+    (queue_within c.self.inside.names c.in-Some.heap c.args.queue.now c.in-Some.ensures.found.0) c.in-Some.ensures.found.1 c.insert.ensures.placed c.insert.ensures.room
 
 pub returns : goal.returns
-returns c = rw (← c.self.view_is) (is_inserted c).value
+returns c =
+    put_in c.self.inside.names c.args.queue.now c.in-Some.heap c.args.due c.args.number c.self.inside.heaps c.insert.new.self c.in-Some.ensures.found.0 (rw (← c.self.view_is) at c.requires.new) c.insert.ensures.placed
+    ∙ ap (λ (q : Queues). inserted (record { queue = c.args.queue.now; due = c.args.due; number = c.args.number }) q.waiting) c.self.view_is

@@ -1,5 +1,11 @@
-use Rattle.channels.proofs.RisingLemmas.{none_rises}
+use Rattle.std.proofs.Common.{[], None, refl, ap}
+use Rattle.channels.proofs.ViewLemmas.{new_kept, none_waits}
 use Rattle.channels.proofs.channels.Channels.new.Goals as goal
 
 pub invariant_of-result : goal.invariant_of-result
-invariant_of-result c = (rw c.new.ensures.items (none_rises 0), λ h. absurd (cc))
+invariant_of-result c = rw (c.new.ensures, c.new-2.ensures) new_kept
+
+pub returns : goal.returns
+returns c =
+    rw (c.new.ensures, c.new-2.ensures)
+    (ap (λ waiting. record { waiting = waiting; room = None }) (none_waits [] (record { count = 0; places = []; room = None }) refl))
