@@ -11,7 +11,8 @@ ghost use Rattle.inbox.specs.Deliveries.{Deliveries};
 ghost use Rattle.inbox.specs.Reading.{IsHeld};
 
 use crate::held::Held;
-use as4_values::{MessageId, NoMemory, Payload, PlainData, Seq, UserHeader};
+use crate::identifiers::Identifiers;
+use as4_values::{MessageId, NoMemory, Payload, Seq, UserHeader};
 use exchange_model::InboxEntry;
 use std::alloc::Global;
 use std::marker::Model;
@@ -23,22 +24,29 @@ pub struct Inbox {
     entries: Vec<InboxEntry>,
     /// How many entries were taken over.
     confirmed: usize,
-    /// For which identifier there is room for one more entry.
-    room: Option<MessageId>,
+    /// The identifiers of the entries, and the one for which there is room for one more entry.
+    identifiers: Identifiers,
 }
 
 impl Model for Inbox {
+    ghost use Rattle.std.specs.Prelude.{◌≡◌, ◌<◌, ◌≤◌, IsSome, vec_len};
+    ghost use Rattle.std.specs.Vec.{vec_capacity};
+    ghost use Rattle.exchange_model.specs.Apply.{emptied};
+    ghost use Rattle.inbox.specs.Deliveries.{Deliveries};
+    ghost use Rattle.inbox.specs.Holding.{AreOf};
+
     ghost Value = { Deliveries };
 
-    ghost view = { λ i. record { entries = i.entries.items; confirmed = i.confirmed; room = i.room } };
+    ghost view = { λ i. record { entries = i.entries.items; confirmed = i.confirmed; room = i.identifiers.room } };
 
     ghost invariant = { λ i. (i.confirmed ≤ vec_len i.entries)
         × (emptied i.confirmed i.entries.items ≡ i.entries.items)
-        × (IsSome i.room → vec_len i.entries < vec_capacity i.entries) };
+        × (IsSome i.identifiers.room → vec_len i.entries < vec_capacity i.entries)
+        × AreOf i.identifiers i.entries.items };
 }
 
 impl Inbox {
-    #[tactic(auto, unfolding(exchange_model::specs::Apply::emptied))]
+    #[tactic(auto, using(crate::proofs::HoldingLemmas::none_held), unfolding(exchange_model::specs::Apply::emptied))]
     pub fn new(alloc: Global) -> Inbox
         ensures { result ≡ record { entries = []; confirmed = 0; room = None } }
     {
@@ -46,7 +54,7 @@ impl Inbox {
             alloc,
             entries: Vec::new(alloc),
             confirmed: 0,
-            room: None,
+            identifiers: Identifiers::new(alloc),
         }
     }
 
@@ -56,10 +64,8 @@ impl Inbox {
         ensures entries { self.new.entries ≡ self.old.entries }
         ensures confirmed { self.new.confirmed ≡ self.old.confirmed }
     {
-        let id = id.try_clone(self.alloc)?;
         self.entries.reserve(1)?;
-        self.room = Some(id);
-        Ok(())
+        self.identifiers.reserve(id)
     }
 
     /// Adds a message; takes no memory.
@@ -87,26 +93,22 @@ impl Inbox {
     }
 
     /// Adds an entry, and its room is used up.
-    #[tactic(auto, using(crate::proofs::EmptiedLemmas::kept_push))]
+    #[tactic(auto, using(crate::proofs::EmptiedLemmas::kept_push, crate::proofs::HoldingLemmas::held_push))]
     fn push(&mut self, entry: InboxEntry)
-        requires { IsSome self.old.room }
+        requires { self.old.room ≡ Some entry.header.id }
         ensures entries { self.new.entries ≡ self.old.entries ++ entry ∷ [] }
         ensures confirmed { self.new.confirmed ≡ self.old.confirmed }
         ensures room { self.new.room ≡ None }
     {
-        self.room = None;
+        self.identifiers.hold();
         self.entries.push_reserved(entry);
     }
 
     /// Whether a message of this identifier came, taken over or not.
-    #[tactic(auto, unfolding(exchange_model::specs::Questions::is_known))]
     pub fn holds(&self, id: &MessageId) -> bool
         ensures { result ≡ is_known id.now self.now.entries }
     {
-        let wanted = id.bytes();
-        self.entries
-            .iter()
-            .any(|entry| entry.header.id.bytes() == wanted)
+        self.identifiers.contains(id)
     }
 
     /// How many messages came.

@@ -2,6 +2,7 @@
 #![tactic(auto)]
 
 mod held;
+mod identifiers;
 mod inbox;
 
 pub use held::Held;

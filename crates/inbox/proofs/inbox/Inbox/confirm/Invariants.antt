@@ -9,5 +9,5 @@ invariant-loop-at l = record {
   entries : l.self-inside.entries.items ≡ emptied l.at l.fn.self.entries;
   len : vec_len l.self-inside.entries ≡ vec_len l.initial.self-inside.entries;
   capacity : vec_capacity l.self-inside.entries ≡ vec_capacity l.initial.self-inside.entries;
-  room : l.self-inside.room ≡ l.initial.self-inside.room;
+  identifiers : l.self-inside.identifiers ≡ l.initial.self-inside.identifiers;
 }
