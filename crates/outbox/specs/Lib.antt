@@ -1,1 +1,4 @@
+pub mod Failing
+pub mod Counting
+pub mod Numbering
 pub mod Submissions

@@ -1,12 +1,17 @@
 //! What becomes of submissions in a list, where each stands at its number.
 
-ghost use Rattle.std.specs.Prelude.{◌≡◌, ◌≤◌, IsTrue, map, count_by};
-ghost use Rattle.exchange_model.specs.Questions.{due, is_pending, is_waiting, is_spent, sent_at};
-ghost use Rattle.exchange_model.specs.Apply.{tried, marked, changed, failed_if_spent, is_one};
+ghost use Rattle.std.specs.Prelude.{◌≡◌, ◌≤◌, IsTrue, Some};
+ghost use Rattle.exchange_model.specs.Questions.{due, is_pending, is_waiting, sent_at};
+ghost use Rattle.exchange_model.specs.Apply.{tried, marked, changed, is_one};
+ghost use Rattle.exchange_model.specs.declared.sent.Sent.{Sent as SentValue};
+ghost use Rattle.outbox.specs.Failing.{failing_at};
 ghost use Rattle.outbox.specs.Submissions.{Stand};
 
 use as4_values::MAX_MOMENT;
 use exchange_model::{Mark, Sent};
+
+/// Past all moments of the clock.
+pub const NEVER: u64 = u64::MAX;
 
 /// When it is to be sent or given up, in milliseconds since 1970-01-01T00:00:00Z.
 pub fn due_of(sent: &Sent) -> u64
@@ -20,26 +25,31 @@ pub fn due_of(sent: &Sent) -> u64
     }
 }
 
-fn is_spent_at(sent: &Sent, moment: u64) -> bool
+/// When a pending submission is given up: past all moments as long as it may be sent again.
+pub fn fails_at(sent: &Sent) -> u64
     requires { sent.now.last ≤ MAX_MOMENT }
-    ensures { result ≡ is_spent moment sent.now }
+    ensures { result ≡ failing_at sent.now }
 {
-    matches!(sent.mark, Mark::Pending)
-        && sent.tries == sent.submission.retries + 1
-        && due_of(sent) <= moment
+    if sent.tries == sent.submission.retries + 1 {
+        due_of(sent)
+    } else {
+        NEVER
+    }
 }
 
-/// The submission of this number is sent once more, at this moment.
-pub fn mark_tried(sent: &mut [Sent], number: u64, moment: u64)
+/// The submission of this number is sent once more, at this moment. Answers when it is given up now.
+pub fn mark_tried(sent: &mut [Sent], number: u64, moment: u64) -> u64
     requires stand { Stand sent.old }
     requires waiting { IsTrue (is_one is_waiting (sent_at number sent.old)) }
     requires dated { moment ≤ MAX_MOMENT }
     ensures after { sent.new ≡ changed number (tried moment) sent.old }
     ensures stand { Stand sent.new }
+    ensures fails { (one : SentValue) → sent_at number sent.old ≡ Some one → result ≡ failing_at (tried moment one) }
 {
     let one = &mut sent[number as usize];
     one.tries += 1;
     one.last = moment;
+    fails_at(one)
 }
 
 /// The submission of this number is settled.
@@ -51,33 +61,4 @@ pub fn settle(sent: &mut [Sent], number: u64, mark: Mark)
 {
     let one = &mut sent[number as usize];
     one.mark = mark;
-}
-
-/// Gives up each that is spent at this moment, and says how many these are.
-pub fn fail_spent(sent: &mut [Sent], moment: u64) -> u64
-    requires stand { Stand sent.old }
-    ensures count { result ≡ count_by (is_spent moment) sent.old }
-    ensures after { sent.new ≡ map (failed_if_spent moment) sent.old }
-    ensures stand { Stand sent.new }
-{
-    let mut count = 0;
-    for one in sent.iter_mut() {
-        if fail_if_spent(one, moment) {
-            count += 1;
-        }
-    }
-    count
-}
-
-/// Gives it up where it is spent at this moment, and says whether it is.
-fn fail_if_spent(sent: &mut Sent, moment: u64) -> bool
-    requires { sent.old.last ≤ MAX_MOMENT }
-    ensures spent { result ≡ is_spent moment sent.old }
-    ensures after { sent.new ≡ failed_if_spent moment sent.old }
-{
-    let spent = is_spent_at(sent, moment);
-    if spent {
-        sent.mark = Mark::Failed;
-    }
-    spent
 }

@@ -1,15 +1,23 @@
-//! The outbox: the submission of each number stands at that place.
+//! The outbox: the submission of each number stands at that place, and beside it
+//!
+//!     numbers  the number of each identifier
+//!     failing  those that are pending, by the moment at which each is given up
+//!     counts   how many were settled, and how
 
-ghost use Rattle.std.specs.Prelude.{◌≡◌, ◌≤◌, [], ◌∷◌, ◌++◌, IsSome, IsTrue, length, map, count_by, option_map, option_copied, IfSome, OnOk};
+ghost use Rattle.std.specs.Prelude.{◌≡◌, ◌<◌, ◌≤◌, ◌^◌, [], ◌∷◌, ◌++◌, IsSome, IsTrue, length, map, count_by, option_map, option_copied, false, IfNone, IfSome, OnOk};
 ghost use Rattle.std.specs.Option.{option_and_then};
-ghost use Rattle.exchange_model.specs.Questions.{due, is_pending, is_waiting, is_spent, sent_at, sent_of, standing_of};
+ghost use Rattle.exchange_model.specs.Questions.{due, is_pending, is_pending_mark, is_waiting, is_spent, sent_at, sent_of, standing_of};
 ghost use Rattle.exchange_model.specs.Apply.{unsent, as_carried, tried, marked, changed, failed_if_spent, is_one};
 ghost use Rattle.exchange_model.specs.Numbered.{AreNumberedFrom};
+ghost use Rattle.outbox.specs.Counting.{AreCounts};
 ghost use Rattle.outbox.specs.Submissions.{code_of};
 
-use crate::marking;
+use crate::counts::Counts;
+use crate::numbers::Numbers;
+use crate::{failing, marking};
 use as4_effects::{Carried, Submission};
-use as4_values::{Code, MAX_MOMENT, MessageId, NoMemory, PlainData};
+use as4_values::{Code, MAX_MOMENT, MessageId, NoMemory};
+use due_heap::Heaps;
 use exchange_model::{Mark, Sent, Standing};
 use std::alloc::Global;
 use std::marker::Model;
@@ -17,21 +25,27 @@ use std::marker::Model;
 /// The submissions of one end, in order of number, and room for one more. Contracts see a `Submissions`.
 #[derive(Drop)]
 pub struct Outbox {
-    alloc: Global,
     sent: Vec<Sent>,
-    room: Option<MessageId>,
+    numbers: Numbers,
+    failing: Heaps,
+    counts: Counts,
 }
 
 impl Model for Outbox {
     ghost use Rattle.std.specs.Prelude.{◌<◌, IsSome};
     ghost use Rattle.std.specs.Vec.{vec_len, vec_capacity};
+    ghost use Rattle.outbox.specs.Counting.{AreCounts};
+    ghost use Rattle.outbox.specs.Failing.{HasWatchRoom, Watches};
+    ghost use Rattle.outbox.specs.Numbering.{AreNumbers};
     ghost use Rattle.outbox.specs.Submissions.{Stand, Submissions};
 
     ghost Value = { Submissions };
 
-    ghost view = { λ o. record { sent = o.sent.items; room = o.room } };
+    ghost view = { λ o. record { sent = o.sent.items; room = o.numbers.room } };
 
-    ghost invariant = { λ o. Stand o.sent.items × (IsSome o.room → vec_len o.sent < vec_capacity o.sent) };
+    ghost invariant = { λ o. Stand o.sent.items × AreNumbers o.numbers o.sent.items × Watches o.failing o.sent.items
+        × AreCounts o.counts o.sent.items
+        × (IsSome o.numbers.room → (vec_len o.sent < vec_capacity o.sent) × HasWatchRoom o.failing (vec_len o.sent)) };
 }
 
 impl Outbox {
@@ -40,9 +54,10 @@ impl Outbox {
         ensures { result ≡ record { sent = []; room = None } }
     {
         Outbox {
-            alloc,
             sent: Vec::new(alloc),
-            room: None,
+            numbers: Numbers::new(alloc),
+            failing: Heaps::new(alloc),
+            counts: Counts::none(),
         }
     }
 
@@ -51,9 +66,10 @@ impl Outbox {
         ensures ok { OnOk result (self.new.room ≡ Some id.now) }
         ensures sent { self.new.sent ≡ self.old.sent }
     {
+        self.numbers.end_room();
         self.sent.reserve(1)?;
-        self.room = Some(id.try_clone(self.alloc)?);
-        Ok(())
+        failing::reserve(&mut self.failing, self.sent.len() as u64)?;
+        self.numbers.reserve(self.sent.len(), id)
     }
 
     pub fn len(&self) -> u64
@@ -75,11 +91,7 @@ impl Outbox {
     pub fn number_of(&self, id: &MessageId) -> Option<u64>
         ensures { result ≡ option_map (λ s. s.submission.number) (sent_of id.now self.now.sent) }
     {
-        let sent = self
-            .sent
-            .iter()
-            .find(|sent| sent.submission.header.id.same(id))?;
-        Some(sent.submission.number)
+        self.numbers.number_of(self.sent.len(), id)
     }
 
     /// When the submission is to be sent or given up, in milliseconds since 1970-01-01T00:00:00Z.
@@ -170,13 +182,16 @@ impl Outbox {
 
     /// Adds one at the end, and its room is used up.
     fn push(&mut self, sent: Sent)
-        requires room { IsSome self.old.room }
+        requires room { self.old.room ≡ Some sent.submission.header.id }
         requires next { sent.submission.number ≡ length self.old.sent }
+        requires new { sent_of sent.submission.header.id self.old.sent ≡ None }
         requires dated { sent.last ≤ MAX_MOMENT }
         ensures { self.new.sent ≡ self.old.sent ++ sent ∷ [] }
     {
+        failing::watch(&mut self.failing, &sent);
+        self.counts.add(&sent.mark);
+        self.numbers.take_room();
         self.sent.push_reserved(sent);
-        self.room = None;
     }
 
     /// The submission is sent once more, at this moment.
@@ -186,7 +201,8 @@ impl Outbox {
         ensures sent { self.new.sent ≡ changed number (tried moment) self.old.sent }
         ensures room { self.new.room ≡ self.old.room }
     {
-        marking::mark_tried(self.sent.as_mut_slice(), number, moment);
+        let fails_at = marking::mark_tried(self.sent.as_mut_slice(), number, moment);
+        self.failing.set_due(number, fails_at);
     }
 
     /// The receipt of the submission came.
@@ -195,7 +211,7 @@ impl Outbox {
         ensures sent { self.new.sent ≡ changed number (marked Mark.Receipted) self.old.sent }
         ensures room { self.new.room ≡ self.old.room }
     {
-        marking::settle(self.sent.as_mut_slice(), number, Mark::Receipted);
+        self.settle(number, Mark::Receipted);
     }
 
     /// The other end refused the submission with this error.
@@ -204,7 +220,19 @@ impl Outbox {
         ensures sent { self.new.sent ≡ changed number (marked (Mark.Refused code)) self.old.sent }
         ensures room { self.new.room ≡ self.old.room }
     {
-        marking::settle(self.sent.as_mut_slice(), number, Mark::Refused { code });
+        self.settle(number, Mark::Refused { code });
+    }
+
+    /// The submission stands so from now on.
+    fn settle(&mut self, number: u64, mark: Mark)
+        requires pending { IsTrue (is_one is_pending (sent_at number self.old.sent)) }
+        requires settled { is_pending_mark mark ≡ false }
+        ensures sent { self.new.sent ≡ changed number (marked mark) self.old.sent }
+        ensures room { self.new.room ≡ self.old.room }
+    {
+        self.failing.remove(number);
+        self.counts.add(&mark);
+        marking::settle(self.sent.as_mut_slice(), number, mark);
     }
 
     /// Gives up each submission that is spent at this moment, and says how many these are.
@@ -213,7 +241,36 @@ impl Outbox {
         ensures sent { self.new.sent ≡ map (failed_if_spent moment) self.old.sent }
         ensures room { self.new.room ≡ self.old.room }
     {
-        marking::fail_spent(self.sent.as_mut_slice(), moment)
+        let mut count = 0;
+        while let Some(number) = self.first_spent(moment) {
+            self.settle(number, Mark::Failed);
+            count += 1;
+        }
+        count
+    }
+
+    /// One that is spent at this moment.
+    fn first_spent(&self, moment: u64) -> Option<u64>
+        ensures spent { IfSome result (λ number. IsTrue (is_one (is_spent moment) (sent_at number self.now.sent))) }
+        ensures none { IfNone result (count_by (is_spent moment) self.now.sent ≡ 0) }
+        ensures numbered { AreNumberedFrom 0 self.now.sent }
+        ensures few { length self.now.sent < 2 ^ 63 }
+    {
+        failing::first_before(&self.failing, moment)
+    }
+
+    /// How many submissions are spent at this moment.
+    pub fn spent(&self, moment: u64) -> u64
+        ensures { result ≡ count_by (is_spent moment) self.now.sent }
+    {
+        failing::count_before(&self.failing, moment)
+    }
+
+    /// How many submissions were settled, and how.
+    pub fn counts(&self) -> Counts
+        ensures { AreCounts result self.now.sent }
+    {
+        self.counts
     }
 
     /// What was handed in at this number, and what became of it.

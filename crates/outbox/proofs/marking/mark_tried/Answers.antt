@@ -1,4 +1,7 @@
-use Rattle.std.proofs.Common.{◌<◌, ◌≤◌, length, get_or, refl, rules}
+use Rattle.std.proofs.Common.{◌<◌, ◌≤◌, length, get_or, refl, sym, ap, ◌∙◌, ◌≡◌, rules}
+use Rattle.std.proofs.lemmas.Option.{get_or_from_slice_get}
+use Rattle.exchange_model.proofs.NumberedLemmas.{place}
+use Rattle.outbox.specs.Failing.{failing_at}
 use Rattle.exchange_model.specs.Questions.{is_waiting}
 use Rattle.exchange_model.specs.Apply.{tried}
 use Rattle.outbox.proofs.NumberedLemmas.{changed_at}
@@ -28,3 +31,10 @@ pub returns-clause-stand : goal.returns-clause-stand
 returns-clause-stand c =
     set_stands c.args.number c.args.sent.now _ c.index-sent-number.result
     (held_short is_waiting _ _ c.requires.stand c.requires.waiting) refl c.requires.dated c.requires.stand
+
+pub returns-clause-fails : goal.returns-clause-fails
+returns-clause-fails c = λ one found.
+    let there : get_or c.args.sent.now c.args.number c.index-sent-number.result ≡ one =
+    get_or_from_slice_get c.args.sent.now c.args.number one c.index-sent-number.result
+    (sym (place c.args.number c.args.sent.now c.requires.stand.numbered) ∙ found) in
+    c.fails_at.ensures ∙ ap (λ s. failing_at (tried c.args.moment s)) there
