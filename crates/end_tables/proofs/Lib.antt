@@ -1,4 +1,3 @@
-pub mod CountLemmas
 pub mod HeadLemmas
 pub mod KeptLemmas
 pub mod NumberLemmas

@@ -2,7 +2,7 @@
 
 ghost use Rattle.std.specs.Prelude.{◌≡◌};
 ghost use Rattle.exchange_model.specs.Apply.{is_one};
-ghost use Rattle.exchange_model.specs.Questions.{is_pending, is_spent, is_waiting, sent_at};
+ghost use Rattle.exchange_model.specs.Questions.{is_pending, is_waiting, sent_at};
 
 use exchange_model::Standing;
 use outbox::Outbox;
@@ -22,23 +22,6 @@ pub fn waits(outbox: &Outbox, number: u64) -> bool
 {
     match (outbox.status(number), outbox.get(number)) {
         (Some(Standing::Pending { tries }), Some(submission)) => tries <= submission.retries,
-        _ => false,
-    }
-}
-
-/// Whether it was sent for the last time, and its receipt is overdue.
-#[tactic(auto, unfolding(exchange_model::specs::Questions::standing_of))]
-pub fn is_spent(outbox: &Outbox, number: u64, moment: u64) -> bool
-    ensures { result ≡ is_one (is_spent moment) (sent_at number outbox.now.sent) }
-{
-    match (
-        outbox.status(number),
-        outbox.get(number),
-        outbox.due(number),
-    ) {
-        (Some(Standing::Pending { tries }), Some(submission), Some(due)) => {
-            tries == submission.retries + 1 && due <= moment
-        }
         _ => false,
     }
 }
