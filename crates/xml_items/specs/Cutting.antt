@@ -1,0 +1,123 @@
+-- The item at the front of bytes, and what stands behind it (XML 1.0, sections 2.4, 2.5, 2.8 and 3.1), cut by
+-- bytes alone.
+use Rattle.std.specs.Prelude.{ℕ, zero, suc, List, [], ◌∷◌, Bool, true, false, ◌==◌, if◌then◌else◌, Option, Some, None, codes, length, drop, nat_eq}
+use Rattle.std.specs.List.{prefix_len, take_while, starts_with}
+use Rattle.std.specs.Option.{option_map}
+use Rattle.as4_values.specs.Texts.{is_blank}
+use Rattle.xml_items.specs.Classes.{is_name_byte, is_quote, is_value_byte, is_text_byte, declares}
+use Rattle.xml_items.specs.Items.{Written, Item, declaration, comment, start, finish, run}
+
+-- what the second cuts behind the first, where both cut something
+infixl 10 ◌>>=◌
+abbrev pub ◌>>=◌ : {A B : Type 0} → Option A → (A → Option B) → Option B
+None >>= f = None
+(Some x) >>= f = f x
+
+-- what stands behind the longest run of bytes of a class
+abbrev pub skip : (ℕ → Bool) → List ℕ → List ℕ
+skip class bytes = drop (prefix_len class bytes) bytes
+
+-- such a run of at least one byte, and what stands behind it
+unfoldable pub run_at : (ℕ → Bool) → List ℕ → Option (List ℕ × List ℕ)
+run_at class bytes =
+    if prefix_len class bytes == 0 then None else Some (take_while class bytes, skip class bytes)
+
+-- what stands behind a word
+unfoldable pub behind : List ℕ → List ℕ → Option (List ℕ)
+behind word bytes = if starts_with nat_eq bytes word then Some (drop (length word) bytes) else None
+
+-- a value behind its first quote, up to the second, and what stands behind that
+unfoldable pub value_in : ℕ → List ℕ → Option (List ℕ × List ℕ)
+value_in quote bytes = do
+  rest ← behind (quote ∷ []) (skip (is_value_byte quote) bytes)
+  Some (take_while (is_value_byte quote) bytes, rest)
+
+-- a value between its quotes, and what stands behind it
+unfoldable pub value_at : List ℕ → Option (List ℕ × List ℕ)
+value_at [] = None
+value_at (b ∷ bytes) = if is_quote b then value_in b bytes else None
+
+-- an attribute behind blanks: its name, `=` with blanks round it or without, its value
+unfoldable pub attribute_at : List ℕ → Option (Written × List ℕ)
+attribute_at bytes = do
+  blanks ← run_at is_blank bytes
+  name ← run_at is_name_byte blanks.1
+  rest ← behind (codes "=") (skip is_blank name.1)
+  value ← value_at (skip is_blank rest)
+  Some (record { name = name.0; value = value.0 }, value.1)
+
+-- as many attributes as stand there one behind another, up to a number of them
+unfoldable pub attributes_within : ℕ → List ℕ → List Written × List ℕ
+attributes_within zero bytes = ([], bytes)
+attributes_within (suc n) bytes =
+    elim (attribute_at bytes) [
+      | None ↦ ([], bytes)
+      | Some first ↦
+          let others = attributes_within n first.1 in
+          (first.0 ∷ others.0, others.1)
+    ]
+
+-- all that stand there: bytes hold no more attributes than bytes
+unfoldable pub attributes_at : List ℕ → List Written × List ℕ
+attributes_at bytes = attributes_within (length bytes) bytes
+
+-- how a start tag ends, `/>` or `>`: whether it is closed
+unfoldable pub tag_end_at : List ℕ → Option (Bool × List ℕ)
+tag_end_at bytes =
+    elim (behind (codes "/>") bytes) [
+      | Some rest ↦ Some (true, rest)
+      | None ↦ option_map (λ rest. (false, rest)) (behind (codes ">") bytes)
+    ]
+
+-- a start tag, behind its `<`
+unfoldable pub start_at : List ℕ → Option (Item × List ℕ)
+start_at bytes = do
+  name ← run_at is_name_byte bytes
+  last ← tag_end_at (skip is_blank (attributes_at name.1).1)
+  Some (start (record { name = name.0; attributes = (attributes_at name.1).0; closed = last.0 }), last.1)
+
+-- an end tag, behind its `</`
+unfoldable pub finish_at : List ℕ → Option (Item × List ℕ)
+finish_at bytes = do
+  name ← run_at is_name_byte bytes
+  rest ← behind (codes ">") (skip is_blank name.1)
+  Some (finish name.0, rest)
+
+-- what stands before the first `--` and behind it
+unfoldable pub dashes_at : List ℕ → Option (List ℕ × List ℕ)
+dashes_at [] = None
+dashes_at (b ∷ bytes) =
+    elim (behind (codes "--") (b ∷ bytes)) [
+      | Some rest ↦ Some ([], rest)
+      | None ↦ option_map (λ cut. (b ∷ cut.0, cut.1)) (dashes_at bytes)
+    ]
+
+-- a comment, behind its `<!`: the first `--` in it ends it
+unfoldable pub comment_at : List ℕ → Option (Item × List ℕ)
+comment_at bytes = do
+  text ← behind (codes "--") bytes
+  cut ← dashes_at text
+  rest ← behind (codes ">") cut.1
+  Some (comment cut.0, rest)
+
+-- an XML declaration, behind its `<?`: its parts are written as attributes are
+unfoldable pub declaration_at : List ℕ → Option (Item × List ℕ)
+declaration_at bytes = do
+  parts ← behind (codes "xml") bytes
+  rest ← behind (codes "?>") (skip is_blank (attributes_at parts).1)
+  if declares (attributes_at parts).0 then Some (declaration, rest) else None
+
+-- the item whose first byte is `<`, behind that
+unfoldable pub markup_at : List ℕ → Option (Item × List ℕ)
+markup_at [] = None
+markup_at (b ∷ bytes) =
+    if b == 47 then finish_at bytes
+    else if b == 33 then comment_at bytes
+    else if b == 63 then declaration_at bytes
+    else start_at (b ∷ bytes)
+
+-- the item at the front and what stands behind it; None where no item stands there
+unfoldable pub item_at : List ℕ → Option (Item × List ℕ)
+item_at [] = None
+item_at (b ∷ bytes) =
+    if b == 60 then markup_at bytes else Some (run (take_while is_text_byte (b ∷ bytes)), skip is_text_byte (b ∷ bytes))

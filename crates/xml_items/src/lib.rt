@@ -1,0 +1,15 @@
+//! The items of an XML document, cut by bytes alone. What their texts, names and values say is judged above.
+#![tactic(auto)]
+
+mod attributes;
+mod comments;
+mod declaration;
+mod item;
+mod laws;
+mod next;
+mod runs;
+mod tags;
+
+pub use item::{RawAttribute, RawItem};
+pub use laws::{item_is_written, one_item};
+pub use next::next_item;
