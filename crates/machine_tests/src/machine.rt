@@ -1,11 +1,13 @@
 mod arrivals;
 mod filling;
 mod folded;
+mod many;
 mod replayed;
 mod rig;
 mod said;
 mod steps;
 
+use many::exchanged;
 use rig::right_steps;
 use std::alloc::{AllocError, Global};
 use steps::{End, Said, Step};
@@ -272,4 +274,10 @@ fn a_full_journal_changes_nothing(rt: HostRuntime) {
         right_steps(rt.alloc(), A_FULL_JOURNAL),
         A_FULL_JOURNAL.len()
     );
+}
+
+/// Each event costs the logarithm of what stands: over lists that are searched this would take an hour.
+#[test]
+fn two_hundred_thousand_are_exchanged(rt: HostRuntime) {
+    assert_eq!(rt; exchanged(rt.alloc(), 200_000), Some((200_000, 200_000)));
 }

@@ -190,6 +190,10 @@ next_waiting inbox confirmed count start total next so_far more =
     next_sum delivered_len (drop confirmed inbox) count start total next so_far
     (more ∙ ap (λ o. capped (total + len_at delivered_len o)) (sym (slice_get_dropped inbox confirmed count)))
 
+-- an end has one size
+pub size_only : (end : End) (n size : ℕ) → IsSizeOf end n → IsFoldedSize end size → n ≡ capped size
+size_only end n size found is = found.2 ∙ ap capped (one_size end found.0 size found.1 is)
+
 -- where the fold has room in a journal, its size is the one that is found
 pub size_is : (end : End) (n size : ℕ) → IsSizeOf end n → ((s : ℕ) → IsFoldedSize end s → s ≤ 4294967296) → IsFoldedSize end size → n ≡ size
 size_is end n size found limited is =

@@ -62,6 +62,7 @@ impl Core {
     pub fn folded_size(&self) -> u64
         ensures reached { IsReached self.now.end }
         ensures size { (size : ℕ) × IsFoldedSize self.now.end size × (result ≡ capped size) }
+        ensures only { (size : ℕ) → IsFoldedSize self.now.end size → result ≡ capped size }
     {
         let sum = submissions_size(&self.tables, JOURNAL_HEAD);
         let sum = taken_over_size(&self.tables, sum);

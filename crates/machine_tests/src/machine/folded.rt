@@ -4,7 +4,7 @@ use super::replayed::replays;
 use super::rig::new_core;
 use as4_effects::Effect;
 use as4_values::Seq;
-use msh_core::Core;
+use msh_core::{Core, MAX_JOURNAL};
 use std::alloc::Global;
 
 /// Whether the fold gives the end back, in a journal of the folded size.
@@ -20,6 +20,16 @@ pub fn is_given_back(alloc: Global, core: &Core) -> bool {
         }
         None => false,
     }
+}
+
+/// Whether the end can be folded, and its journal has the fold's size then.
+pub fn is_folded(core: &mut Core) -> bool {
+    let size = core.folded_size();
+    if size > MAX_JOURNAL {
+        return false;
+    }
+    core.set_folded();
+    core.size() == size
 }
 
 /// Whether all effects of the fold are made again, each in a record of its own, and nothing stands behind them.

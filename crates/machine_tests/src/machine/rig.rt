@@ -5,7 +5,7 @@ ghost use Rattle.as4_codes.specs.ErrorCodes.{error_row};
 ghost use Rattle.msh_core.specs.Machine.{IsReady};
 ghost use Rattle.msh_core.specs.Small.{IsSmallReady};
 
-use super::folded::is_given_back;
+use super::folded::{is_folded, is_given_back};
 use super::replayed::replays;
 use super::said::summary;
 use super::steps::{End, Said, Step};
@@ -113,7 +113,7 @@ fn right_steps_of(a: &mut Rig, b: &mut Rig, steps: &[(End, Step, Said)]) -> usiz
 }
 
 /// An end to which nothing has happened.
-fn new_end(alloc: Global) -> Option<Rig> {
+pub(super) fn new_end(alloc: Global) -> Option<Rig> {
     match (new_core(alloc), new_core(alloc)) {
         (Some(core), Some(follower)) => Some(Rig {
             core,
@@ -139,7 +139,7 @@ pub fn new_core(alloc: Global) -> Option<Core> {
 impl Rig {
     /// What it says to a step.
     #[tactic(auto, unfolding(exchange_model::specs::Coming::may_come))]
-    fn does(&mut self, step: Step, other: &Rig) -> Option<Said> {
+    pub(super) fn does(&mut self, step: Step, other: &Rig) -> Option<Said> {
         match step {
             Step::Submit(mode) => self.submits(mode, b"hello"),
             Step::SubmitTooMuch(mode) => self.submits_too_much(mode),
@@ -241,9 +241,11 @@ impl Rig {
         }
     }
 
-    /// Whether its records, and its fold, lead where it stands.
-    fn is_well_kept(&self) -> bool {
-        self.has_its_follower() && is_given_back(self.alloc, &self.core)
+    /// Whether its records, and its fold, lead where it stands, and its journal can be written again so.
+    fn is_well_kept(&mut self) -> bool {
+        self.has_its_follower()
+            && is_given_back(self.alloc, &self.core)
+            && is_folded(&mut self.core)
     }
 
     /// Whether the follower, where it has one, stands where this end does.

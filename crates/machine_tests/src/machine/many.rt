@@ -1,0 +1,66 @@
+//! Many messages between two ends: all are handed in, and then each is sent, delivered and receipted.
+
+use super::rig::{Rig, new_end};
+use super::steps::{Said, Step};
+use as4_values::{Seq, Text};
+use msh_core::What;
+use std::alloc::Global;
+
+/// How many submissions have their receipt at one end, and how many messages came at the other, once so many were
+/// exchanged.
+pub fn exchanged(alloc: Global, count: u64) -> Option<(u64, u64)> {
+    match (new_end(alloc), new_end(alloc)) {
+        (Some(mut a), Some(mut b)) => {
+            drop(a.follower.take());
+            drop(b.follower.take());
+            let done = are_submitted(&mut a, count) && are_delivered(&mut a, &mut b, count);
+            let (sent, came) = (a.core.totals(), b.core.totals());
+            drop(a);
+            drop(b);
+            if done {
+                Some((sent.receipted, came.inbox))
+            } else {
+                None
+            }
+        }
+        (a, b) => {
+            drop(a);
+            drop(b);
+            None
+        }
+    }
+}
+
+fn are_submitted(end: &mut Rig, count: u64) -> bool {
+    for number in 0..count {
+        if end.submits_nothing() != Some(Said::Submitted(number)) {
+            return false;
+        }
+    }
+    true
+}
+
+fn are_delivered(a: &mut Rig, b: &mut Rig, count: u64) -> bool {
+    for _ in 0..count {
+        if a.does(Step::Take, b) != Some(Said::Push)
+            || b.does(Step::Hear, a) != Some(Said::Receipt)
+            || a.does(Step::Receipt, b) != Some(Said::Quiet)
+        {
+            return false;
+        }
+    }
+    true
+}
+
+impl Rig {
+    /// A message without payloads is handed in.
+    #[tactic(auto, unfolding(exchange_model::specs::Coming::may_come))]
+    fn submits_nothing(&mut self) -> Option<Said> {
+        let mode = Text::read(self.alloc, b"invoice").ok()?;
+        self.says(What::Submit {
+            mode,
+            conversation: None,
+            loads: Seq::of(Vec::new(self.alloc)),
+        })
+    }
+}
