@@ -1,0 +1,16 @@
+pub mod NameLemmas
+pub mod NumberLemmas
+pub mod TextLemmas
+pub mod SimpleLemmas
+pub mod ScopeLemmas
+pub mod ApartLemmas
+pub mod StepLemmas
+pub mod SpellLemmas
+pub mod TreeLemmas
+pub mod CutLemmas
+pub mod PlaceLemmas
+pub mod HaltLemmas
+pub mod UniqueLemmas
+pub mod EscapedLemmas
+pub mod CanonicalNames
+pub mod CanonicalLemmas

@@ -1,0 +1,8 @@
+use Rattle.std.proofs.Common.{◌≡◌, map, drop}
+use Rattle.tree_reader.specs.Scopes.{found}
+use Rattle.tree_reader.specs.Views.{binding_of}
+use Rattle.tree_reader.proofs.scope.found_in.Given as goal
+
+-- all depends on the declarations that are left
+abbrev pub invariant-loop-binding : goal.invariant-loop-binding
+invariant-loop-binding l = found (map binding_of l.declared) l.prefix ≡ found (map binding_of (drop l.binding-index l.declared)) l.prefix

@@ -1,0 +1,64 @@
+-- What the loop over items has read, and where it halts.
+use Rattle.std.specs.Borrow.{Bor}
+use Rattle.std.specs.Prelude.{◌≡◌, ◌⊎◌, ℕ, List, [], Some, None, Result, Ok, Err, length, map}
+use Rattle.as4_envelope.specs.declared.tree.Element.{Element}
+use Rattle.xml_items.specs.Items.{Item}
+use Rattle.xml_items.specs.Cutting.{item_at}
+use Rattle.xml_items.specs.Grammar.{WrittenItem, meaning}
+use Rattle.tree_reader.specs.Reading.{Fault, markup, too_deep, State, within, done, step, run_items, nothing_read}
+use Rattle.tree_reader.specs.Documents.{Cuts, levels}
+use Rattle.tree_reader.specs.declared.stop.Stop.{Stop}
+use Rattle.tree_reader.specs.declared.stop.Stop.TheVariants as stops
+use Rattle.tree_reader.specs.declared.stop.TreeRefusal.{TreeRefusal}
+use Rattle.tree_reader.specs.declared.stop.TreeRefusal.TheVariants.{Markup, TooDeep, NoMemory}
+use Rattle.tree_reader.specs.declared.reading.Reading.{Reading}
+use Rattle.tree_reader.specs.declared.read.Halt.{Halt}
+use Rattle.tree_reader.specs.Views.{state_of}
+
+-- the items up to the rest were read, and this came of them
+pub record Reached (bytes : List ℕ) (state : State) (rest : List ℕ) : Type 0 where
+  pub items : List WrittenItem
+  pub cut : Cuts bytes items rest
+  pub runs : run_items levels (map meaning items) nothing_read ≡ Ok state
+
+-- the item at the front of the rest, and what it makes of what was read
+pub record Meets (state : State) (rest : List ℕ) (answer : Result State Fault) (behind : List ℕ) : Type 0 where
+  pub item : Item
+  pub here : item_at rest ≡ Some (item, behind)
+  pub gives : step levels item state ≡ answer
+
+-- one item was read, or this is why not
+abbrev pub Advances : Result (Reading × Bor (List ℕ)) Stop → State → List ℕ → Type 0
+Advances (Ok next) state rest = Meets state rest (Ok (state_of next.0)) next.1.now
+Advances (Err stops.Memory) state rest = Unit {0}
+Advances (Err stops.Markup) state rest = (item_at rest ≡ None) ⊎ ((behind : List ℕ) × Meets state rest (Err markup) behind)
+Advances (Err stops.TooDeep) state rest = (behind : List ℕ) × Meets state rest (Err too_deep) behind
+
+-- whether the root was read to its end
+abbrev pub IsDone : State → Type 0
+IsDone (within first os) = ⊥
+IsDone (done root) = Unit {0}
+
+-- where it halts
+abbrev pub HaltsBy : Stop → State → List ℕ → Type 0
+HaltsBy stops.Memory state rest = Unit {0}
+HaltsBy stops.Markup state rest =
+    ((item_at rest ≡ None) × (rest ≡ [] → ¬ (IsDone state))) ⊎ ((behind : List ℕ) × Meets state rest (Err markup) behind)
+HaltsBy stops.TooDeep state rest = (behind : List ℕ) × Meets state rest (Err too_deep) behind
+
+pub record HaltsAt (bytes : List ℕ) (stop : Stop) (left : ℕ) : Type 0 where
+  pub state : State
+  pub rest : List ℕ
+  pub reached : Reached bytes state rest
+  pub left_is : left ≡ length rest
+  pub by : HaltsBy stop state rest
+
+-- all items were read, or this is why not
+abbrev pub Halts : Result Element Halt → List ℕ → Type 0
+Halts (Ok tree) bytes = Reached bytes (done tree) []
+Halts (Err halt) bytes = HaltsAt bytes halt.stop halt.left
+
+abbrev pub refusal_of : Stop → ℕ → TreeRefusal
+refusal_of stops.Memory at = NoMemory
+refusal_of stops.Markup at = Markup at
+refusal_of stops.TooDeep at = TooDeep at

@@ -1,0 +1,11 @@
+pub mod Steps
+pub mod Names
+pub mod Decoded
+pub mod Scopes
+pub mod Reading
+pub mod Trees
+pub mod Documents
+pub mod Views
+pub mod Halts
+pub mod Readable
+pub mod Apart

@@ -1,0 +1,21 @@
+-- Steps that may have no answer, one after another.
+use Rattle.std.specs.Prelude.{List, [], ◌∷◌, ◌++◌, Bool, if◌then◌else◌, Option, Some, None}
+
+infixl 10 ◌>>=◌
+abbrev pub ◌>>=◌ : {A B : Type 0} → Option A → (A → Option B) → Option B
+None >>= f = None
+(Some x) >>= f = f x
+
+-- x, if the test holds
+abbrev pub given : {A : Type 0} → Bool → Option A → Option A
+given test x = if test then x else None
+
+-- what stands in front of what follows, if that has an answer
+abbrev pub with_front : {A : Type 0} → List A → Option (List A) → Option (List A)
+with_front front None = None
+with_front front (Some others) = Some (front ++ others)
+
+-- what all give, in order, if each has an answer
+abbrev pub gathered : {X Y : Type 0} → (X → Option (List Y)) → List X → Option (List Y)
+gathered of_one [] = Some []
+gathered of_one (x ∷ xs) = of_one x >>= λ ys. with_front ys (gathered of_one xs)

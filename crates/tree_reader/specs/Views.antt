@@ -1,0 +1,90 @@
+-- What the code's values stand for.
+use Rattle.std.specs.Borrow.{Bor}
+use Rattle.std.specs.Prelude.{◌≡◌, ℕ, ◌<◌, ◌≤◌, ◌++◌, length, drop, List, [], ◌∷◌, Bool, false, Option, Some, None, Result, Ok, Err, map, reverse}
+use Rattle.tree_reader.specs.Steps.{with_front}
+use Rattle.tree_reader.specs.Decoded.{Piece, meant_behind}
+use Rattle.tree_reader.specs.Names.{Qualified}
+use Rattle.tree_reader.specs.Scopes.{Binding, Begun, scope_of}
+use Rattle.tree_reader.specs.Reading.{Fault, markup, too_deep, State, within, done}
+use Rattle.tree_reader.specs.declared.stop.Stop.{Stop}
+use Rattle.tree_reader.specs.declared.stop.Stop.TheVariants as stops
+use Rattle.tree_reader.specs.declared.names.SplitName.{SplitName}
+use Rattle.tree_reader.specs.declared.scope.Declared.{Declared}
+use Rattle.tree_reader.specs.declared.scope.Open.{Open}
+use Rattle.tree_reader.specs.declared.scope.Scope.{Scope}
+use Rattle.tree_reader.specs.declared.reading.Reading.{Reading}
+use Rattle.tree_reader.specs.declared.reading.Reading.TheVariants.{Before, Inside, Done}
+
+abbrev pub qualified_of : SplitName → Qualified
+qualified_of q = record { prefix = q.prefix.now; local = q.local.now }
+
+abbrev pub binding_of : Declared → Binding
+binding_of b = record { prefix = b.prefix.now; space = b.space }
+
+abbrev pub begun_of : Open → Begun
+begun_of o = record {
+  name = o.name.now;
+  declared = map binding_of o.declared.items;
+  space = o.space;
+  local = o.local.now;
+  attributes = o.attributes.items;
+  text = o.text.items;
+  children = o.children.items;
+}
+
+-- open elements, the innermost last
+abbrev pub stack_of : List Open → List Begun
+stack_of os = map begun_of (reverse os)
+
+-- what is declared in a tag and in the elements round it, innermost first
+abbrev pub scope_in : Scope → List Binding
+scope_in s = map binding_of s.declared.now ++ scope_of (stack_of s.around.now)
+
+abbrev pub state_of : Reading → State
+state_of (Before first) = within first []
+state_of (Inside innermost around) = within false (begun_of innermost ∷ stack_of around.items)
+state_of (Done root) = done root
+
+-- what is found, seen by view, is the answer, unless memory ran out
+abbrev pub Misses : {Y : Type 0} → Stop → Option Y → Type 0
+Misses stops.Memory answer = Unit {0}
+Misses stops.Markup answer = answer ≡ None
+Misses stops.TooDeep answer = ⊥
+
+abbrev pub Finds : {X Y : Type 0} → (X → Y) → Result X Stop → Option Y → Type 0
+Finds view (Ok x) answer = answer ≡ Some (view x)
+Finds view (Err stop) answer = Misses stop answer
+
+-- what is found is added to what was there
+abbrev pub Adds : {X A : Type 0} → Result X Stop → Option (List A) → List A → List A → Type 0
+Adds (Ok x) answer old new = with_front old answer ≡ Some new
+Adds (Err stop) answer old new = Misses stop answer
+
+-- a piece is added; the rest is what stands behind it
+abbrev pub AddsPiece : Result (Bor (List ℕ)) Stop → Option Piece → List ℕ → List ℕ → List ℕ → Type 0
+AddsPiece (Ok rest) answer bytes old new =
+    (p : Piece) × (answer ≡ Some p) × (new ≡ old ++ p.meant) × (rest.now ≡ drop p.more bytes) × (length rest.now ≤ length bytes)
+AddsPiece (Err stop) answer bytes old new = Misses stop answer
+
+-- what was added and what is left mean together what is to be added
+abbrev pub GoesOn : Result (Bor (List ℕ)) Stop → Bool → List ℕ → List ℕ → List ℕ → Type 0
+GoesOn (Ok rest) in_value bytes old new =
+    (with_front old (meant_behind in_value 0 bytes) ≡ with_front new (meant_behind in_value 0 rest.now)) × (length rest.now < length bytes)
+GoesOn (Err stop) in_value bytes old new = Misses stop (meant_behind in_value 0 bytes)
+
+-- the same of an answer that may be a fault
+abbrev pub Fails : {Y : Type 0} → Stop → Result Y Fault → Type 0
+Fails stops.Memory answer = Unit {0}
+Fails stops.Markup answer = answer ≡ Err markup
+Fails stops.TooDeep answer = answer ≡ Err too_deep
+
+abbrev pub Gives : {X Y : Type 0} → (X → Y) → Result X Stop → Result Y Fault → Type 0
+Gives view (Ok x) answer = answer ≡ Ok (view x)
+Gives view (Err stop) answer = Fails stop answer
+
+-- what was read, unless memory ran out
+abbrev pub Places : Result Reading Stop → State → Type 0
+Places (Ok reading) state = state_of reading ≡ state
+Places (Err stops.Memory) state = Unit {0}
+Places (Err stops.Markup) state = ⊥
+Places (Err stops.TooDeep) state = ⊥

@@ -1,0 +1,126 @@
+//! Documents, read item by item.
+
+ghost use Rattle.std.specs.Prelude.{◌≡◌, ◌↔◌, ◌<◌, ◌≤◌, ◌-◌, IfOk, IfErr, Err, length};
+ghost use Rattle.as4_envelope.specs.declared.tree.Element.{Element};
+ghost use Rattle.tree_reader.specs.Documents.{limit, behind_mark, IsDocument, IsReadAs, NamesPlace};
+ghost use Rattle.tree_reader.specs.Halts.{Advances, Halts, refusal_of};
+ghost use Rattle.tree_reader.specs.Views.{state_of};
+
+use crate::reading::{Reading, after};
+use crate::stop::{Stop, TreeRefusal};
+use as4_envelope::Element;
+use std::alloc::Global;
+use xml_items::{RawAttribute, next_item};
+
+/// How many bytes a document has at most.
+pub const MAX_BYTES: usize = 262_144;
+
+/// The tree of a document (XML 1.0, Fifth Edition, sections 2 to 4; Namespaces in XML 1.0) in UTF-8, of at most
+/// `MAX_BYTES` bytes and `MAX_DEPTH` levels; a byte order mark may come first. Document types, CDATA sections and
+/// processing instructions are refused, and of entities there are the five that need no declaration.
+pub fn read_tree(alloc: Global, bytes: &[u8]) -> Result<Element, TreeRefusal>
+    ensures too_long { (result ≡ Err TreeRefusal.TooLong) ↔ (limit < length bytes.now) }
+    ensures ok { IfOk result (IsDocument bytes.now) }
+    ensures only { (tree : Element) → IsDocument bytes.now tree → IsReadAs result tree }
+    ensures place { IfErr result (NamesPlace bytes.now) }
+{
+    if bytes.len() > MAX_BYTES {
+        return Err(TreeRefusal::TooLong);
+    }
+    match read_items(alloc, behind_mark(bytes)) {
+        Ok(tree) => Ok(tree),
+        Err(halt) => Err(refusal(halt, bytes.len())),
+    }
+}
+
+/// What follows the byte order mark, if there is one.
+#[tactic(auto, unfolding(crate::specs::Documents::behind_mark))]
+fn behind_mark(bytes: &[u8]) -> &[u8]
+    ensures { result.now ≡ behind_mark bytes.now }
+{
+    match bytes.strip_prefix(b"\xEF\xBB\xBF") {
+        Some(behind) => behind,
+        None => bytes,
+    }
+}
+
+/// Where reading halts, by how many bytes are left, and why.
+#[derive(Clone, Copy)]
+struct Halt {
+    stop: Stop,
+    left: usize,
+}
+
+/// What a halt says of a document of so many bytes.
+fn refusal(halt: Halt, len: usize) -> TreeRefusal
+    requires { halt.left ≤ len }
+    ensures { result ≡ refusal_of halt.stop (len - halt.left) }
+{
+    let at = len - halt.left;
+    match halt.stop {
+        Stop::Memory => TreeRefusal::NoMemory,
+        Stop::Markup => TreeRefusal::Markup { at },
+        Stop::TooDeep => TreeRefusal::TooDeep { at },
+    }
+}
+
+/// The tree of all items.
+fn read_items(alloc: Global, bytes: &[u8]) -> Result<Element, Halt>
+    ensures halts { Halts result bytes.now }
+    ensures within { IfErr result (λ halt. halt.left ≤ length bytes.now) }
+{
+    let mut attributes = Vec::new(alloc);
+    let mut reading = Reading::Before(true);
+    let mut rest = bytes;
+    while !rest.is_empty() {
+        match advance(alloc, reading, &mut attributes, rest) {
+            Ok((next, behind)) => {
+                reading = next;
+                rest = behind;
+            }
+            Err(stop) => return Err(Halt {
+                stop,
+                left: rest.len(),
+            }),
+        }
+    }
+    match reading {
+        Reading::Before(_) => Err(UNFINISHED),
+        Reading::Inside(open, around) => {
+            drop((open, around));
+            Err(UNFINISHED)
+        }
+        Reading::Done(tree) => Ok(tree),
+    }
+}
+
+/// The bytes end before the document does.
+const UNFINISHED: Halt = Halt {
+    stop: Stop::Markup,
+    left: 0,
+};
+
+/// Reads the item at the front, and gives what stands behind it. The attributes are room for those of its tag.
+fn advance<'a>(
+    alloc: Global,
+    reading: Reading<'a>,
+    attributes: &mut Vec<RawAttribute<'a>>,
+    bytes: &'a [u8],
+) -> Result<(Reading<'a>, &'a [u8]), Stop>
+    ensures { Advances result (state_of reading.entry) bytes.now }
+{
+    match next_item(bytes, attributes) {
+        Err(_) => {
+            drop(reading);
+            Err(Stop::Memory)
+        }
+        Ok(None) => {
+            drop(reading);
+            Err(Stop::Markup)
+        }
+        Ok(Some((item, behind))) => {
+            let next = after(alloc, reading, item, attributes.as_slice())?;
+            Ok((next, behind))
+        }
+    }
+}

@@ -1,0 +1,274 @@
+//! Prefixes and what they stand for (Namespaces in XML 1.0, sections 2 to 6).
+
+ghost use Rattle.std.specs.Prelude.{◌≡◌, ◌++◌, map, IsTrue, ◌≤◌, length, [], ◌∷◌};
+ghost use Rattle.std.specs.Option.{option_map};
+ghost use Rattle.xml_items.specs.Raw.{written_of};
+ghost use Rattle.tree_reader.specs.Scopes.{may_bind, bound, declared_by, found, element_space, attribute_space, attribute_by, scope_of, resolve, binds_default, binds_prefix};
+ghost use Rattle.tree_reader.specs.Steps.{gathered};
+ghost use Rattle.tree_reader.specs.Views.{Finds, Adds, binding_of, begun_of, stack_of, scope_in};
+
+use crate::apart::{names_differ, written_differ};
+use crate::names::{is_local_name, qualified};
+use crate::stop::Stop;
+use crate::text::value_meant;
+use as4_envelope::{Attribute, Element};
+use as4_values::Octets;
+use std::alloc::Global;
+use xml_items::RawAttribute;
+
+/// The namespace of the prefix `xml`.
+const XML: &[u8] = b"http://www.w3.org/XML/1998/namespace";
+
+/// The namespace of the prefix `xmlns`.
+const XMLNS: &[u8] = b"http://www.w3.org/2000/xmlns/";
+
+/// A declaration of a namespace.
+#[derive(Drop)]
+pub(crate) struct Declared<'a> {
+    /// Empty where names without a prefix are meant.
+    pub prefix: &'a [u8],
+    pub space: Octets,
+}
+
+/// An element whose end tag hasn't come yet.
+#[derive(Drop)]
+pub(crate) struct Open<'a> {
+    /// As it is written.
+    pub name: &'a [u8],
+    pub declared: Vec<Declared<'a>>,
+    pub space: Octets,
+    pub local: &'a [u8],
+    pub attributes: Vec<Attribute>,
+    pub text: Vec<u8>,
+    pub children: Vec<Element>,
+}
+
+/// The element that a start tag begins inside the elements of `around`, the innermost of which is the last.
+#[tactic(auto, unfolding(crate::specs::Scopes::resolve))]
+pub(crate) fn resolve<'a>(
+    alloc: Global,
+    around: &[Open<'a>],
+    name: &'a [u8],
+    attributes: &[RawAttribute<'a>],
+) -> Result<Open<'a>, Stop>
+    ensures { Finds begun_of result (resolve (scope_of (stack_of around.now)) name.now (map written_of attributes.now)) }
+{
+    if !written_differ(alloc, attributes)? {
+        return Err(Stop::Markup);
+    }
+    let declared = declared_by(alloc, attributes)?;
+    let Some(written) = qualified(name) else {
+        return Err(Stop::Markup);
+    };
+    let scope = Scope {
+        declared: declared.as_slice(),
+        around,
+    };
+    let Some(space) = element_space(scope, written.prefix) else {
+        return Err(Stop::Markup);
+    };
+    let space = Octets::of(Vec::from_slice(alloc, space)?);
+    let pairs = attributes_by(alloc, scope, attributes)?;
+    if !names_differ(alloc, pairs.as_slice())? {
+        return Err(Stop::Markup);
+    }
+    Ok(Open {
+        name,
+        declared,
+        space,
+        local: written.local,
+        attributes: pairs,
+        text: Vec::new(alloc),
+        children: Vec::new(alloc),
+    })
+}
+
+/// What a tag declares, and the elements round it.
+#[derive(Clone, Copy)]
+struct Scope<'s, 'a> {
+    declared: &'s [Declared<'a>],
+    around: &'s [Open<'a>],
+}
+
+/// What the attributes declare, in order.
+fn declared_by<'a>(
+    alloc: Global,
+    attributes: &[RawAttribute<'a>],
+) -> Result<Vec<Declared<'a>>, Stop>
+    ensures { Finds (λ v. map binding_of v.items) result (gathered declared_by (map written_of attributes.now)) }
+{
+    let mut declared = Vec::new(alloc);
+    for attribute in attributes {
+        push_declared(alloc, &mut declared, *attribute)?;
+    }
+    Ok(declared)
+}
+
+/// Adds what an attribute declares, if it is a declaration.
+#[tactic(auto, unfolding(crate::specs::Scopes::declared_by))]
+fn push_declared<'a>(
+    alloc: Global,
+    out: &mut Vec<Declared<'a>>,
+    attribute: RawAttribute<'a>,
+) -> Result<(), Stop>
+    ensures { Adds result (declared_by (written_of attribute.entry)) (map binding_of out.old.items) (map binding_of out.new.items) }
+{
+    if binds_default(attribute.name) {
+        out.push(bound(alloc, b"", attribute.value)?)?;
+    } else if binds_prefix(attribute.name) {
+        let prefix = attribute.name.split_at(PREFIX).1;
+        if !is_local_name(prefix) {
+            return Err(Stop::Markup);
+        }
+        out.push(bound(alloc, prefix, attribute.value)?)?;
+    }
+    Ok(())
+}
+
+/// How many bytes stand before the prefix in a name that declares one.
+const PREFIX: usize = 6;
+
+fn binds_default(name: &[u8]) -> bool
+    ensures { result ≡ binds_default name.now }
+{
+    name == b"xmlns".as_slice()
+}
+
+fn binds_prefix(name: &[u8]) -> bool
+    ensures value { result ≡ binds_prefix name.now }
+    ensures long { IsTrue result → 6 ≤ length name.now }
+{
+    name.starts_with(b"xmlns:")
+}
+
+/// The declaration of a prefix, with this value.
+#[tactic(auto, unfolding(crate::specs::Scopes::bound))]
+fn bound<'a>(alloc: Global, prefix: &'a [u8], value: &[u8]) -> Result<Declared<'a>, Stop>
+    ensures { Finds (λ b. binding_of b ∷ []) result (bound prefix.now value.now) }
+{
+    let space = value_meant(alloc, value)?;
+    if !may_bind(prefix, space.as_slice()) {
+        return Err(Stop::Markup);
+    }
+    Ok(Declared {
+        prefix,
+        space: Octets::of(space),
+    })
+}
+
+/// Whether the prefix may stand for the namespace.
+#[tactic(auto, unfolding(crate::specs::Scopes::may_bind))]
+fn may_bind(prefix: &[u8], space: &[u8]) -> bool
+    ensures { result ≡ may_bind prefix.now space.now }
+{
+    if prefix == b"xmlns".as_slice() || space == XMLNS {
+        return false;
+    }
+    if prefix == b"xml".as_slice() {
+        return space == XML;
+    }
+    space != XML && (prefix.is_empty() || !space.is_empty())
+}
+
+/// The attributes that are no declarations, in order.
+fn attributes_by(
+    alloc: Global,
+    scope: Scope<'_, '_>,
+    attributes: &[RawAttribute<'_>],
+) -> Result<Vec<Attribute>, Stop>
+    ensures { Finds (λ v. v.items) result (gathered (attribute_by (scope_in scope.entry)) (map written_of attributes.now)) }
+{
+    let mut pairs = Vec::with_capacity(alloc, attributes.len())?;
+    for attribute in attributes {
+        push_attribute(alloc, &mut pairs, scope, *attribute)?;
+    }
+    Ok(pairs)
+}
+
+/// Adds the attribute, if it is no declaration.
+#[tactic(auto, unfolding(crate::specs::Scopes::attribute_by))]
+fn push_attribute(
+    alloc: Global,
+    out: &mut Vec<Attribute>,
+    scope: Scope<'_, '_>,
+    attribute: RawAttribute<'_>,
+) -> Result<(), Stop>
+    ensures { Adds result (attribute_by (scope_in scope.entry) (written_of attribute.entry)) out.old.items out.new.items }
+{
+    if binds_default(attribute.name) || binds_prefix(attribute.name) {
+        return Ok(());
+    }
+    let Some(written) = qualified(attribute.name) else {
+        return Err(Stop::Markup);
+    };
+    let Some(space) = attribute_space(scope, written.prefix) else {
+        return Err(Stop::Markup);
+    };
+    let value = value_meant(alloc, attribute.value)?;
+    out.push(Attribute {
+        space: Octets::of(Vec::from_slice(alloc, space)?),
+        local: Octets::of(Vec::from_slice(alloc, written.local)?),
+        value: Octets::of(value),
+    })?;
+    Ok(())
+}
+
+/// The namespace of an attribute.
+#[tactic(auto, unfolding(crate::specs::Scopes::attribute_space))]
+fn attribute_space<'s>(scope: Scope<'s, '_>, prefix: &[u8]) -> Option<&'s [u8]>
+    ensures { option_map (λ x. x.now) result ≡ attribute_space (scope_in scope.entry) prefix.now }
+{
+    if prefix.is_empty() {
+        return Some(b"");
+    }
+    element_space(scope, prefix)
+}
+
+/// The namespace of an element.
+#[tactic(auto, unfolding(crate::specs::Scopes::element_space))]
+fn element_space<'s>(scope: Scope<'s, '_>, prefix: &[u8]) -> Option<&'s [u8]>
+    ensures { option_map (λ x. x.now) result ≡ element_space (scope_in scope.entry) prefix.now }
+{
+    if prefix == b"xml".as_slice() {
+        return Some(XML);
+    }
+    match found(scope, prefix) {
+        Some(space) => Some(space),
+        None => { if prefix.is_empty() { Some(b"") } else { None } }
+    }
+}
+
+/// What the nearest declaration binds the prefix to.
+#[tactic(auto, using(crate::proofs::ScopeLemmas::found_either))]
+fn found<'s>(scope: Scope<'s, '_>, prefix: &[u8]) -> Option<&'s [u8]>
+    ensures { option_map (λ x. x.now) result ≡ found (scope_in scope.entry) prefix.now }
+{
+    match found_in(scope.declared, prefix) {
+        Some(space) => Some(space),
+        None => found_around(scope.around, prefix),
+    }
+}
+
+/// What the nearest declaration in the elements binds the prefix to.
+#[tactic(auto, using(crate::proofs::ScopeLemmas::found_last))]
+fn found_around<'s>(around: &'s [Open<'_>], prefix: &[u8]) -> Option<&'s [u8]>
+    ensures { option_map (λ x. x.now) result ≡ found (scope_of (stack_of around.now)) prefix.now }
+{
+    let (innermost, others) = around.split_last()?;
+    match found_in(innermost.declared.as_slice(), prefix) {
+        Some(space) => Some(space),
+        None => found_around(others, prefix),
+    }
+}
+
+/// What the first of the declarations binds the prefix to.
+fn found_in<'s>(declared: &'s [Declared<'_>], prefix: &[u8]) -> Option<&'s [u8]>
+    ensures { option_map (λ x. x.now) result ≡ found (map binding_of declared.now) prefix.now }
+{
+    for binding in declared {
+        if binding.prefix == prefix {
+            return Some(binding.space.bytes());
+        }
+    }
+    None
+}
