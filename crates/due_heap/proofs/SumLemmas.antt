@@ -26,8 +26,8 @@ sum_none f k (x ∷ pairs) none =
     let here : k + 0 ≡ k = omega arith in
     let first : f k x ≡ 0 = subst (λ n. f n x ≡ 0) here (none zero x refl) in
     let rest : sum_from f (suc k) pairs ≡ 0 = sum_none f (suc k) pairs (λ i y there.
-        let next : k + suc i ≡ suc k + i = omega arith in
-        subst (λ n. f n y ≡ 0) next (none (suc i) y there)) in
+    let next : k + suc i ≡ suc k + i = omega arith in
+    subst (λ n. f n y ≡ 0) next (none (suc i) y there)) in
     omega (arith, first, rest)
 
 sum_within : (f : ℕ → Pair → ℕ) (k : ℕ) (pairs : List Pair) → ((i : ℕ) (x : Pair) → f i x ≤ 1) → sum_from f k pairs ≤ length pairs
@@ -78,7 +78,7 @@ count_parts moment at pairs =
     λ i x. ap (λ n. cond (nat_le x.due moment) n 0) (parts at i) ∙ swapped (nat_le x.due moment) (i == at) (under (at * 2 + 1) i) (under (at * 2 + 2) i) in
     sum_split (due_under moment at) (at_itself moment at) (both_below moment at) 0 pairs one
     ∙ ap (λ n. sum_from (at_itself moment at) 0 pairs + n)
-        (sum_split (both_below moment at) (due_under moment (at * 2 + 1)) (due_under moment (at * 2 + 2)) 0 pairs (λ i x. refl))
+    (sum_split (both_below moment at) (due_under moment (at * 2 + 1)) (due_under moment (at * 2 + 2)) 0 pairs (λ i x. refl))
 
 -- where the pair at the place is due, it counts one
 pub count_due : (moment at : ℕ) (pairs : List Pair) (pair : Pair) → slice_get pairs at ≡ Some pair → pair.due ≤ moment
@@ -97,26 +97,26 @@ pub count_late : (moment at : ℕ) (pairs : List Pair) (pair : Pair) → IsOrder
 unfolding count_under
 count_late moment at pairs pair ordered few there late =
     sum_none (due_under moment at) 0 pairs (λ i x here.
-        let same : 0 + i ≡ i = omega arith in
-        let within : i < length pairs = slice_get_within pairs i x here in
-        elim (least_under (rank_at pairs) (length pairs) at i ordered within) [
-          | inl none ↦ ap (λ n. cond (nat_le x.due moment) (under at n) 0) same ∙ ap (λ n. cond (nat_le x.due moment) n 0) none ∙ zeros (nat_le x.due moment)
-          | inr least ↦
-              let first : rank_at pairs at ≡ rank pair = ap rank (get_or_from_slice_get pairs at pair _ there) in
-              let other : rank_at pairs i ≡ rank x = ap rank (get_or_from_slice_get pairs i x _ here) in
-              let small : x.number < 1048576 = few_found pairs i x few here in
-              let past : nat_le x.due moment ≡ false = grind (arith, nat_tests) in
-              cond-false _ _ _ past
-        ])
+    let same : 0 + i ≡ i = omega arith in
+    let within : i < length pairs = slice_get_within pairs i x here in
+    elim (least_under (rank_at pairs) (length pairs) at i ordered within) [
+      | inl none ↦ ap (λ n. cond (nat_le x.due moment) (under at n) 0) same ∙ ap (λ n. cond (nat_le x.due moment) n 0) none ∙ zeros (nat_le x.due moment)
+      | inr least ↦
+          let first : rank_at pairs at ≡ rank pair = ap rank (get_or_from_slice_get pairs at pair _ there) in
+          let other : rank_at pairs i ≡ rank x = ap rank (get_or_from_slice_get pairs i x _ here) in
+          let small : x.number < 1048576 = few_found pairs i x few here in
+          let past : nat_le x.due moment ≡ false = grind (arith, nat_tests) in
+          cond-false _ _ _ past
+    ])
 
 -- behind the last place there is nothing
 pub count_past : (moment at : ℕ) (pairs : List Pair) → length pairs ≤ at → count_under moment at pairs ≡ 0
 unfolding count_under
 count_past moment at pairs past =
     sum_none (due_under moment at) 0 pairs (λ i x here.
-        let within : i < length pairs = slice_get_within pairs i x here in
-        let none : under at (0 + i) ≡ 0 = before at (0 + i) (omega arith) in
-        ap (λ n. cond (nat_le x.due moment) n 0) none ∙ zeros (nat_le x.due moment))
+    let within : i < length pairs = slice_get_within pairs i x here in
+    let none : under at (0 + i) ≡ 0 = before at (0 + i) (omega arith) in
+    ap (λ n. cond (nat_le x.due moment) n 0) none ∙ zeros (nat_le x.due moment))
 
 -- no more than all
 pub count_within : (moment at : ℕ) (pairs : List Pair) → count_under moment at pairs ≤ length pairs

@@ -56,7 +56,7 @@ is_from heap moment k (Some slot) = (slot.heap == heap) && (nat_le k slot.at && 
 record PointsFrom (k heap : ℕ) (pairs : List Pair) (slots : Table) : Type 0 where
   to : (i : ℕ) (pair : Pair) → slice_get pairs i ≡ Some pair → slice_get slots pair.number ≡ Some (Some (record { heap = heap; at = k + i; due = pair.due }))
   from : (n : ℕ) (slot : Slot) → slice_get slots n ≡ Some (Some slot) → slot.heap ≡ heap → k ≤ slot.at
-    → slice_get pairs (slot.at - k) ≡ Some (record { due = slot.due; number = n })
+      → slice_get pairs (slot.at - k) ≡ Some (record { due = slot.due; number = n })
 
 none_from : (heap moment k : ℕ) (slots : Table) → PointsFrom k heap [] slots → (n : ℕ) (o : Option Slot) → slice_get slots n ≡ Some o
     → is_from heap moment k o ≡ false
@@ -93,16 +93,16 @@ unfolding is_from number_in
 other_from heap moment k pair pairs slots points n None other there = refl
 other_from heap moment k pair pairs slots points n (Some slot) other there = elim (cases_Bool (slot.heap == heap)) [
   | inl same ↦ elim (cases_eq slot.at k) [
-      | inl first ↦
-          let place : slot.at - k ≡ 0 = omega arith in
-          let found : ◌≡◌ {A = Option Pair} (Some pair) (Some (record { due = slot.due; number = n })) =
-          sym (ap (slice_get (pair ∷ pairs)) place) ∙ points.from n slot there (eqb-true slot.heap heap same) (omega arith) in
-          let number : pair.number ≡ n = ap number_in found in
-          absurd (other (sym number))
-      | inr apart ↦
-          let bound : nat_le k slot.at ≡ nat_le (suc k) slot.at = grind (arith, nat_tests) in
-          ap (λ b. (slot.heap == heap) && (b && nat_le slot.due moment)) bound
-    ]
+    | inl first ↦
+        let place : slot.at - k ≡ 0 = omega arith in
+        let found : ◌≡◌ {A = Option Pair} (Some pair) (Some (record { due = slot.due; number = n })) =
+        sym (ap (slice_get (pair ∷ pairs)) place) ∙ points.from n slot there (eqb-true slot.heap heap same) (omega arith) in
+        let number : pair.number ≡ n = ap number_in found in
+        absurd (other (sym number))
+    | inr apart ↦
+        let bound : nat_le k slot.at ≡ nat_le (suc k) slot.at = grind (arith, nat_tests) in
+        ap (λ b. (slot.heap == heap) && (b && nat_le slot.due moment)) bound
+  ]
   | inr elsewhere ↦ rw elsewhere refl
 ]
 
@@ -127,9 +127,9 @@ table_from heap moment k (pair ∷ pairs) slots points =
     let rest : count_by (is_from heap moment (suc k)) slots ≡ count_by (λ p. nat_le p.due moment) pairs =
     table_from heap moment (suc k) pairs slots (points_next k heap pair pairs slots points) in
     let one : count_by (is_from heap moment k) slots ≡ count_by (is_from heap moment (suc k)) slots
-        + cond (is_from heap moment k (Some (record { heap = heap; at = k + 0; due = pair.due }))) 1 0 =
+    + cond (is_from heap moment k (Some (record { heap = heap; at = k + 0; due = pair.due }))) 1 0 =
     count_but (is_from heap moment k) (is_from heap moment (suc k)) pair.number slots (Some (record { heap = heap; at = k + 0; due = pair.due }))
-        (points.to zero pair refl) (not_behind heap moment k pair) (other_from heap moment k pair pairs slots points) in
+    (points.to zero pair refl) (not_behind heap moment k pair) (other_from heap moment k pair pairs slots points) in
     let first : ◌≡◌ {A = ℕ} (cond (is_from heap moment k (Some (record { heap = heap; at = k + 0; due = pair.due }))) 1 0) (cond (nat_le pair.due moment) 1 0) =
     ap (λ b. cond b 1 0) (first_from heap moment k pair) in
     let more = sum_by-cons (λ p. cond (nat_le p.due moment) 1 0) pair pairs in

@@ -34,14 +34,14 @@ more_steps (suc steps) more at i few = elim (cases_eq i at) [
       ap (λ n. under_in n at i) next ∙ ap (under_in (suc (steps + more)) at) same ∙ itself_in (steps + more) at
       ∙ sym (ap (under_in (suc steps) at) same ∙ itself_in steps at)
   | inr other ↦ elim (cases_lt i at) [
-      | inl less ↦ before_in (suc steps + more) at i less ∙ sym (before_in (suc steps) at i less)
-      | inr least ↦
-          let more_than : at < i = omega arith in
-          let next : suc steps + more ≡ suc (steps + more) = omega arith in
-          ap (λ n. under_in n at i) next ∙ behind_in (steps + more) at i more_than
-          ∙ more_steps steps more at ((i - 1) / 2) (omega arith)
-          ∙ sym (behind_in steps at i more_than)
-    ]
+    | inl less ↦ before_in (suc steps + more) at i less ∙ sym (before_in (suc steps) at i less)
+    | inr least ↦
+        let more_than : at < i = omega arith in
+        let next : suc steps + more ≡ suc (steps + more) = omega arith in
+        ap (λ n. under_in n at i) next ∙ behind_in (steps + more) at i more_than
+        ∙ more_steps steps more at ((i - 1) / 2) (omega arith)
+        ∙ sym (behind_in steps at i more_than)
+  ]
 ]
 
 pub itself : (at : ℕ) → under at at ≡ 1
@@ -76,20 +76,29 @@ parts_behind at i more above =
     elim (cases_lt i (at * 2 + 1)) [
       | inl less ↦ omega (arith, here, none, before at ((i - 1) / 2) (omega arith), before (at * 2 + 1) i less, before (at * 2 + 2) i (omega arith))
       | inr from ↦ elim (cases_eq i (at * 2 + 1)) [
-          | inl left ↦
-              let up : (i - 1) / 2 ≡ at = omega arith in
-              omega (arith, here, none, ap (under at) up, itself at, ap (under (at * 2 + 1)) left, itself (at * 2 + 1), before (at * 2 + 2) i (omega arith))
-          | inr past ↦
-              let first : under (at * 2 + 1) i ≡ under (at * 2 + 1) ((i - 1) / 2) = behind (at * 2 + 1) i (omega arith) in
-              elim (cases_eq i (at * 2 + 2)) [
-                | inl right ↦
-                    let up : (i - 1) / 2 ≡ at = omega arith in
-                    omega (arith, here, none, ap (under at) up, itself at, first, before (at * 2 + 1) ((i - 1) / 2) (omega arith),
-                        ap (under (at * 2 + 2)) right, itself (at * 2 + 2))
-                | inr later ↦
-                    omega (arith, here, none, above, none_at at ((i - 1) / 2) (λ same. omega arith), first, behind (at * 2 + 2) i (omega arith))
-              ]
-        ]
+        | inl left ↦
+            let up : (i - 1) / 2 ≡ at = omega arith in
+            omega (arith, here, none, ap (under at) up, itself at, ap (under (at * 2 + 1)) left, itself (at * 2 + 1), before (at * 2 + 2) i (omega arith))
+        | inr past ↦
+            let first : under (at * 2 + 1) i ≡ under (at * 2 + 1) ((i - 1) / 2) = behind (at * 2 + 1) i (omega arith) in
+            elim (cases_eq i (at * 2 + 2)) [
+              | inl right ↦
+                  let up : (i - 1) / 2 ≡ at = omega arith in
+                  omega (
+                    arith,
+                    here,
+                    none,
+                    ap (under at) up,
+                    itself at,
+                    first,
+                    before (at * 2 + 1) ((i - 1) / 2) (omega arith),
+                    ap (under (at * 2 + 2)) right,
+                    itself (at * 2 + 2),
+                  )
+              | inr later ↦
+                  omega (arith, here, none, above, none_at at ((i - 1) / 2) (λ same. omega arith), first, behind (at * 2 + 2) i (omega arith))
+            ]
+      ]
     ]
 
 parts_to : (steps at i : ℕ) → i < steps → under at i ≡ cond (i == at) 1 0 + (under (at * 2 + 1) i + under (at * 2 + 2) i)
@@ -97,11 +106,11 @@ parts_to zero at i few = absurd (omega arith)
 parts_to (suc steps) at i few = elim (cases_lt at i) [
   | inl more ↦ parts_behind at i more (parts_to steps at ((i - 1) / 2) (omega arith))
   | inr least ↦ elim (cases_eq i at) [
-      | inl same ↦
-          omega (arith, ap (under at) same, itself at, one_at at i same, before (at * 2 + 1) i (omega arith), before (at * 2 + 2) i (omega arith))
-      | inr other ↦
-          omega (arith, before at i (omega arith), none_at at i other, before (at * 2 + 1) i (omega arith), before (at * 2 + 2) i (omega arith))
-    ]
+    | inl same ↦
+        omega (arith, ap (under at) same, itself at, one_at at i same, before (at * 2 + 1) i (omega arith), before (at * 2 + 2) i (omega arith))
+    | inr other ↦
+        omega (arith, before at i (omega arith), none_at at i other, before (at * 2 + 1) i (omega arith), before (at * 2 + 2) i (omega arith))
+  ]
 ]
 
 pub parts : (at i : ℕ) → under at i ≡ cond (i == at) 1 0 + (under (at * 2 + 1) i + under (at * 2 + 2) i)
@@ -124,14 +133,14 @@ least_to f n zero at i ordered within few = absurd (omega arith)
 least_to f n (suc steps) at i ordered within few = elim (cases_eq i at) [
   | inl same ↦ inr (omega (arith, ap f same))
   | inr other ↦ elim (cases_lt i at) [
-      | inl less ↦ inl (before at i less)
-      | inr least ↦
-          let up : f ((i - 1) / 2) ≤ f i = ordered ((i - 1) / 2) i (omega arith) (omega arith) within in
-          elim (least_to f n steps at ((i - 1) / 2) ordered (omega arith) (omega arith)) [
-            | inl none ↦ inl (behind at i (omega arith) ∙ none)
-            | inr first ↦ inr (omega arith)
-          ]
-    ]
+    | inl less ↦ inl (before at i less)
+    | inr least ↦
+        let up : f ((i - 1) / 2) ≤ f i = ordered ((i - 1) / 2) i (omega arith) (omega arith) within in
+        elim (least_to f n steps at ((i - 1) / 2) ordered (omega arith) (omega arith)) [
+          | inl none ↦ inl (behind at i (omega arith) ∙ none)
+          | inr first ↦ inr (omega arith)
+        ]
+  ]
 ]
 
 pub least_under : (f : ℕ → ℕ) (n at i : ℕ) → IsOrdered f n → i < n → (under at i ≡ 0) ⊎ (f at ≤ f i)
@@ -144,9 +153,9 @@ one_in zero at i = omega arith
 one_in (suc steps) at i = elim (cases_eq i at) [
   | inl same ↦ omega (arith, ap (λ n. under_in (suc steps) at n) same, itself_in steps at)
   | inr other ↦ elim (cases_lt i at) [
-      | inl less ↦ omega (arith, before_in (suc steps) at i less)
-      | inr least ↦ omega (arith, behind_in steps at i (omega arith), one_in steps at ((i - 1) / 2))
-    ]
+    | inl less ↦ omega (arith, before_in (suc steps) at i less)
+    | inr least ↦ omega (arith, behind_in steps at i (omega arith), one_in steps at ((i - 1) / 2))
+  ]
 ]
 
 pub under_one : (at i : ℕ) → under at i ≤ 1

@@ -58,16 +58,16 @@ due_if_spent : (moment last : ℕ) (s : Sent) → s.last ≤ 253402300799999 →
 due_if_spent moment last s dated is = elim (cases_Bool (is_pending s)) [
   | inr settled ↦ rw (watched_settled s settled, settled) refl
   | inl pending ↦ elim (cases_Bool (s.tries == s.submission.retries + 1)) [
-      | inl exhausted ↦
-          let small : due s < 18446744073709551615 = due_small s dated in
-          let same : nat_le (due s) last ≡ nat_le (due s) moment = grind (arith, nat_tests) in
-          let fails : failing_at s ≡ due s = cond-true _ _ _ exhausted in
-          rw (watched_pending s pending, fails, same, pending, exhausted) refl
-      | inr again ↦
-          let never : nat_le 18446744073709551615 last ≡ false = grind (arith, nat_tests) in
-          let fails : failing_at s ≡ 18446744073709551615 = cond-false _ _ _ again in
-          rw (watched_pending s pending, fails, never, pending, again) refl
-    ]
+    | inl exhausted ↦
+        let small : due s < 18446744073709551615 = due_small s dated in
+        let same : nat_le (due s) last ≡ nat_le (due s) moment = grind (arith, nat_tests) in
+        let fails : failing_at s ≡ due s = cond-true _ _ _ exhausted in
+        rw (watched_pending s pending, fails, same, pending, exhausted) refl
+    | inr again ↦
+        let never : nat_le 18446744073709551615 last ≡ false = grind (arith, nat_tests) in
+        let fails : failing_at s ≡ 18446744073709551615 = cond-false _ _ _ again in
+        rw (watched_pending s pending, fails, never, pending, again) refl
+  ]
 ]
 
 count_watched : (q : Option Place → Bool) (p : Sent → Bool) (places : List (Option Place)) (sent : List Sent)

@@ -1,0 +1,9 @@
+pub mod Again
+pub mod Elements
+pub mod Envelope
+pub mod Gives
+pub mod Made
+pub mod Names
+pub mod Signals
+pub mod User
+pub mod Values

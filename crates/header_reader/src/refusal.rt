@@ -1,0 +1,32 @@
+ghost use Rattle.std.specs.Prelude.{◌≡◌};
+ghost use Rattle.header_reader.specs.declared.refusal.HeaderRefusal.TheVariants.{NoMemory};
+
+use std::alloc::{AllocError, AllocFailed};
+
+/// Why a tree is read as no message unit.
+#[derive(Clone, Copy, Debug, PartialEq, Eq)]
+pub enum HeaderRefusal {
+    /// The tree is no envelope of one message unit, or the unit isn't spelled as ebMS 3.0 Core says (sections 5.2 and 6).
+    Invalid,
+    /// The envelope asks for what isn't supported: another header block that must be understood (SOAP 1.2 Part 1,
+    /// section 5.2.3), or message units that aren't read together.
+    Unsupported,
+    /// Memory ran out.
+    NoMemory,
+}
+
+impl From<AllocError> for HeaderRefusal {
+    ghost from_gives = { λ _ e. e ≡ NoMemory };
+
+    fn from(_error: AllocError) -> HeaderRefusal {
+        HeaderRefusal::NoMemory
+    }
+}
+
+impl<T: Drop> From<AllocFailed<T>> for HeaderRefusal {
+    ghost from_gives = { λ _ e. e ≡ NoMemory };
+
+    fn from(_error: AllocFailed<T>) -> HeaderRefusal {
+        HeaderRefusal::NoMemory
+    }
+}
