@@ -1,5 +1,5 @@
 -- What waits, by the places of the numbers.
-use Rattle.std.proofs.Common.{◌≡◌, ◌≢◌, ℕ, zero, suc, ◌+◌, ◌<◌, ◌≤◌, List, [], ◌∷◌, ◌++◌, Option, Some, None, length, slice_get, option_map, IfSome, IsSome, ◌-◌, inl, inr, refl, sym, ap, ◌∙◌, arith}
+use Rattle.std.proofs.Common.{◌≡◌, ◌≢◌, ℕ, zero, suc, ◌+◌, ◌<◌, ◌≤◌, List, [], ◌∷◌, ◌++◌, Option, Some, None, length, slice_get, option_map, IsSome, inl, inr, refl, sym, ap, ◌∙◌, arith}
 use Rattle.std.specs.Option.{option_and_then, option_to_list}
 use Rattle.std.proofs.lemmas.Bool.{cases_eq}
 use Rattle.std.proofs.lemmas.Option.{same_Some, none-some}
@@ -79,20 +79,6 @@ same_waits names names' heaps heaps' kept keeps same =
     same_rising 0 0 (waiting_in names' heaps') (waiting_in names heaps) (in_rises names' heaps') (in_rises names heaps) (λ m.
     in_at names' heaps' m ∙ ap (waiting_of names' m) (same m) ∙ same_of names names' m (standing_at m heaps) keeps (kept.known m) ∙ sym (in_at names heaps m))
 
-pub same_kept : (names names' : List (List ℕ)) (heaps heaps' : Heaps) → IsKept names heaps → KeepsNames names names' → length names' ≤ heaps'.count - 1 → heaps.count ≤ heaps'.count → StandAs heaps heaps' → IfSome heaps'.room (λ room. room.heap < heaps'.count) → IsKept names' heaps'
-same_kept names names' heaps heaps' kept keeps enough more same room =
-    record {
-      distinct = keeps.distinct kept.distinct;
-      enough = enough;
-      there = λ n place found.
-          let was = kept.there n place (sym (same n) ∙ found) in
-          omega (arith, was, more);
-      known = λ n place found.
-          let was = kept.known n place (sym (same n) ∙ found) in
-          omega (arith, was, keeps.as_many);
-      room = room;
-    }
-
 -- the others wait as before
 others_wait : (names : List (List ℕ)) (number : ℕ) (place : Option Place) (old new : Heaps) → Sets number place old new → (m : ℕ) → m ≢ number → waiting_at m (waiting_in names new) ≡ waiting_at m (waiting_in names old)
 others_wait names number place old new sets m other =
@@ -133,23 +119,6 @@ put_kept names heap due number old new kept within there sets used =
     put_at : (heap due number n : ℕ) (old new : Heaps) (place : Place) → Sets number (Some (record { heap = heap; due = due })) old new → n ≡ number → standing_at n new ≡ Some place → record { heap = heap; due = due } ≡ place
     put_at heap due number n old new place sets same found =
         same_Some (record { heap = heap; due = due }) place (sym sets.here ∙ ap (λ m. standing_at m new) (sym same) ∙ found)
-
-pub taken_kept : (names : List (List ℕ)) (number : ℕ) (old new : Heaps) → IsKept names old → Sets number None old new → new.room ≡ old.room → IsKept names new
-taken_kept names number old new kept sets same_room =
-    record {
-      distinct = kept.distinct;
-      enough = omega (arith, kept.enough, sets.count);
-      there = λ n place found. let was = kept.there n place (stood n place found) in omega (arith, was, sets.count);
-      known = λ n place found. kept.known n place (stood n place found);
-      room = rw (same_room, sets.count) kept.room;
-    }
-  where
-    stood : (n : ℕ) (place : Place) → standing_at n new ≡ Some place → standing_at n old ≡ Some place
-    stood n place found =
-        elim (cases_eq n number) [
-          | inl same ↦ absurd (none-some place (sym sets.here ∙ ap (λ m. standing_at m new) (sym same) ∙ found))
-          | inr other ↦ sym (sets.others n other) ∙ found
-        ]
 
 -- what there is at first
 pub new_kept : IsKept [] (record { count = 0; places = []; room = None })

@@ -1,6 +1,6 @@
 use as4_effects::Queue;
 
-/// A submission that waits to be sent.
+/// A submission that waits to be sent, as contracts see it.
 #[derive(Drop)]
 pub struct Waiting {
     pub queue: Queue,
@@ -10,7 +10,7 @@ pub struct Waiting {
     pub number: u64,
 }
 
-/// Where a submission may come to wait.
+/// Where a submission may come to wait, as contracts see it.
 #[derive(Drop)]
 pub struct Place {
     pub queue: Queue,

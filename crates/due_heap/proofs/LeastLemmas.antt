@@ -56,11 +56,3 @@ least_next pairs first number c ordered few once found own some within lesser =
           up_to next pair (few_found pairs i pair few is_there) (few_found pairs c next few stands)
           (omega (arith, le, rank_found pairs i pair is_there));
     }
-
--- where there is one pair, there is none besides
-pub none_next : (pairs : List Pair) (first : Pair) (number : ℕ) → slice_get pairs 0 ≡ Some first → first.number ≡ number → length pairs < 2 → (pair : ℕ × ℕ) → ¬ (IsInBut pairs number pair)
-none_next pairs first number found own few pair there =
-    let it : Pair = record { due = pair.0; number = pair.1 } in
-    let within = slice_get_within pairs there.0.0 it there.0.1 in
-    let zero_is : there.0.0 ≡ 0 = omega (arith, within) in
-    there.1 (ap (λ (p : Pair). p.number) (same_Some it first (sym there.0.1 ∙ ap (slice_get pairs) zero_is ∙ found)) ∙ own)

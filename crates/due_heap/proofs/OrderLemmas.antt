@@ -28,18 +28,6 @@ raised f g n p at from to within but less swapped = (
       ],
 )
 
--- one that nothing under it comes before, and that comes before nothing above it, is where it belongs
-pub in_place : (f : ℕ → ℕ) (n at : ℕ) → IsOrderedBut at f n → IsUpToUnder at f n → IsFromAbove at f → IsOrdered f n
-in_place f n at but under above p k low high in_n =
-    elim (cases_eq p at) [
-      | inl same ↦ omega (arith, ap f same, under k (omega arith) (omega arith) in_n)
-      | inr other ↦
-          elim (cases_eq k at) [
-            | inl same ↦ omega (arith, ap f same, above p (omega arith) (omega arith))
-            | inr apart ↦ but.elsewhere p k low high in_n other apart
-          ]
-    ]
-
 -- one that the lesser of those under it comes before changes places with that
 pub lowered : (f g : ℕ → ℕ) (n at c : ℕ) → at * 2 + 1 ≤ c → c ≤ at * 2 + 2 → c < n → IsOrderedBut at f n → ((k : ℕ) → at * 2 + 1 ≤ k → k ≤ at * 2 + 2 → k < n → f c ≤ f k) → f c < f at → Swapped f g at c → IsOrderedBut c g n × IsFromAbove c g
 lowered f g n at c from to within but lesser less swapped = (

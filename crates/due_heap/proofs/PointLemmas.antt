@@ -157,16 +157,6 @@ exchanged heap a b pairs pairs' slots slots' points as_many x =
       elsewhere = exchanged_elsewhere heap a b pairs pairs' slots slots' points x;
     }
 
--- nothing moved
-pub at_rest : (heap : ℕ) (pairs : List Pair) (slots : List (Option Slot)) → Points heap pairs slots → Rearranges heap pairs slots pairs slots
-at_rest heap pairs slots points =
-    record {
-      points = points;
-      as_many = refl;
-      places = λ n. refl;
-      elsewhere = record { length = refl; stays = λ n slot h found. found; was = λ n slot h found. found };
-    }
-
 pub elsewhere_on : (heap : ℕ) (a b c : List (Option Slot)) → SameElsewhere heap a b → SameElsewhere heap b c → SameElsewhere heap a c
 elsewhere_on heap a b c first next =
     record {

@@ -3,7 +3,7 @@ use Rattle.std.proofs.Common.{◌≡◌, ℕ, zero, suc, inl, inr, ◌<◌, ◌�
 use Rattle.std.specs.Prelude.{◌==◌, IsTrue, count_by, nat_le, slice_get}
 use Rattle.std.specs.Option.{option_and_then}
 use Rattle.std.proofs.lemmas.Bool.Decides.{nat_tests}
-use Rattle.std.proofs.lemmas.Bool.{and_parts, cases_Bool, cond-true, cond-false}
+use Rattle.std.proofs.lemmas.Bool.{cases_Bool, cond-true, cond-false}
 use Rattle.std.proofs.lemmas.List.Sums.{sum_by-cons}
 use Rattle.as4_effects.specs.declared.mark.Mark.TheVariants as mark
 use Rattle.exchange_model.specs.Apply.{changed, failed_if_spent, is_one, marked}
@@ -16,11 +16,6 @@ use Rattle.outbox.specs.Failing.{Watches, failing_at, watched}
 use Rattle.outbox.specs.Submissions.{Stand}
 use Rattle.outbox.proofs.FailingLemmas.{dated_at, due_small, watched_pending, watched_settled}
 use Rattle.outbox.proofs.PartsLemmas.{Parts, parts_of, passes, recounted, remapped}
-
--- what is spent is pending
-pub spent_pending : (moment : ℕ) (o : Option Sent) → IsTrue (is_one (is_spent moment) o) → IsTrue (is_one is_pending o)
-spent_pending moment None spent = spent
-spent_pending moment (Some s) spent = (and_parts _ _ spent).0
 
 -- one that is given up leaves what giving up makes of all
 pub fails_same : (moment number : ℕ) (sent : List Sent) → AreNumberedFrom 0 sent → IsTrue (is_one (is_spent moment) (sent_at number sent))

@@ -1,14 +1,12 @@
 -- Submissions that stand in an outbox: what is looked up, and what a change leaves.
-use Rattle.std.proofs.Common.{Bor, take, drop, inl, inr, get_or, ◌≡◌, ℕ, ◌+◌, ◌<◌, ◌≤◌, List, [], ◌∷◌, ◌++◌, Bool, true, false, cond, Option, Some, None, length, set, map, refl, sym, subst, ◌∙◌, arith}
+use Rattle.std.proofs.Common.{Bor, inl, inr, get_or, ◌≡◌, ℕ, ◌<◌, ◌≤◌, List, [], ◌∷◌, ◌++◌, Bool, Option, Some, None, length, set, refl, sym, subst, ◌∙◌, arith}
 use Rattle.std.specs.Prelude.{slice_get, IsTrue, IfSome, option_copied}
 use Rattle.std.specs.Slice.{IsGetResult}
 use Rattle.std.proofs.lemmas.Bool.{cases_lt, and_parts, leb-true}
-use Rattle.std.proofs.lemmas.List.{drop_more, get_or_at, length-map, length-take-le}
 use Rattle.std.proofs.lemmas.List.Elements.{All-nil, All-push, All-set}
 use Rattle.std.proofs.lemmas.Option.{get_or_from_slice_get, slice_get-get_or, slice_get_past, slice_get_read, slice_get_within}
-use Rattle.exchange_model.specs.Questions.{sent_at, is_waiting, is_pending, is_spent}
-use Rattle.exchange_model.specs.Apply.{is_one, failed_if_spent}
-use Rattle.as4_effects.specs.declared.mark.Mark.TheVariants.{Failed}
+use Rattle.exchange_model.specs.Questions.{sent_at, is_waiting, is_pending}
+use Rattle.exchange_model.specs.Apply.{is_one}
 use Rattle.exchange_model.specs.declared.sent.Sent.{Sent}
 use Rattle.exchange_model.proofs.NumberedLemmas.{none_numbered, numbered_push, place}
 use Rattle.outbox.specs.Submissions.{Stand}
@@ -69,17 +67,3 @@ dated_found None number sent stand is = tt
 dated_found (Some s) number sent stand is =
     subst (λ (x : Sent). x.last ≤ 253402300799999) (get_or_from_slice_get sent number s.now s.now (sym is))
     (stand.dated number s.now (slice_get_within sent number s.now (sym is)))
-
--- giving up in order: what comes is as it was
-pub rest_kept : (f : Sent → Sent) (sent new : List Sent) (i : ℕ) (d : Sent) → i < length sent → new ≡ map f (take i sent) ++ drop i sent
-    → get_or new i d ≡ get_or sent i d
-rest_kept f sent new i d short is =
-    let long : length (map f (take i sent)) ≡ i = length-map (take i sent) f ∙ length-take-le i sent (omega arith) in
-    rw (is, drop_more sent i d short) (get_or_at (map f (take i sent)) (get_or sent i d) (drop (i + 1) sent) d i long)
-
-pub failed_same : (moment : ℕ) (s : Sent) → ((failed_if_spent moment s).submission.number ≡ s.submission.number) × ((failed_if_spent moment s).last ≡ s.last)
-failed_same moment s =
-    elim (is_spent moment s) as (λ (b : Bool). ((cond b (record s { mark = Failed }) s).submission.number ≡ s.submission.number) × ((cond b (record s { mark = Failed }) s).last ≡ s.last)) [
-      | true ↦ (refl, refl)
-      | false ↦ (refl, refl)
-    ]

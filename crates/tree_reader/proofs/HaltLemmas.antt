@@ -19,10 +19,6 @@ use Rattle.tree_reader.proofs.TreeLemmas.{runs_spells}
 use Rattle.tree_reader.proofs.CutLemmas.{Cuts-more, cut_item, pair_is, item_at_nil, nil_has_none, beyond}
 use Rattle.tree_reader.proofs.PlaceLemmas.{run_deeper, step_markup, run_depth, step_too_deep, run_begins, no_step}
 
--- nothing is read at first
-pub reached_nothing : (bytes : List ℕ) → Reached bytes nothing_read bytes
-reached_nothing bytes = record { items = []; cut = refl; runs = refl }
-
 -- an item that is read shortens the rest
 pub meets_shortens : (s : State) (rest behind : List ℕ) (r : Result State Fault) → Meets s rest r behind → length behind < length rest
 meets_shortens s rest behind r m = item_shortens rest (m.item, behind) m.here

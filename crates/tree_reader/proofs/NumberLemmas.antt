@@ -1,5 +1,5 @@
 -- The number of digits, capped at each one.
-use Rattle.std.proofs.Common.{◌≡◌, ◌<◌, length, get_or, drop, ℕ, ◌+◌, ◌*◌, ◌≤◌, Bool, true, false, List, [], ◌∷◌, min, refl, sym, inl, inr, arith}
+use Rattle.std.proofs.Common.{◌≡◌, ◌<◌, length, get_or, drop, ℕ, ◌+◌, ◌*◌, ◌≤◌, Bool, true, List, [], ◌∷◌, min, refl, sym, inl, inr, arith}
 use Rattle.std.proofs.Math.Nat.{mul-le-mul_left}
 use Rattle.std.proofs.lemmas.Bool.{cases_lt}
 use Rattle.std.proofs.lemmas.List.{drop_more}
@@ -39,6 +39,3 @@ number_goes radix cap n i ds some within =
 
 pub digits_go : (p : ℕ → Bool) (i : ℕ) (ds : List ℕ) → i < length ds → p (get_or ds i 0) ≡ true → list_all p (drop i ds) ≡ list_all p (drop (i + 1) ds)
 digits_go p i ds within is = rw (drop_more ds i 0 within, is) refl
-
-pub digits_stop : (p : ℕ → Bool) (i : ℕ) (ds : List ℕ) → i < length ds → p (get_or ds i 0) ≡ false → list_all p (drop i ds) ≡ false
-digits_stop p i ds within is = rw (drop_more ds i 0 within, is) refl

@@ -1,8 +1,7 @@
-use Rattle.std.proofs.Common.{◌≡◌, map, ap, sym, ◌∙◌, arith}
-use Rattle.std.specs.Prelude.{count_by, option_map}
+use Rattle.std.proofs.Common.{ap, sym, ◌∙◌, arith}
+use Rattle.std.specs.Prelude.{count_by}
 use Rattle.due_heap.specs.Counting.{is_due_in}
 use Rattle.due_heap.specs.Heaps.{Heaps}
-use Rattle.due_heap.specs.Keeping.{place_of}
 use Rattle.due_heap.proofs.ExchangeLemmas.{numbers_few}
 use Rattle.due_heap.proofs.HeapsLemmas.{kept_in}
 use Rattle.due_heap.proofs.SumLemmas.{count_all}
