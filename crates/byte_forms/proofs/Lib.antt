@@ -1,3 +1,4 @@
+pub mod CutLemmas
 pub mod NumberLemmas
 pub mod OnceLemmas
 pub mod RefusalLemmas

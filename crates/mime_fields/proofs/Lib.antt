@@ -1,0 +1,14 @@
+mod ApartLemmas
+mod FieldLemmas
+mod KnownLemmas
+mod LineLemmas
+mod MediaLemmas
+mod ParameterLemmas
+pub mod PartAgain
+mod PartLemmas
+mod PartTakes
+mod QuoteLemmas
+mod SearchLemmas
+mod TrimLemmas
+pub mod TypeAgain
+mod TypeTakes

@@ -1,0 +1,8 @@
+pub mod Classes
+pub mod Fields
+pub mod Known
+pub mod Lent
+pub mod Loops
+pub mod MediaTypes
+pub mod WrittenParts
+pub mod WrittenTypes
