@@ -22,10 +22,20 @@ HasBoundary n (message.User header payloads) = IsBoundary n (envelope_text (user
 HasBoundary n (message.Signal signal) = n ≡ 0
 HasBoundary n (message.Pair pair) = n ≡ 0
 
+-- the media text and the body of a message, with its boundary
+pub record IsWire (message : Message) (media body : List ℕ) : Type 0 where
+  pub number : ℕ
+  pub boundary : HasBoundary number message
+  pub media_is : media ≡ media_of number message
+  pub body_is : body ≡ body_of number message
+
 -- a message file, a form of this program's own: the media text as a field, an empty line, and the body
 abbrev pub message_file : List ℕ → List ℕ → List ℕ
 message_file media body = codes "Content-Type: " ++ media ++ crlf ++ crlf ++ body
 
 -- the message file of a message
-abbrev pub file_of : ℕ → Message → List ℕ
-file_of n message = message_file (media_of n message) (body_of n message)
+pub record IsFile (message : Message) (file : List ℕ) : Type 0 where
+  pub media : List ℕ
+  pub body : List ℕ
+  pub wire : IsWire message media body
+  pub file_is : file ≡ message_file media body

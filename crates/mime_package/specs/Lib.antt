@@ -1,1 +1,6 @@
-pub mod Room
+pub mod Answers
+pub mod Encoded
+pub mod Lent
+pub mod Pieces
+pub mod Reading
+pub mod Steps

@@ -1,0 +1,106 @@
+//! Reads a package from its media text and its body (RFC 2387; RFC 2046, section 5.1).
+
+ghost use Rattle.std.specs.Prelude.{◌≡◌, ◌<◌, Ok, codes, length, map, option_map};
+ghost use Rattle.mime_fields.specs.Lent.{parameter_of, type_of, part_value};
+ghost use Rattle.mime_package.specs.Answers.{Answers};
+ghost use Rattle.mime_package.specs.Lent.{package_value};
+ghost use Rattle.mime_package.specs.Reading.{package_of, packaged, parameter, related, typed};
+ghost use Rattle.mime_package.specs.Steps.{package_at};
+
+use crate::package::Package;
+use crate::parameters::{boundary_of, is_envelope};
+use crate::parts::parts_of;
+use crate::refusal::MimeRefusal;
+use crate::root::checked_root;
+use mime_fields::{MediaType, Parameter, Part, read_media_type};
+use std::alloc::Global;
+
+/// Reads a package: its media text names the boundary at which the body is cut into parts, and the root. A bare
+/// envelope is a package without other parts. Contents aren't copied.
+#[tactic(auto, unfolding(crate::specs::Reading::package_of))]
+pub fn read_parts<'a>(
+    alloc: Global,
+    media: &[u8],
+    body: &'a [u8],
+) -> Result<Package<'a>, MimeRefusal>
+    ensures { Answers package_value result (package_of media.now body.now) }
+{
+    let Some(media) = read_media_type(alloc, media)? else {
+        return Err(MimeRefusal::BadType);
+    };
+    let package = typed(alloc, &media, body);
+    drop(media);
+    package
+}
+
+// The package of this media type.
+fn typed<'a>(
+    alloc: Global,
+    media: &MediaType<'_>,
+    body: &'a [u8],
+) -> Result<Package<'a>, MimeRefusal>
+    ensures { Answers package_value result (typed body.now (type_of media.now)) }
+{
+    if !media.names_differ(alloc)? {
+        return Err(MimeRefusal::BadType);
+    }
+    if is_envelope(alloc, media)? {
+        return Ok(Package {
+            root: body,
+            parts: Vec::new(alloc),
+        });
+    }
+    if !media.is(b"multipart", b"related") {
+        return Err(MimeRefusal::BadType);
+    }
+    related(alloc, media.parameters.as_slice(), body)
+}
+
+// The package of a media type with these parameters.
+#[tactic(auto, unfolding(crate::specs::Reading::related))]
+fn related<'a>(
+    alloc: Global,
+    parameters: &[Parameter<'_>],
+    body: &'a [u8],
+) -> Result<Package<'a>, MimeRefusal>
+    ensures { Answers package_value result (related (map parameter_of parameters.now) body.now) }
+{
+    let Some(boundary) = boundary_of(alloc, parameters)? else {
+        return Err(MimeRefusal::NoBoundary);
+    };
+    let parts = parts_of(alloc, boundary.as_slice(), body);
+    drop(boundary);
+    rooted(alloc, parameters, parts?)
+}
+
+// The package of these parts.
+fn rooted<'a>(
+    alloc: Global,
+    parameters: &[Parameter<'_>],
+    parts: Vec<Part<'a>>,
+) -> Result<Package<'a>, MimeRefusal>
+    ensures { Answers package_value result
+        (packaged (parameter (codes "start") (map parameter_of parameters.now)) (Ok (map part_value parts.entry.items))) }
+{
+    match checked_root(alloc, parameters, parts.as_slice()) {
+        Ok(at) => Ok(package_at(at, parts)),
+        Err(refusal) => {
+            drop(parts);
+            Err(refusal)
+        }
+    }
+}
+
+// The package whose root stands at this place.
+fn package_at<'a>(at: usize, mut parts: Vec<Part<'a>>) -> Package<'a>
+    requires { at < length parts.items }
+    ensures { package_value result ≡ package_at at (map part_value parts.entry.items) }
+{
+    let root = parts.remove(at);
+    let content = root.content;
+    drop(root);
+    Package {
+        root: content,
+        parts,
+    }
+}
