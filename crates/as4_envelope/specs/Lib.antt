@@ -1,3 +1,4 @@
 pub mod Markup
 pub mod Tree
 pub mod Writable
+pub mod Kept

@@ -1,12 +1,14 @@
 //! Elements of XML as trees, and the one text in which each is written.
 #![tactic(auto)]
 
+mod bytes;
 mod copies;
 mod markup;
 mod tree;
 mod writable;
 mod write;
 
+pub use bytes::TreeBytes;
 pub use markup::{
     push_attribute, push_end_tag, push_escaped, push_optional_attribute, push_optional_element,
     push_tag_end, push_tag_start, push_text_element,

@@ -1,22 +1,25 @@
-use as4_values::{Octets, Seq};
+//! Elements and their attributes.
+
+use crate::bytes::TreeBytes;
+use as4_values::Seq;
 
 /// An attribute, by its expanded name (Namespaces in XML 1.0, section 2.1). Declarations of namespaces are none.
 #[derive(Drop)]
 pub struct Attribute {
     /// The namespace, empty where there is none.
-    pub space: Octets,
-    pub local: Octets,
-    pub value: Octets,
+    pub space: TreeBytes,
+    pub local: TreeBytes,
+    pub value: TreeBytes,
 }
 
 /// An element, by its expanded name.
 #[derive(Drop)]
 pub struct Element {
     /// The namespace, empty where there is none.
-    pub space: Octets,
-    pub local: Octets,
+    pub space: TreeBytes,
+    pub local: TreeBytes,
     pub attributes: Seq<Attribute>,
     /// The character data that stands directly in the element, joined.
-    pub text: Octets,
+    pub text: TreeBytes,
     pub children: Seq<Element>,
 }

@@ -6,9 +6,10 @@ ghost use Rattle.as4_envelope.specs.Writable.{has_prefix, is_attribute, same_nam
 ghost use Rattle.as4_envelope.specs.declared.tree.Element.TheViews.{out-Element};
 ghost use Rattle.as4_values.specs.Texts.{is_xml};
 
+use crate::bytes::TreeBytes;
 use crate::tree::{Attribute, Element};
 use crate::write::{EBMS, SOAP};
-use as4_values::{Octets, first_not_xml};
+use as4_values::first_not_xml;
 
 /// How deep a tree may be; its outermost element has depth 1.
 pub const MAX_DEPTH: usize = 32;
@@ -73,7 +74,7 @@ fn is_attribute(attribute: &Attribute) -> bool
 }
 
 #[tactic(auto, unfolding(crate::specs::Writable::has_prefix))]
-fn has_prefix(space: &Octets) -> bool
+fn has_prefix(space: &TreeBytes) -> bool
     ensures { result ≡ has_prefix space.now }
 {
     space.bytes() == SOAP || space.bytes() == EBMS

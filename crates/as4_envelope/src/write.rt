@@ -5,6 +5,7 @@ ghost use Rattle.std.specs.List.{flat_map};
 ghost use Rattle.as4_envelope.specs.Tree.{prefix_of, attribute_text, start_text, end_text, declarations, element_text, child_text, tree_text};
 ghost use Rattle.as4_envelope.specs.Writable.{is_writable};
 
+use crate::bytes::TreeBytes;
 use crate::markup::{push_attribute, push_escaped, push_tag_end, push_tag_start, push_value};
 use crate::tree::{Attribute, Element};
 use as4_values::{NoMemory, Octets};
@@ -103,7 +104,7 @@ fn push_attribute_of(out: &mut Vec<u8>, attribute: &Attribute) -> Result<(), NoM
 
 /// What stands before a name of this namespace.
 #[tactic(auto, unfolding(crate::specs::Tree::prefix_of))]
-fn prefix_of(space: &Octets) -> &'static [u8]
+fn prefix_of(space: &TreeBytes) -> &'static [u8]
     ensures { result.now ≡ prefix_of space.now }
 {
     if space.bytes() == SOAP {

@@ -2,9 +2,11 @@ pub mod NameLemmas
 pub mod NumberLemmas
 pub mod TextLemmas
 pub mod SimpleLemmas
+pub mod DeclarationLemmas
 pub mod ScopeLemmas
 pub mod ApartLemmas
 pub mod StepLemmas
+pub mod ReadingLemmas
 pub mod SpellLemmas
 pub mod TreeLemmas
 pub mod CutLemmas

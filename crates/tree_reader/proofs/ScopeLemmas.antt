@@ -5,7 +5,7 @@ use Rattle.std.specs.Str.{bytes_eq}
 use Rattle.tree_reader.specs.Steps.{◌>>=◌, with_front, gathered}
 use Rattle.tree_reader.specs.Scopes.{Binding, Begun, found, scope_of}
 use Rattle.tree_reader.specs.declared.scope.Open.{Open}
-use Rattle.tree_reader.specs.Views.{begun_of, stack_of, binding_of}
+use Rattle.tree_reader.specs.Views.{begun_of, stack_of}
 use Rattle.tree_reader.proofs.TextLemmas.{front_front, told}
 
 first_added : {Y : Type 0} (o : Option (List Y)) (others : Option (List Y)) (old new : List Y) → with_front old o ≡ Some new
@@ -40,10 +40,10 @@ found-append (b ∷ xs) ys prefix =
     ]
 
 pub found_last : (around others : List Open) (innermost : Open) (prefix : List ℕ) → around ≡ others ++ innermost ∷ []
-    → found (scope_of (stack_of around)) prefix ≡ or_else (found (map binding_of innermost.declared.items) prefix) (found (scope_of (stack_of others)) prefix)
+    → found (scope_of (stack_of around)) prefix ≡ or_else (found innermost.declared prefix) (found (scope_of (stack_of others)) prefix)
 found_last around others innermost prefix is =
     ap (λ (os : List Open). found (scope_of (stack_of os)) prefix) is
     ∙ (ap (λ (os : List Begun). found (scope_of os) prefix) (stack_push others innermost)
-    ∙ found-append (map binding_of innermost.declared.items) (scope_of (stack_of others)) prefix)
+    ∙ found-append innermost.declared (scope_of (stack_of others)) prefix)
 
 pub ruleset found_either = (found-append)

@@ -11,9 +11,7 @@ use Rattle.tree_reader.specs.declared.stop.Stop.{Stop}
 use Rattle.tree_reader.specs.declared.stop.Stop.TheVariants as stops
 use Rattle.tree_reader.specs.declared.stop.TreeRefusal.{TreeRefusal}
 use Rattle.tree_reader.specs.declared.stop.TreeRefusal.TheVariants.{Markup, TooDeep, NoMemory}
-use Rattle.tree_reader.specs.declared.reading.Reading.{Reading}
 use Rattle.tree_reader.specs.declared.read.Halt.{Halt}
-use Rattle.tree_reader.specs.Views.{state_of}
 
 -- the items up to the rest were read, and this came of them
 pub record Reached (bytes : List ℕ) (state : State) (rest : List ℕ) : Type 0 where
@@ -28,11 +26,11 @@ pub record Meets (state : State) (rest : List ℕ) (answer : Result State Fault)
   pub gives : step levels item state ≡ answer
 
 -- one item was read, or this is why not
-abbrev pub Advances : Result (Reading × Bor (List ℕ)) Stop → State → List ℕ → Type 0
-Advances (Ok next) state rest = Meets state rest (Ok (state_of next.0)) next.1.now
-Advances (Err stops.Memory) state rest = Unit {0}
-Advances (Err stops.Markup) state rest = (item_at rest ≡ None) ⊎ ((behind : List ℕ) × Meets state rest (Err markup) behind)
-Advances (Err stops.TooDeep) state rest = (behind : List ℕ) × Meets state rest (Err too_deep) behind
+abbrev pub Advances : Result (Bor (List ℕ)) Stop → State → State → List ℕ → Type 0
+Advances (Ok behind) old new rest = Meets old rest (Ok new) behind.now
+Advances (Err stops.Memory) old new rest = Unit {0}
+Advances (Err stops.Markup) old new rest = (item_at rest ≡ None) ⊎ ((behind : List ℕ) × Meets old rest (Err markup) behind)
+Advances (Err stops.TooDeep) old new rest = (behind : List ℕ) × Meets old rest (Err too_deep) behind
 
 -- whether the root was read to its end
 abbrev pub IsDone : State → Type 0

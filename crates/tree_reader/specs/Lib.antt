@@ -2,6 +2,7 @@ pub mod Steps
 pub mod Names
 pub mod Decoded
 pub mod Scopes
+pub mod Declarations
 pub mod Reading
 pub mod Trees
 pub mod Documents

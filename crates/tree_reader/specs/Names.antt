@@ -1,6 +1,6 @@
 -- Names with their prefixes (XML 1.0, section 2.3; Namespaces in XML 1.0, section 4). Characters past ASCII aren't
 -- classified.
-use Rattle.std.specs.Prelude.{ℕ, ◌+◌, List, [], Bool, not, ◌&&◌, ◌||◌, ◌==◌, nat_le, Option, Some, None, take, drop, position, slice_index}
+use Rattle.std.specs.Prelude.{ℕ, ◌+◌, List, [], Bool, not, ◌&&◌, ◌||◌, ◌==◌, nat_le, nat_lt, Option, Some, None, take, drop, position, slice_index}
 use Rattle.std.specs.List.{list_any}
 use Rattle.std.specs.Char.{is_ascii_alphabetic}
 use Rattle.std.specs.Str.{is_utf8}
@@ -12,6 +12,10 @@ is_name_start b = is_ascii_alphabetic b || (b == 95) || nat_le 128 b
 
 abbrev pub is_colon : ℕ → Bool
 is_colon b = b == 58
+
+-- a byte of ASCII that is no colon
+abbrev pub is_simple : ℕ → Bool
+is_simple b = nat_lt b 128 && not (is_colon b)
 
 -- a name without a prefix, of bytes of names
 unfoldable pub is_local_name : List ℕ → Bool

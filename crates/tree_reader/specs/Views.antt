@@ -1,6 +1,7 @@
 -- What the code's values stand for.
 use Rattle.std.specs.Borrow.{Bor}
-use Rattle.std.specs.Prelude.{◌≡◌, ℕ, ◌<◌, ◌≤◌, ◌++◌, length, drop, List, [], ◌∷◌, Bool, false, Option, Some, None, Result, Ok, Err, map, reverse}
+use Rattle.std.specs.Prelude.{◌≡◌, ℕ, ◌<◌, ◌≤◌, ◌++◌, length, drop, List, Bool, Option, Some, None, Result, Ok, Err, map, reverse}
+use Rattle.as4_envelope.specs.declared.tree.Element.{Element}
 use Rattle.tree_reader.specs.Steps.{with_front}
 use Rattle.tree_reader.specs.Decoded.{Piece, meant_behind}
 use Rattle.tree_reader.specs.Names.{Qualified}
@@ -9,26 +10,21 @@ use Rattle.tree_reader.specs.Reading.{Fault, markup, too_deep, State, within, do
 use Rattle.tree_reader.specs.declared.stop.Stop.{Stop}
 use Rattle.tree_reader.specs.declared.stop.Stop.TheVariants as stops
 use Rattle.tree_reader.specs.declared.names.SplitName.{SplitName}
-use Rattle.tree_reader.specs.declared.scope.Declared.{Declared}
 use Rattle.tree_reader.specs.declared.scope.Open.{Open}
 use Rattle.tree_reader.specs.declared.scope.Scope.{Scope}
 use Rattle.tree_reader.specs.declared.reading.Reading.{Reading}
-use Rattle.tree_reader.specs.declared.reading.Reading.TheVariants.{Before, Inside, Done}
 
 abbrev pub qualified_of : SplitName → Qualified
 qualified_of q = record { prefix = q.prefix.now; local = q.local.now }
 
-abbrev pub binding_of : Declared → Binding
-binding_of b = record { prefix = b.prefix.now; space = b.space }
-
 abbrev pub begun_of : Open → Begun
 begun_of o = record {
   name = o.name.now;
-  declared = map binding_of o.declared.items;
+  declared = o.declared;
   space = o.space;
-  local = o.local.now;
+  local = o.local;
   attributes = o.attributes.items;
-  text = o.text.items;
+  text = o.text;
   children = o.children.items;
 }
 
@@ -38,12 +34,15 @@ stack_of os = map begun_of (reverse os)
 
 -- what is declared in a tag and in the elements round it, innermost first
 abbrev pub scope_in : Scope → List Binding
-scope_in s = map binding_of s.declared.now ++ scope_of (stack_of s.around.now)
+scope_in s = s.declared.now ++ scope_of (stack_of s.around.now)
+
+-- the root, behind its end; else the open elements
+abbrev pub state_by : Option Element → Bool → List Begun → State
+state_by None first os = within first os
+state_by (Some root) first os = done root
 
 abbrev pub state_of : Reading → State
-state_of (Before first) = within first []
-state_of (Inside innermost around) = within false (begun_of innermost ∷ stack_of around.items)
-state_of (Done root) = done root
+state_of r = state_by r.root r.first (stack_of r.open.items)
 
 -- what is found, seen by view, is the answer, unless memory ran out
 abbrev pub Misses : {Y : Type 0} → Stop → Option Y → Type 0
@@ -78,13 +77,7 @@ Fails stops.Memory answer = Unit {0}
 Fails stops.Markup answer = answer ≡ Err markup
 Fails stops.TooDeep answer = answer ≡ Err too_deep
 
-abbrev pub Gives : {X Y : Type 0} → (X → Y) → Result X Stop → Result Y Fault → Type 0
-Gives view (Ok x) answer = answer ≡ Ok (view x)
-Gives view (Err stop) answer = Fails stop answer
-
--- what was read, unless memory ran out
-abbrev pub Places : Result Reading Stop → State → Type 0
-Places (Ok reading) state = state_of reading ≡ state
-Places (Err stops.Memory) state = Unit {0}
-Places (Err stops.Markup) state = ⊥
-Places (Err stops.TooDeep) state = ⊥
+-- what an item makes of what was read, unless memory ran out
+abbrev pub Makes : {X : Type 0} → Result X Stop → Result State Fault → State → Type 0
+Makes (Ok x) answer new = answer ≡ Ok new
+Makes (Err stop) answer new = Fails stop answer

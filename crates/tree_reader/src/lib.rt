@@ -2,6 +2,7 @@
 #![tactic(auto)]
 
 mod apart;
+mod declarations;
 mod laws;
 mod names;
 mod read;

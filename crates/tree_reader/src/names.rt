@@ -1,9 +1,10 @@
 //! Names with their prefixes (Namespaces in XML 1.0, section 4).
 
 ghost use Rattle.std.specs.Prelude.{◌≡◌, position};
+ghost use Rattle.std.specs.List.{list_all};
 ghost use Rattle.std.specs.Option.{option_map};
 ghost use Rattle.std.specs.Str.{is_utf8};
-ghost use Rattle.tree_reader.specs.Names.{is_colon, is_name_start, is_local_name, qualified};
+ghost use Rattle.tree_reader.specs.Names.{is_colon, is_simple, is_name_start, is_local_name, qualified};
 ghost use Rattle.tree_reader.specs.Views.{qualified_of};
 
 /// A name as it is written.
@@ -50,10 +51,30 @@ fn colon_at(name: &[u8]) -> Option<usize>
 pub(crate) fn is_local_name(name: &[u8]) -> bool
     ensures { result ≡ is_local_name name.now }
 {
-    match name.first() {
-        None => false,
-        Some(first) => is_name_start(*first) && !name.contains(&b':') && is_utf8(name),
+    let Some(first) = name.first() else {
+        return false;
+    };
+    if is_simple(name) {
+        return is_name_start(*first);
     }
+    is_name_start(*first) && !name.contains(&b':') && is_utf8(name)
+}
+
+/// Whether all bytes are of ASCII, and none is a colon. It has no early exit, so that many bytes are tested at once.
+fn is_simple(name: &[u8]) -> bool
+    ensures { result ≡ list_all is_simple name.now }
+{
+    let mut simple = true;
+    for byte in name {
+        simple &= is_simple_byte(*byte);
+    }
+    simple
+}
+
+fn is_simple_byte(byte: u8) -> bool
+    ensures { result ≡ is_simple byte }
+{
+    byte < 128 && byte != b':'
 }
 
 fn is_name_start(byte: u8) -> bool

@@ -6,7 +6,7 @@ ghost use Rattle.tree_reader.specs.Documents.{limit, behind_mark, IsDocument, Is
 ghost use Rattle.tree_reader.specs.Halts.{Advances, Halts, refusal_of};
 ghost use Rattle.tree_reader.specs.Views.{state_of};
 
-use crate::reading::{Reading, after};
+use crate::reading::{Reading, read_item};
 use crate::stop::{Stop, TreeRefusal};
 use as4_envelope::Element;
 use std::alloc::Global;
@@ -70,27 +70,30 @@ fn read_items(alloc: Global, bytes: &[u8]) -> Result<Element, Halt>
     ensures within { IfErr result (λ halt. halt.left ≤ length bytes.now) }
 {
     let mut attributes = Vec::new(alloc);
-    let mut reading = Reading::Before(true);
+    let mut reading = Reading {
+        first: true,
+        open: Vec::new(alloc),
+        root: None,
+    };
     let mut rest = bytes;
     while !rest.is_empty() {
-        match advance(alloc, reading, &mut attributes, rest) {
-            Ok((next, behind)) => {
-                reading = next;
-                rest = behind;
-            }
+        match advance(alloc, &mut reading, &mut attributes, rest) {
+            Ok(behind) => rest = behind,
             Err(stop) => return Err(Halt {
                 stop,
                 left: rest.len(),
             }),
         }
     }
-    match reading {
-        Reading::Before(_) => Err(UNFINISHED),
-        Reading::Inside(open, around) => {
-            drop((open, around));
-            Err(UNFINISHED)
-        }
-        Reading::Done(tree) => Ok(tree),
+    let Reading {
+        first: _,
+        open,
+        root,
+    } = reading;
+    drop(open);
+    match root {
+        Some(tree) => Ok(tree),
+        None => Err(UNFINISHED),
     }
 }
 
@@ -103,24 +106,18 @@ const UNFINISHED: Halt = Halt {
 /// Reads the item at the front, and gives what stands behind it. The attributes are room for those of its tag.
 fn advance<'a>(
     alloc: Global,
-    reading: Reading<'a>,
+    reading: &mut Reading<'a>,
     attributes: &mut Vec<RawAttribute<'a>>,
     bytes: &'a [u8],
-) -> Result<(Reading<'a>, &'a [u8]), Stop>
-    ensures { Advances result (state_of reading.entry) bytes.now }
+) -> Result<&'a [u8], Stop>
+    ensures { Advances result (state_of reading.old) (state_of reading.new) bytes.now }
 {
     match next_item(bytes, attributes) {
-        Err(_) => {
-            drop(reading);
-            Err(Stop::Memory)
-        }
-        Ok(None) => {
-            drop(reading);
-            Err(Stop::Markup)
-        }
+        Err(_) => Err(Stop::Memory),
+        Ok(None) => Err(Stop::Markup),
         Ok(Some((item, behind))) => {
-            let next = after(alloc, reading, item, attributes.as_slice())?;
-            Ok((next, behind))
+            read_item(alloc, reading, item, attributes.as_slice())?;
+            Ok(behind)
         }
     }
 }

@@ -1,102 +1,99 @@
 //! What an item makes of what was read.
 
-ghost use Rattle.std.specs.Prelude.{◌≡◌, map, Some};
+ghost use Rattle.std.specs.Prelude.{◌≡◌, map, None, Ok};
 ghost use Rattle.std.specs.List.{list_all};
 ghost use Rattle.as4_values.specs.Texts.{is_blank, is_xml};
 ghost use Rattle.xml_items.specs.Raw.{item_of, written_of};
 ghost use Rattle.xml_items.specs.Items.{run, start, finish, comment, declaration};
-ghost use Rattle.tree_reader.specs.Reading.{Fault, step, begins, placed, unchanged};
-ghost use Rattle.tree_reader.specs.Scopes.{element_of, resolve, scope_of};
-ghost use Rattle.tree_reader.specs.Views.{Finds, Gives, Places, begun_of, stack_of, state_of};
+ghost use Rattle.tree_reader.specs.Reading.{step, placed, unchanged, later};
+ghost use Rattle.tree_reader.specs.Scopes.{element_of};
+ghost use Rattle.tree_reader.specs.Views.{Makes, begun_of, stack_of, state_of};
 
 use crate::scope::{Open, resolve};
 use crate::stop::Stop;
-use crate::text::{is_xml, push_meant};
+use crate::text::{is_xml, push_text};
 use as4_envelope::{Element, MAX_DEPTH};
-use as4_values::{Octets, Seq};
+use as4_values::Seq;
 use std::alloc::Global;
 use xml_items::{RawAttribute, RawItem};
 
 /// What was read.
 #[derive(Drop)]
-pub(crate) enum Reading<'a> {
-    /// No element yet; whether nothing at all.
-    Before(bool),
-    /// The innermost open element, and those round it, the root first.
-    Inside(Open<'a>, Vec<Open<'a>>),
+pub(crate) struct Reading<'a> {
+    /// Whether nothing was read yet.
+    pub first: bool,
+    /// The elements whose end tags haven't come, the root first.
+    pub open: Vec<Open<'a>>,
     /// The root, behind its end.
-    Done(Element),
+    pub root: Option<Element>,
 }
 
-/// What an item makes of what was read before it.
-pub(crate) fn after<'a>(
+/// Takes what was read on by one item. Behind an `Err` nothing is said of it.
+pub(crate) fn read_item<'a>(
     alloc: Global,
-    reading: Reading<'a>,
+    reading: &mut Reading<'a>,
     item: RawItem<'a>,
     attributes: &[RawAttribute<'a>],
-) -> Result<Reading<'a>, Stop>
-    ensures { Gives state_of result (step 32 (item_of item.entry attributes.now) (state_of reading.entry)) }
+) -> Result<(), Stop>
+    ensures { Makes result (step 32 (item_of item.entry attributes.now) (state_of reading.old)) (state_of reading.new) }
+{
+    read_in_place(alloc, reading, item, attributes)?;
+    reading.first = false;
+    Ok(())
+}
+
+/// The same, but for the mark that something was read.
+fn read_in_place<'a>(
+    alloc: Global,
+    reading: &mut Reading<'a>,
+    item: RawItem<'a>,
+    attributes: &[RawAttribute<'a>],
+) -> Result<(), Stop>
+    ensures { Makes result (step 32 (item_of item.entry attributes.now) (state_of reading.old)) (later (state_of reading.new)) }
 {
     match item {
-        RawItem::Declaration => after_declaration(reading),
-        RawItem::Comment(text) => after_comment(reading, text),
-        RawItem::Start { name, closed } => after_start(alloc, reading, name, closed, attributes),
-        RawItem::End { name } => after_end(alloc, reading, name),
-        RawItem::Text(bytes) => after_text(reading, bytes),
+        RawItem::Declaration => read_declaration(reading),
+        RawItem::Comment(text) => read_comment(reading, text),
+        RawItem::Start { name, closed } => read_start(alloc, reading, name, closed, attributes),
+        RawItem::End { name } => read_end(reading, name),
+        RawItem::Text(bytes) => read_text(alloc, reading, bytes),
     }
 }
 
 #[tactic(auto, unfolding(crate::specs::Reading::step))]
-fn after_declaration(reading: Reading<'_>) -> Result<Reading<'_>, Stop>
-    ensures { Gives state_of result (step 32 declaration (state_of reading.entry)) }
+fn read_declaration(reading: &Reading<'_>) -> Result<(), Stop>
+    ensures { Makes result (step 32 declaration (state_of reading.now)) (later (state_of reading.now)) }
 {
-    match reading {
-        Reading::Before(true) => Ok(Reading::Before(false)),
-        Reading::Before(false) => Err(Stop::Markup),
-        Reading::Inside(open, around) => {
-            drop((open, around));
-            Err(Stop::Markup)
-        }
-        Reading::Done(root) => {
-            drop(root);
-            Err(Stop::Markup)
-        }
+    if reading.root.is_some() {
+        return Err(Stop::Markup);
     }
+    unchanged(reading, reading.first)
 }
 
 #[tactic(auto, unfolding(crate::specs::Reading::step))]
-fn after_comment<'a>(reading: Reading<'a>, text: &[u8]) -> Result<Reading<'a>, Stop>
-    ensures { Gives state_of result (step 32 (comment text.now) (state_of reading.entry)) }
+fn read_comment(reading: &Reading<'_>, text: &[u8]) -> Result<(), Stop>
+    ensures { Makes result (step 32 (comment text.now) (state_of reading.now)) (later (state_of reading.now)) }
 {
     unchanged(reading, is_xml(text))
 }
 
 /// The same as before, if the item is right.
-fn unchanged(reading: Reading<'_>, right: bool) -> Result<Reading<'_>, Stop>
-    ensures { Gives state_of result (unchanged right (state_of reading.entry)) }
+fn unchanged(reading: &Reading<'_>, right: bool) -> Result<(), Stop>
+    ensures { Makes result (unchanged right (state_of reading.now)) (later (state_of reading.now)) }
 {
-    if !right {
-        drop(reading);
-        return Err(Stop::Markup);
-    }
-    match reading {
-        Reading::Before(_) => Ok(Reading::Before(false)),
-        Reading::Inside(open, around) => Ok(Reading::Inside(open, around)),
-        Reading::Done(root) => Ok(Reading::Done(root)),
-    }
+    if right { Ok(()) } else { Err(Stop::Markup) }
 }
 
 #[tactic(auto, unfolding(crate::specs::Reading::step))]
-fn after_text<'a>(reading: Reading<'a>, bytes: &[u8]) -> Result<Reading<'a>, Stop>
-    ensures { Gives state_of result (step 32 (run bytes.now) (state_of reading.entry)) }
+fn read_text(alloc: Global, reading: &mut Reading<'_>, bytes: &[u8]) -> Result<(), Stop>
+    ensures { Makes result (step 32 (run bytes.now) (state_of reading.old)) (later (state_of reading.new)) }
 {
-    match reading {
-        Reading::Before(first) => unchanged(Reading::Before(first), is_all_blank(bytes)),
-        Reading::Inside(mut open, around) => {
-            push_meant(&mut open.text, false, bytes)?;
-            Ok(Reading::Inside(open, around))
-        }
-        Reading::Done(root) => unchanged(Reading::Done(root), is_all_blank(bytes)),
+    if reading.root.is_some() {
+        return unchanged(reading, is_all_blank(bytes));
+    }
+    match reading.open.last_mut() {
+        None => unchanged(reading, is_all_blank(bytes)),
+        Some(open) => push_text(alloc, &mut open.text, bytes),
     }
 }
 
@@ -114,95 +111,68 @@ fn is_blank(byte: u8) -> bool
 }
 
 #[tactic(auto, unfolding(crate::specs::Reading::step))]
-fn after_start<'a>(
+fn read_start<'a>(
     alloc: Global,
-    reading: Reading<'a>,
+    reading: &mut Reading<'a>,
     name: &'a [u8],
     closed: bool,
     attributes: &[RawAttribute<'a>],
-) -> Result<Reading<'a>, Stop>
-    ensures { Gives state_of result (step 32 (start (record { name = name.now; attributes = map written_of attributes.now; closed = closed })) (state_of reading.entry)) }
+) -> Result<(), Stop>
+    ensures { Makes result (step 32 (start (record { name = name.now; attributes = map written_of attributes.now; closed = closed })) (state_of reading.old)) (later (state_of reading.new)) }
 {
-    match reading {
-        Reading::Before(_) => begun(alloc, Vec::new(alloc), name, closed, attributes),
-        Reading::Inside(open, mut around) => {
-            around.push(open)?;
-            begun(alloc, around, name, closed, attributes)
-        }
-        Reading::Done(root) => {
-            drop(root);
-            Err(Stop::Markup)
-        }
+    if reading.root.is_some() {
+        return Err(Stop::Markup);
     }
-}
-
-/// What a start tag makes of the open elements, the innermost of which is the last.
-fn begun<'a>(
-    alloc: Global,
-    around: Vec<Open<'a>>,
-    name: &'a [u8],
-    closed: bool,
-    attributes: &[RawAttribute<'a>],
-) -> Result<Reading<'a>, Stop>
-    ensures { Gives state_of result (begins 32 closed (stack_of around.entry.items) (resolve (scope_of (stack_of around.entry.items)) name.now (map written_of attributes.now))) }
-{
-    let open = resolve(alloc, around.as_slice(), name, attributes)?;
-    if around.len() >= MAX_DEPTH {
-        drop((open, around));
+    let open = resolve(alloc, reading.open.as_slice(), name, attributes)?;
+    if reading.open.len() >= MAX_DEPTH {
+        drop(open);
         return Err(Stop::TooDeep);
     }
     if closed {
-        return placed(element_of(alloc, open)?, around);
+        return place(reading, element_of(open));
     }
-    Ok(Reading::Inside(open, around))
+    reading.open.push(open)?;
+    Ok(())
 }
 
 #[tactic(auto, unfolding(crate::specs::Reading::step))]
-fn after_end<'a>(alloc: Global, reading: Reading<'a>, name: &[u8]) -> Result<Reading<'a>, Stop>
-    ensures { Gives state_of result (step 32 (finish name.now) (state_of reading.entry)) }
+fn read_end(reading: &mut Reading<'_>, name: &[u8]) -> Result<(), Stop>
+    ensures { Makes result (step 32 (finish name.now) (state_of reading.old)) (later (state_of reading.new)) }
 {
-    match reading {
-        Reading::Before(_) => Err(Stop::Markup),
-        Reading::Inside(open, around) => {
-            if name != open.name {
-                drop((open, around));
-                return Err(Stop::Markup);
-            }
-            placed(element_of(alloc, open)?, around)
-        }
-        Reading::Done(root) => {
-            drop(root);
-            Err(Stop::Markup)
-        }
+    if reading.root.is_some() {
+        return Err(Stop::Markup);
     }
+    let Some(open) = reading.open.pop() else {
+        return Err(Stop::Markup);
+    };
+    if name != open.name {
+        drop(open);
+        return Err(Stop::Markup);
+    }
+    place(reading, element_of(open))
 }
 
-/// An element that is complete, in those round it.
-fn placed<'a>(element: Element, mut around: Vec<Open<'a>>) -> Result<Reading<'a>, Stop>
-    ensures { Places result (placed element (stack_of around.entry.items)) }
+/// Puts an element that is complete into those round it.
+fn place(reading: &mut Reading<'_>, element: Element) -> Result<(), Stop>
+    requires { reading.old.root ≡ None }
+    ensures { Makes result (Ok (placed element (stack_of reading.old.open.items))) (later (state_of reading.new)) }
 {
-    match around.pop() {
-        None => {
-            drop(around);
-            Ok(Reading::Done(element))
-        }
-        Some(mut open) => {
-            open.children.push(element)?;
-            Ok(Reading::Inside(open, around))
-        }
+    match reading.open.last_mut() {
+        None => reading.root = Some(element),
+        Some(open) => open.children.push(element)?,
     }
+    Ok(())
 }
 
 /// The element, behind its end.
-fn element_of(alloc: Global, open: Open<'_>) -> Result<Element, Stop>
-    ensures { Finds (λ e. e) result (Some (element_of (begun_of open.entry))) }
+fn element_of(open: Open<'_>) -> Element
+    ensures { result ≡ element_of (begun_of open.entry) }
 {
-    let local = Vec::from_slice(alloc, open.local)?;
-    Ok(Element {
+    Element {
         space: open.space,
-        local: Octets::of(local),
+        local: open.local,
         attributes: Seq::of(open.attributes),
-        text: Octets::of(open.text),
+        text: open.text,
         children: Seq::of(open.children),
-    })
+    }
 }

@@ -5,14 +5,16 @@ ghost use Rattle.std.specs.Option.{option_map};
 ghost use Rattle.xml_items.specs.Raw.{written_of};
 ghost use Rattle.tree_reader.specs.Scopes.{may_bind, bound, declared_by, found, element_space, attribute_space, attribute_by, scope_of, resolve, binds_default, binds_prefix};
 ghost use Rattle.tree_reader.specs.Steps.{gathered};
-ghost use Rattle.tree_reader.specs.Views.{Finds, Adds, binding_of, begun_of, stack_of, scope_in};
+ghost use Rattle.tree_reader.specs.Views.{Finds, Adds, begun_of, stack_of, scope_in};
+ghost use Rattle.tree_reader.specs.Declarations.{binding_of};
 
 use crate::apart::{names_differ, written_differ};
+use crate::declarations::{Declarations, Declared};
 use crate::names::{is_local_name, qualified};
 use crate::stop::Stop;
 use crate::text::value_meant;
-use as4_envelope::{Attribute, Element};
-use as4_values::Octets;
+use as4_envelope::{Attribute, EBMS, Element, SOAP, TreeBytes};
+use as4_values::PlainData;
 use std::alloc::Global;
 use xml_items::RawAttribute;
 
@@ -22,24 +24,16 @@ const XML: &[u8] = b"http://www.w3.org/XML/1998/namespace";
 /// The namespace of the prefix `xmlns`.
 const XMLNS: &[u8] = b"http://www.w3.org/2000/xmlns/";
 
-/// A declaration of a namespace.
-#[derive(Drop)]
-pub(crate) struct Declared<'a> {
-    /// Empty where names without a prefix are meant.
-    pub prefix: &'a [u8],
-    pub space: Octets,
-}
-
 /// An element whose end tag hasn't come yet.
 #[derive(Drop)]
 pub(crate) struct Open<'a> {
     /// As it is written.
     pub name: &'a [u8],
-    pub declared: Vec<Declared<'a>>,
-    pub space: Octets,
-    pub local: &'a [u8],
+    pub declared: Declarations<'a>,
+    pub space: TreeBytes,
+    pub local: TreeBytes,
     pub attributes: Vec<Attribute>,
-    pub text: Vec<u8>,
+    pub text: TreeBytes,
     pub children: Vec<Element>,
 }
 
@@ -56,18 +50,16 @@ pub(crate) fn resolve<'a>(
     if !written_differ(alloc, attributes)? {
         return Err(Stop::Markup);
     }
-    let declared = declared_by(alloc, attributes)?;
+    let declared = Declarations::of(alloc, declared_by(alloc, attributes)?)?;
     let Some(written) = qualified(name) else {
         return Err(Stop::Markup);
     };
     let scope = Scope {
-        declared: declared.as_slice(),
+        declared: &declared,
         around,
     };
-    let Some(space) = element_space(scope, written.prefix) else {
-        return Err(Stop::Markup);
-    };
-    let space = Octets::of(Vec::from_slice(alloc, space)?);
+    let space = element_space(alloc, scope, written.prefix)?;
+    let local = TreeBytes::copied(alloc, written.local)?;
     let pairs = attributes_by(alloc, scope, attributes)?;
     if !names_differ(alloc, pairs.as_slice())? {
         return Err(Stop::Markup);
@@ -76,9 +68,9 @@ pub(crate) fn resolve<'a>(
         name,
         declared,
         space,
-        local: written.local,
+        local,
         attributes: pairs,
-        text: Vec::new(alloc),
+        text: TreeBytes::new(),
         children: Vec::new(alloc),
     })
 }
@@ -86,7 +78,7 @@ pub(crate) fn resolve<'a>(
 /// What a tag declares, and the elements round it.
 #[derive(Clone, Copy)]
 struct Scope<'s, 'a> {
-    declared: &'s [Declared<'a>],
+    declared: &'s Declarations<'a>,
     around: &'s [Open<'a>],
 }
 
@@ -147,13 +139,26 @@ fn bound<'a>(alloc: Global, prefix: &'a [u8], value: &[u8]) -> Result<Declared<'
     ensures { Finds (λ b. binding_of b ∷ []) result (bound prefix.now value.now) }
 {
     let space = value_meant(alloc, value)?;
-    if !may_bind(prefix, space.as_slice()) {
+    if !may_bind(prefix, space.bytes()) {
         return Err(Stop::Markup);
     }
     Ok(Declared {
         prefix,
-        space: Octets::of(space),
+        space: shared(space),
     })
+}
+
+/// The same namespace, as a constant if it is a known one.
+fn shared(space: TreeBytes) -> TreeBytes
+    ensures { result ≡ space }
+{
+    if space.bytes() == SOAP {
+        TreeBytes::fixed(SOAP)
+    } else if space.bytes() == EBMS {
+        TreeBytes::fixed(EBMS)
+    } else {
+        space
+    }
 }
 
 /// Whether the prefix may stand for the namespace.
@@ -171,10 +176,10 @@ fn may_bind(prefix: &[u8], space: &[u8]) -> bool
 }
 
 /// The attributes that are no declarations, in order.
-fn attributes_by(
+fn attributes_by<'a>(
     alloc: Global,
-    scope: Scope<'_, '_>,
-    attributes: &[RawAttribute<'_>],
+    scope: Scope<'_, 'a>,
+    attributes: &[RawAttribute<'a>],
 ) -> Result<Vec<Attribute>, Stop>
     ensures { Finds (λ v. v.items) result (gathered (attribute_by (scope_in scope.entry)) (map written_of attributes.now)) }
 {
@@ -187,11 +192,11 @@ fn attributes_by(
 
 /// Adds the attribute, if it is no declaration.
 #[tactic(auto, unfolding(crate::specs::Scopes::attribute_by))]
-fn push_attribute(
+fn push_attribute<'a>(
     alloc: Global,
     out: &mut Vec<Attribute>,
-    scope: Scope<'_, '_>,
-    attribute: RawAttribute<'_>,
+    scope: Scope<'_, 'a>,
+    attribute: RawAttribute<'a>,
 ) -> Result<(), Stop>
     ensures { Adds result (attribute_by (scope_in scope.entry) (written_of attribute.entry)) out.old.items out.new.items }
 {
@@ -201,49 +206,62 @@ fn push_attribute(
     let Some(written) = qualified(attribute.name) else {
         return Err(Stop::Markup);
     };
-    let Some(space) = attribute_space(scope, written.prefix) else {
-        return Err(Stop::Markup);
-    };
+    let space = attribute_space(alloc, scope, written.prefix)?;
+    let local = TreeBytes::copied(alloc, written.local)?;
     let value = value_meant(alloc, attribute.value)?;
     out.push(Attribute {
-        space: Octets::of(Vec::from_slice(alloc, space)?),
-        local: Octets::of(Vec::from_slice(alloc, written.local)?),
-        value: Octets::of(value),
+        space,
+        local,
+        value,
     })?;
     Ok(())
 }
 
 /// The namespace of an attribute.
 #[tactic(auto, unfolding(crate::specs::Scopes::attribute_space))]
-fn attribute_space<'s>(scope: Scope<'s, '_>, prefix: &[u8]) -> Option<&'s [u8]>
-    ensures { option_map (λ x. x.now) result ≡ attribute_space (scope_in scope.entry) prefix.now }
+fn attribute_space<'a>(
+    alloc: Global,
+    scope: Scope<'_, 'a>,
+    prefix: &'a [u8],
+) -> Result<TreeBytes, Stop>
+    ensures { Finds (λ space. space) result (attribute_space (scope_in scope.entry) prefix.now) }
 {
     if prefix.is_empty() {
-        return Some(b"");
+        return Ok(TreeBytes::fixed(b""));
     }
-    element_space(scope, prefix)
+    element_space(alloc, scope, prefix)
 }
 
 /// The namespace of an element.
 #[tactic(auto, unfolding(crate::specs::Scopes::element_space))]
-fn element_space<'s>(scope: Scope<'s, '_>, prefix: &[u8]) -> Option<&'s [u8]>
-    ensures { option_map (λ x. x.now) result ≡ element_space (scope_in scope.entry) prefix.now }
+fn element_space<'a>(
+    alloc: Global,
+    scope: Scope<'_, 'a>,
+    prefix: &'a [u8],
+) -> Result<TreeBytes, Stop>
+    ensures { Finds (λ space. space) result (element_space (scope_in scope.entry) prefix.now) }
 {
     if prefix == b"xml".as_slice() {
-        return Some(XML);
+        return Ok(TreeBytes::fixed(XML));
     }
     match found(scope, prefix) {
-        Some(space) => Some(space),
-        None => { if prefix.is_empty() { Some(b"") } else { None } }
+        Some(space) => Ok(space.try_clone(alloc)?),
+        None => {
+            if prefix.is_empty() {
+                Ok(TreeBytes::fixed(b""))
+            } else {
+                Err(Stop::Markup)
+            }
+        }
     }
 }
 
 /// What the nearest declaration binds the prefix to.
 #[tactic(auto, using(crate::proofs::ScopeLemmas::found_either))]
-fn found<'s>(scope: Scope<'s, '_>, prefix: &[u8]) -> Option<&'s [u8]>
+fn found<'s, 'a>(scope: Scope<'s, 'a>, prefix: &'a [u8]) -> Option<&'s TreeBytes>
     ensures { option_map (λ x. x.now) result ≡ found (scope_in scope.entry) prefix.now }
 {
-    match found_in(scope.declared, prefix) {
+    match scope.declared.found(prefix) {
         Some(space) => Some(space),
         None => found_around(scope.around, prefix),
     }
@@ -251,24 +269,12 @@ fn found<'s>(scope: Scope<'s, '_>, prefix: &[u8]) -> Option<&'s [u8]>
 
 /// What the nearest declaration in the elements binds the prefix to.
 #[tactic(auto, using(crate::proofs::ScopeLemmas::found_last))]
-fn found_around<'s>(around: &'s [Open<'_>], prefix: &[u8]) -> Option<&'s [u8]>
+fn found_around<'s, 'a>(around: &'s [Open<'a>], prefix: &'a [u8]) -> Option<&'s TreeBytes>
     ensures { option_map (λ x. x.now) result ≡ found (scope_of (stack_of around.now)) prefix.now }
 {
     let (innermost, others) = around.split_last()?;
-    match found_in(innermost.declared.as_slice(), prefix) {
+    match innermost.declared.found(prefix) {
         Some(space) => Some(space),
         None => found_around(others, prefix),
     }
-}
-
-/// What the first of the declarations binds the prefix to.
-fn found_in<'s>(declared: &'s [Declared<'_>], prefix: &[u8]) -> Option<&'s [u8]>
-    ensures { option_map (λ x. x.now) result ≡ found (map binding_of declared.now) prefix.now }
-{
-    for binding in declared {
-        if binding.prefix == prefix {
-            return Some(binding.space.bytes());
-        }
-    }
-    None
 }

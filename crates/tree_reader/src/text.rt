@@ -6,35 +6,50 @@ ghost use Rattle.std.specs.Option.{option_map};
 ghost use Rattle.std.specs.Char.{is_digit, encode_utf8};
 ghost use Rattle.std.specs.Str.Parse.{digits_value};
 ghost use Rattle.as4_values.specs.Texts.{is_xml, is_xml_char};
-ghost use Rattle.tree_reader.specs.Decoded.{entity, numbered, referred, Piece, is_semicolon, reference_at, line_end, is_plain, is_simple, pieces_meant, characters_meant, value_meant};
+ghost use Rattle.tree_reader.specs.Decoded.{entity, numbered, referred, Piece, is_semicolon, reference_at, line_end, is_plain, is_simple, pieces_meant, characters_meant, text_meant, value_meant};
 ghost use Rattle.tree_reader.specs.Views.{Finds, Adds, AddsPiece, GoesOn};
 
 use crate::stop::Stop;
+use as4_envelope::TreeBytes;
 use as4_values::first_not_xml;
 use std::alloc::Global;
 
 /// What a value means, by what stands between its quotes.
-pub(crate) fn value_meant(alloc: Global, bytes: &[u8]) -> Result<Vec<u8>, Stop>
-    ensures { Finds (λ v. v.items) result (value_meant bytes.now) }
+#[tactic(auto, using(crate::proofs::SimpleLemmas::simple_meant))]
+pub(crate) fn value_meant(alloc: Global, bytes: &[u8]) -> Result<TreeBytes, Stop>
+    ensures { Finds (λ value. value) result (value_meant bytes.now) }
 {
-    let mut value = Vec::with_capacity(alloc, bytes.len())?;
-    push_meant(&mut value, true, bytes)?;
-    Ok(value)
+    if is_simple(true, bytes) {
+        return Ok(TreeBytes::copied(alloc, bytes)?);
+    }
+    Ok(TreeBytes::of(alloc, characters_meant(alloc, true, bytes)?)?)
 }
 
-/// Adds what a text or a value means, by what stands between two tags or two quotes.
-#[tactic(auto, unfolding(crate::specs::Decoded::characters_meant), using(crate::proofs::SimpleLemmas::simple_meant))]
-pub(crate) fn push_meant(out: &mut Vec<u8>, in_value: bool, bytes: &[u8]) -> Result<(), Stop>
-    ensures { Adds result (characters_meant in_value bytes.now) out.old.items out.new.items }
+/// Adds what a text means, by what stands between two tags.
+#[tactic(auto, using(crate::proofs::SimpleLemmas::simple_meant))]
+pub(crate) fn push_text(alloc: Global, out: &mut TreeBytes, bytes: &[u8]) -> Result<(), Stop>
+    ensures { Adds result (text_meant bytes.now) out.old out.new }
 {
-    if is_simple(in_value, bytes) {
-        out.extend_from_slice(bytes)?;
+    if is_simple(false, bytes) {
+        out.append(alloc, bytes)?;
         return Ok(());
     }
+    let meant = characters_meant(alloc, false, bytes)?;
+    out.append(alloc, meant.as_slice())?;
+    Ok(())
+}
+
+/// What a text or a value means.
+#[tactic(auto, unfolding(crate::specs::Decoded::characters_meant))]
+fn characters_meant(alloc: Global, in_value: bool, bytes: &[u8]) -> Result<Vec<u8>, Stop>
+    ensures { Finds (λ meant. meant.items) result (characters_meant in_value bytes.now) }
+{
     if !is_xml(bytes) {
         return Err(Stop::Markup);
     }
-    push_pieces(out, in_value, bytes)
+    let mut meant = Vec::with_capacity(alloc, bytes.len())?;
+    push_pieces(&mut meant, in_value, bytes)?;
+    Ok(meant)
 }
 
 /// Whether all bytes are characters of XML in ASCII that stand for themselves. It has no early exit, so that many

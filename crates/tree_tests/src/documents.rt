@@ -323,6 +323,36 @@ fn many_attributes_differ_too(rt: HostRuntime) -> Result<(), Fail> {
     Ok(())
 }
 
+/// Tags of ten declarations, which are looked up by an index.
+const MANY_DECLARATIONS: [(&[u8], &[u8]); 5] = [
+    (
+        b"<j:a xmlns:a='A' xmlns:b='B' xmlns:c='C' xmlns:d='D' xmlns:e='E' xmlns:f='F' xmlns:g='G' xmlns:h='H' xmlns:i='I' xmlns:j='J' b:x='1'><c:b/></j:a>",
+        b"{J}a[{B}x=1]({C}b)",
+    ),
+    (
+        b"<a xmlns='U' xmlns:a='A' xmlns:b='B' xmlns:c='C' xmlns:d='D' xmlns:e='E' xmlns:f='F' xmlns:g='G' xmlns:h='H' xmlns:i='I' xmlns:j='J'><b/><a:c xmlns:a='V'/><a:d/></a>",
+        b"{U}a({U}b)({V}c)({A}d)",
+    ),
+    (
+        b"<k:a xmlns:a='A' xmlns:b='B' xmlns:c='C' xmlns:d='D' xmlns:e='E' xmlns:f='F' xmlns:g='G' xmlns:h='H' xmlns:i='I' xmlns:j='J'/>",
+        b"Markup 0",
+    ),
+    (
+        b"<a xmlns:a='A' xmlns:b='B' xmlns:c='C' xmlns:d='D' xmlns:e='E' xmlns:f='F' xmlns:g='G' xmlns:h='H' xmlns:i='I' xmlns:j='J' xmlns:e='X'/>",
+        b"Markup 0",
+    ),
+    (
+        b"<a xmlns:a='A' xmlns:b='B' xmlns:c='C' xmlns:d='D' xmlns:e='E' xmlns:f='F' xmlns:g='G' xmlns:h='H' xmlns:i='I' xmlns:j='J'><k:b/></a>",
+        b"Markup 123",
+    ),
+];
+
+#[test]
+fn many_declarations_are_found(rt: HostRuntime) -> Result<(), Fail> {
+    assert_eq!(rt; first_wrong(rt.alloc(), &MANY_DECLARATIONS), Ok(None));
+    Ok(())
+}
+
 /// What `write_tree` writes.
 const WRITTEN: [(&[u8], &[u8]); 1] = [(
     b"<eb:A xmlns:S=\"http://www.w3.org/2003/05/soap-envelope\" xmlns:eb=\"http://docs.oasis-open.org/ebxml-msg/ebms/v3.0/ns/core/200704/\" S:x=\"&#9;&#10;&#13;\" x=\"&quot;\">&amp;&lt;&gt;<S:B></S:B></eb:A>",

@@ -1,12 +1,12 @@
 //! Trees from short texts: elements with a start and an end tag, attributes in double quotes after one space each, and
 //! an element's text right behind its start tag. The prefix `S` means SOAP, `eb` ebMS, and every other one itself.
 
-use as4_envelope::{Attribute, EBMS, Element, SOAP};
-use as4_values::{Octets, Seq};
+use as4_envelope::{Attribute, EBMS, Element, SOAP, TreeBytes};
+use as4_values::Seq;
 use std::alloc::Global;
 
-fn octets(alloc: Global, bytes: &[u8]) -> Option<Octets> {
-    Some(Octets::of(Vec::from_slice(alloc, bytes).ok()?))
+fn octets(alloc: Global, bytes: &[u8]) -> Option<TreeBytes> {
+    TreeBytes::copied(alloc, bytes).ok()
 }
 
 /// The namespace and the local name.

@@ -8,6 +8,17 @@ ghost use Rattle.xml_items.specs.Cutting.{behind, run_at, skip};
 
 use memchr::{memchr, memchr2};
 
+// At the place of each byte of a name that byte, or `x` for those past ASCII, and a comma at every other place.
+static NAME_BYTES: [u8; 256] = *b"\
+    ,,,,,,,,,,,,,,,,,,,,,,,,,,,,,,,,\
+    ,,,,,,,,,,,,,-.,0123456789:,,,,,\
+    ,ABCDEFGHIJKLMNOPQRSTUVWXYZ,,,,_\
+    ,abcdefghijklmnopqrstuvwxyz,,,,,\
+    xxxxxxxxxxxxxxxxxxxxxxxxxxxxxxxx\
+    xxxxxxxxxxxxxxxxxxxxxxxxxxxxxxxx\
+    xxxxxxxxxxxxxxxxxxxxxxxxxxxxxxxx\
+    xxxxxxxxxxxxxxxxxxxxxxxxxxxxxxxx";
+
 /// What stands behind the blanks in front, of which there may be none (XML 1.0, section 2.3: `S?`).
 pub fn skip_blanks(bytes: &[u8]) -> &[u8]
     ensures { result.now ≡ skip is_blank bytes.now }
@@ -83,10 +94,11 @@ fn blanks_end(bytes: &[u8]) -> Option<usize>
     bytes.iter().position(|byte| !is_blank(*byte))
 }
 
+// Most bytes are above a space, and the first comparison tells those.
 fn is_blank(byte: u8) -> bool
     ensures { result ≡ is_blank byte }
 {
-    matches!(byte, b' ' | b'\t' | b'\n' | b'\r')
+    byte <= b' ' && matches!(byte, b' ' | b'\t' | b'\n' | b'\r')
 }
 
 #[tactic(auto, using(crate::proofs::SearchLemmas::end_of_name))]
@@ -106,7 +118,7 @@ fn name_end(bytes: &[u8]) -> Option<usize>
 fn is_name_byte(byte: u8) -> bool
     ensures { result ≡ is_name_byte byte }
 {
-    byte.is_ascii_alphanumeric() || matches!(byte, b'-' | b'.' | b':' | b'_' | 128..=255)
+    NAME_BYTES[byte as usize] != b','
 }
 
 #[tactic(auto, using(crate::proofs::SearchLemmas::end_of_value))]

@@ -1,9 +1,7 @@
-use Rattle.std.proofs.Common.{◌<◌, ℕ, List, Bool, true, ◌==◌, [], ◌≡◌, length, arith, Vec, Global}
+use Rattle.std.proofs.Common.{◌<◌, ℕ, List, Bool, true, ◌==◌, [], ◌≡◌, None, length, arith}
 use Rattle.std.proofs.lemmas.Bool.Decides.{nat_tests}
 use Rattle.std.proofs.lemmas.List.{nil_from_length}
-use Rattle.tree_reader.specs.declared.scope.Open.{Open}
 use Rattle.tree_reader.specs.declared.reading.Reading.{Reading}
-use Rattle.tree_reader.specs.declared.reading.Reading.TheVariants.{Before, Inside}
 use Rattle.tree_reader.specs.Halts.{IsDone}
 use Rattle.tree_reader.specs.Views.{state_of}
 use Rattle.tree_reader.proofs.HaltLemmas.{reached_more, meets_shortens, unfinished}
@@ -23,20 +21,11 @@ loop-rest-preserved c =
 nothing_left : (rest : List ℕ) (empty : Bool) → empty ≡ true → empty ≡ (length rest == 0) → rest ≡ []
 nothing_left rest empty is test = nil_from_length rest (grind (arith, nat_tests))
 
-before_open : (reading : Reading) (first : Bool) → reading ≡ Before first → ¬ (IsDone (state_of reading))
-before_open reading first is is_done = rw is at is_done
+not_done : (reading : Reading) → reading.root ≡ None → ¬ (IsDone (state_of reading))
+not_done reading is is_done = rw is at is_done
 
-inside_open : (reading : Reading) (innermost : Open) (around : Vec Open Global) → reading ≡ Inside innermost around → ¬ (IsDone (state_of reading))
-inside_open reading innermost around is is_done = rw is at is_done
-
-pub returns-in-Before-clause-halts : goal.returns-in-Before-clause-halts
-returns-in-Before-clause-halts c =
+pub returns-clause-halts : goal.returns-clause-halts
+returns-clause-halts c =
     unfinished c.args.bytes.now c.loop-rest.rest.now (state_of c.loop-rest.reading)
     (nothing_left c.loop-rest.rest.now c.is_empty.result c.loop-rest-test.false c.is_empty.ensures) c.loop-rest.invariant.reached
-    (before_open c.loop-rest.reading c.in-Before.field-0 c.in-Before.is)
-
-pub returns-in-Inside-clause-halts : goal.returns-in-Inside-clause-halts
-returns-in-Inside-clause-halts c =
-    unfinished c.args.bytes.now c.loop-rest.rest.now (state_of c.loop-rest.reading)
-    (nothing_left c.loop-rest.rest.now c.is_empty.result c.loop-rest-test.false c.is_empty.ensures) c.loop-rest.invariant.reached
-    (inside_open c.loop-rest.reading c.in-Inside.open c.in-Inside.around c.in-Inside.is)
+    (not_done c.loop-rest.reading c.in-None.is)

@@ -2,7 +2,7 @@ use Rattle.std.proofs.Common.{◌≡◌, map, drop}
 use Rattle.xml_items.specs.Raw.{written_of}
 use Rattle.tree_reader.specs.Steps.{with_front, gathered}
 use Rattle.tree_reader.specs.Scopes.{declared_by}
-use Rattle.tree_reader.specs.Views.{binding_of}
+use Rattle.tree_reader.specs.Declarations.{binding_of}
 use Rattle.tree_reader.proofs.scope.declared_by.Given as goal
 
 -- what was declared so far, and what the attributes that are left declare

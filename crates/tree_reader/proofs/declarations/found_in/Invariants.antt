@@ -1,7 +1,7 @@
 use Rattle.std.proofs.Common.{◌≡◌, map, drop}
 use Rattle.tree_reader.specs.Scopes.{found}
-use Rattle.tree_reader.specs.Views.{binding_of}
-use Rattle.tree_reader.proofs.scope.found_in.Given as goal
+use Rattle.tree_reader.specs.Declarations.{binding_of}
+use Rattle.tree_reader.proofs.declarations.found_in.Given as goal
 
 -- all depends on the declarations that are left
 abbrev pub invariant-loop-binding : goal.invariant-loop-binding
