@@ -1,4 +1,3 @@
-pub mod Again
 pub mod Elements
 pub mod Envelope
 pub mod Gives

@@ -1,7 +1,6 @@
 //! Reads the tree of an envelope as the message unit that it means.
 #![tactic(auto)]
 
-mod again;
 mod elements;
 mod envelope;
 mod made;
@@ -12,6 +11,5 @@ mod read_user;
 mod refusal;
 mod values;
 
-pub use again::is_read_again;
 pub use envelope::{one_unit, read_unit};
 pub use refusal::HeaderRefusal;

@@ -1,7 +1,0 @@
-use Rattle.std.proofs.Common.{take}
-use Rattle.std.specs.List.{AllByRecursion}
-use Rattle.header_reader.proofs.again.show_all.Given as goal
-
--- so it is with those so far
-abbrev pub invariant-loop-item : goal.invariant-loop-item
-invariant-loop-item g l = AllByRecursion g.T.Again.again (take l.item-index l.items)

@@ -1,0 +1,9 @@
+pub mod BodyLemmas
+pub mod DigitLemmas
+pub mod LineLemmas
+pub mod PackageLemmas
+pub mod PartLemmas
+pub mod PieceLemmas
+pub mod RootLemmas
+pub mod TypeLemmas
+pub mod ValueLemmas
