@@ -50,9 +50,9 @@ fn name_of(alloc: Global, part: &PartInfo) -> Result<Option<Octets>, NoMemory>
     }
 }
 
-/// The Content-ID that a reference names.
+/// The Content-ID that a reference names: what follows `cid:`, in any case, with its escapes resolved (RFC 2392).
 #[tactic(auto, unfolding(crate::specs::Pairing::cid_in))]
-fn cid_in(alloc: Global, href: &[u8]) -> Result<Option<Octets>, NoMemory>
+pub fn cid_in(alloc: Global, href: &[u8]) -> Result<Option<Octets>, NoMemory>
     ensures { IfOk result (λ cid. cid ≡ cid_in href.now) }
 {
     if href.len() < 4 || !href[..4].eq_ignore_ascii_case(b"cid:") {

@@ -1,12 +1,6 @@
-pub mod CanonicalLemmas
-pub mod CutLemmas
-pub mod EscapeCases
-pub mod FileLemmas
-pub mod MessageLemmas
-pub mod PackageLemmas
-pub mod PlainLemmas
-pub mod ReadingLemmas
-pub mod UnescapeLemmas
-pub mod ValueLemmas
-pub mod RefusalLemmas
-pub mod WireLemmas
+pub mod AttachLemmas
+mod CutLemmas
+mod DigitLemmas
+pub mod MeaningLemmas
+mod ReceivedLemmas
+mod WireLemmas

@@ -1,9 +1,6 @@
+pub mod Answers
+pub mod Attached
 pub mod FileReading
-pub mod Pieces
-pub mod Plain
-pub mod PlainPackage
-pub mod PlainReading
-pub mod Raw
-pub mod RawWire
-pub mod Unescaping
-pub mod Refused
+pub mod Line
+pub mod Meaning
+pub mod Views

@@ -1,19 +1,24 @@
 //! Messages: from a media text and a body to a message, and back.
 #![tactic(auto)]
 
+mod attach;
+mod attachment;
+mod laws;
+mod line;
 mod message_file;
-mod plain_envelope;
-mod plain_message;
-mod plain_package;
-mod plain_values;
-mod plain_wire;
 mod read;
+mod received;
 mod refusal;
-mod unescape;
+mod root;
+mod stop;
 mod write;
 
-pub use message_file::{read_message_file, write_message_file};
-pub use mime_package::Wire;
+pub use attachment::Attachment;
+pub use laws::one_meaning;
+pub use line::{Line, check_line};
+pub use message_file::{split_file, write_message_file};
+pub use package_writer::Wire;
 pub use read::read_message;
+pub use received::{Received, lend_message};
 pub use refusal::{MessageRefusal, Refusal, refusal_signal};
 pub use write::write_message;

@@ -1,40 +1,72 @@
-ghost use Rattle.std.specs.Prelude.{◌≡◌, ◌↔◌, IfOk, MatchResult};
-ghost use Rattle.as4_values.specs.declared.payload.Payload.{Payload as PayloadValue};
-ghost use Rattle.message_model.specs.Wire.{media_of, body_of};
+//! Reads messages.
+ghost use Rattle.std.specs.Prelude.{◌≡◌, Err, IfOk, IsSome, map};
+ghost use Rattle.as4_codes.specs.ErrorCodes.{error_row};
 ghost use Rattle.as4_message.specs.declared.refusal.Refusal.{Refusal as RefusalValue};
-ghost use Rattle.as4_message.specs.Plain.{PlainHeader, IsPlain, plain_message};
-ghost use Rattle.as4_message.specs.Refused.{IsRefused};
+ghost use Rattle.as4_message.specs.Answers.{AnswersBy, Copies};
+ghost use Rattle.as4_message.specs.Meaning.{Means, IsMessage, payload_value};
+ghost use Rattle.as4_message.specs.Views.{attached_value, received_value};
 
-use crate::plain_message::read_plain_message;
-use crate::refusal::{MessageRefusal, Refusal};
-use as4_values::{Message, NoMemory};
+use crate::attachment::Attachment;
+use crate::received::{Received, lend_message};
+use crate::refusal::MessageRefusal;
+use as4_values::{Message, NoMemory, Octets, Payload, PlainData, Seq};
 use std::alloc::Global;
 
-/// The code of what is no package (ebMS 3.0 Core, section 6.7.1).
-const MIME_INCONSISTENCY: u16 = 7;
-
-/// Reads a message from the media text and the body that carry it: a plain message, spelled as it is written.
-/// Without a media text they are refused.
+/// Reads a message from the media text and the body that carry it (AS4 Profile, section 2.1): from a bare envelope, or
+/// from a package whose root is one.
 pub fn read_message(alloc: Global, media: &[u8], body: &[u8]) -> Result<Message, MessageRefusal>
-    ensures found { IfOk result (λ message. (header : PlainHeader) × (payload : PayloadValue)
-        × IsPlain header payload × (message ≡ plain_message header payload)
-        × (media.now ≡ media_of 0 message) × (body.now ≡ body_of 0 message)) }
-    ensures only { (header : PlainHeader) (payload : PayloadValue) → IsPlain header payload
-        → media.now ≡ media_of 0 (plain_message header payload)
-        → body.now ≡ body_of 0 (plain_message header payload)
-        → MatchResult result (λ message. message ≡ plain_message header payload) (λ e. e ≡ MessageRefusal.NoMemory) }
-    ensures refused { (refusal : RefusalValue) → (result ≡ Err (MessageRefusal.Refused refusal))
-        ↔ IsRefused media.now body.now refusal }
+    ensures meaning { AnswersBy (λ message. message) result (Copies (Means media.now body.now)) }
+    ensures known { (refusal : RefusalValue) → result ≡ Err (MessageRefusal.Refused refusal) → IsSome (error_row refusal.code) }
 {
-    if media.is_empty() {
-        return Err(MessageRefusal::Refused(Refusal {
-            code: MIME_INCONSISTENCY,
-            about: None,
-        }));
+    match lend_message(alloc, media, body) {
+        Ok(received) => match message_of(alloc, received) {
+            Ok(message) => Ok(message),
+            Err(NoMemory) => Err(MessageRefusal::NoMemory),
+        },
+        Err(refusal) => Err(refusal),
     }
-    match read_plain_message(alloc, media, body) {
-        Ok(Some(message)) => Ok(message),
-        Ok(None) => Err(MessageRefusal::Unbuilt),
-        Err(NoMemory) => Err(MessageRefusal::NoMemory),
+}
+
+/// The message, with copies of the contents that were lent.
+fn message_of(alloc: Global, received: Received<'_>) -> Result<Message, NoMemory>
+    ensures { IfOk result (IsMessage (received_value received.entry)) }
+{
+    match received {
+        Received::User(header, parts) => {
+            let payloads = payloads_of(alloc, parts.as_slice());
+            drop(parts);
+            match payloads {
+                Ok(payloads) => Ok(Message::User {
+                    header,
+                    payloads: Seq::of(payloads),
+                }),
+                Err(NoMemory) => {
+                    drop(header);
+                    Err(NoMemory)
+                }
+            }
+        }
+        Received::Signal(signal) => Ok(Message::Signal(signal)),
+        Received::Pair(pair) => Ok(Message::Pair(pair)),
     }
+}
+
+fn payloads_of(alloc: Global, parts: &[Attachment<'_>]) -> Result<Vec<Payload>, NoMemory>
+    ensures { IfOk result (λ payloads. map payload_value payloads.items ≡ map attached_value parts.now) }
+{
+    let mut payloads = Vec::with_capacity(alloc, parts.len())?;
+    for part in parts {
+        payloads.push(payload_of(alloc, part)?)?;
+    }
+    Ok(payloads)
+}
+
+fn payload_of(alloc: Global, part: &Attachment<'_>) -> Result<Payload, NoMemory>
+    ensures { IfOk result (λ payload. payload_value payload ≡ attached_value part.now) }
+{
+    Ok(Payload {
+        cid: part.cid.try_clone(alloc)?,
+        media: part.media.try_clone(alloc)?,
+        content: Octets::of(Vec::from_slice(alloc, part.content)?),
+    })
 }

@@ -20,8 +20,6 @@ pub struct Refusal {
 pub enum MessageRefusal {
     /// The bytes are no message.
     Refused(Refusal),
-    /// They aren't those of a plain message, and no others are read yet.
-    Unbuilt,
     /// Memory ran out.
     NoMemory,
 }

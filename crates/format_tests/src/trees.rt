@@ -1,4 +1,4 @@
-use as4_envelope::{Attribute, EBMS, Element, SOAP, is_writable, write_tree};
+use as4_envelope::{Attribute, EBMS, Element, SOAP, TreeBytes, is_writable, write_tree};
 use as4_values::{NoMemory, Octets, Seq};
 use std::alloc::Global;
 use std::test::Fail;
@@ -32,18 +32,17 @@ fn list_of<T: Drop>(alloc: Global, item: Result<T, NoMemory>) -> Result<Vec<T>, 
     Ok(list)
 }
 
-fn octets(alloc: Global, bytes: &[u8]) -> Result<Octets, NoMemory> {
-    Ok(Octets::of(Vec::from_slice(alloc, bytes)?))
-}
-
 fn attribute(
     alloc: Global,
     space: &[u8],
     local: &[u8],
     value: &[u8],
 ) -> Result<Attribute, NoMemory> {
-    let name = both(octets(alloc, space), octets(alloc, local));
-    let ((space, local), value) = both(name, octets(alloc, value))?;
+    let name = both(
+        TreeBytes::copied(alloc, space),
+        TreeBytes::copied(alloc, local),
+    );
+    let ((space, local), value) = both(name, TreeBytes::copied(alloc, value))?;
     Ok(Attribute {
         space,
         local,
@@ -58,12 +57,15 @@ fn element(
     attributes: Vec<Attribute>,
     children: Vec<Element>,
 ) -> Result<Element, NoMemory> {
-    match both(octets(alloc, space), octets(alloc, local)) {
+    match both(
+        TreeBytes::copied(alloc, space),
+        TreeBytes::copied(alloc, local),
+    ) {
         Ok((space, local)) => Ok(Element {
             space,
             local,
             attributes: Seq::of(attributes),
-            text: Octets::of(Vec::new(alloc)),
+            text: TreeBytes::new(),
             children: Seq::of(children),
         }),
         Err(error) => {
@@ -81,8 +83,11 @@ fn text_element(
     local: &[u8],
     text: &[u8],
 ) -> Result<Element, NoMemory> {
-    let name = both(octets(alloc, space), octets(alloc, local));
-    let ((space, local), text) = both(name, octets(alloc, text))?;
+    let name = both(
+        TreeBytes::copied(alloc, space),
+        TreeBytes::copied(alloc, local),
+    );
+    let ((space, local), text) = both(name, TreeBytes::copied(alloc, text))?;
     Ok(Element {
         space,
         local,
@@ -141,7 +146,7 @@ fn an_empty_element_has_two_tags(rt: HostRuntime) -> Result<(), Fail> {
 /// An element with a text and with two children.
 fn mixed(alloc: Global, text: &[u8]) -> Result<Element, NoMemory> {
     let children = leaves(alloc, &[(b"B", b"b"), (b"C", b"")])?;
-    let (text, mut tree) = both(octets(alloc, text), nest(alloc, b"A", children))?;
+    let (text, mut tree) = both(TreeBytes::copied(alloc, text), nest(alloc, b"A", children))?;
     tree.text = text;
     Ok(tree)
 }

@@ -1,0 +1,58 @@
+-- How a header refers to the parts of its package (ebMS 3.0 Core, section 5.2.2.13; RFC 2392), and by which error it is
+-- refused where it doesn't (ebMS 3.0 Core, section 6.7.1).
+use Rattle.std.specs.Prelude.{ℕ, List, [], ◌∷◌, Bool, true, false, if◌then◌else◌, Option, Some, None, option_map, Result, Ok, Err, nat_eq, codes, map, is_none}
+use Rattle.std.specs.List.{list_any, starts_with}
+use Rattle.as4_values.specs.declared.header.PartInfo.{PartInfo}
+use Rattle.as4_effects.specs.Pairing.{cid_in, named_by, are_paired}
+use Rattle.byte_forms.specs.Cuts.{◌>>=◌}
+use Rattle.mime_fields.specs.Fields.{PartValue}
+
+-- a part that has a Content-ID
+pub record AttachedValue : Type 0 where
+  pub cid : List ℕ
+  pub media : List ℕ
+  pub content : List ℕ
+
+abbrev pub attached : PartValue → Option AttachedValue
+attached part = option_map (λ cid. record { cid = cid; media = part.media; content = part.content }) part.id
+
+-- all parts, and nothing where one has no Content-ID
+unfoldable pub all_attached : List PartValue → Option (List AttachedValue)
+all_attached [] = Some []
+all_attached (part ∷ parts) = attached part >>= λ first. option_map (λ others. first ∷ others) (all_attached parts)
+
+-- a part info refers to nothing, or to something in the envelope itself
+abbrev pub is_inside : PartInfo → Bool
+is_inside info = elim info.href [
+  | None ↦ true
+  | Some href ↦ starts_with nat_eq href (codes "#")
+]
+
+-- it refers to something that isn't in the package
+abbrev pub is_outside : PartInfo → Bool
+is_outside info = elim info.href [
+  | None ↦ false
+  | Some href ↦ is_none (cid_in href)
+]
+
+-- the errors: FeatureNotSupported, ExternalPayloadError, MimeInconsistency
+abbrev pub not_supported : ℕ
+not_supported = 8
+
+abbrev pub external : ℕ
+external = 11
+
+abbrev pub inconsistent : ℕ
+inconsistent = 7
+
+-- the parts, of which each is named once, each by its own Content-ID
+abbrev pub paired : Option (List (List ℕ)) → Option (List AttachedValue) → Result (List AttachedValue) ℕ
+paired names None = Err inconsistent
+paired names (Some parts) = if are_paired names (map (λ part. part.cid) parts) then Ok parts else Err inconsistent
+
+-- the parts that the part infos refer to, or the first error
+unfoldable pub attach : List PartInfo → List PartValue → Result (List AttachedValue) ℕ
+attach infos parts =
+    if list_any is_inside infos then Err not_supported
+    else if list_any is_outside infos then Err external
+    else paired (named_by infos) (all_attached parts)

@@ -1,0 +1,95 @@
+-- What a media text and a body mean: a message, or a refusal, by the first of the errors below that is one (ebMS 3.0 Core,
+-- section 6.7.1).
+use Rattle.std.specs.Prelude.{◌≡◌, ◌⊎◌, ℕ, List, [], ◌∷◌, Option, Some, None, Result, Ok, Err, map}
+use Rattle.as4_envelope.specs.declared.tree.Element.{Element}
+use Rattle.as4_values.specs.declared.header.UserHeader.{UserHeader}
+use Rattle.as4_values.specs.declared.payload.Payload.{Payload}
+use Rattle.as4_values.specs.declared.signal.Signal.{Signal}
+use Rattle.as4_values.specs.declared.message.Pair.{Pair}
+use Rattle.as4_values.specs.declared.message.Unit.{Unit as MessageUnit}
+use Rattle.as4_values.specs.declared.message.Unit.TheVariants as unit
+use Rattle.as4_values.specs.declared.message.Message.{Message}
+use Rattle.as4_values.specs.declared.message.Message.TheVariants as message
+use Rattle.tree_reader.specs.Documents.{IsDocument}
+use Rattle.header_reader.specs.Envelope.{unit_of}
+use Rattle.header_reader.specs.declared.refusal.HeaderRefusal.{HeaderRefusal}
+use Rattle.header_reader.specs.declared.refusal.HeaderRefusal.TheVariants as header_refusal
+use Rattle.mime_fields.specs.Fields.{PartValue}
+use Rattle.mime_package.specs.Reading.{PackageValue, package_of}
+use Rattle.mime_package.specs.declared.refusal.MimeRefusal.{MimeRefusal}
+use Rattle.mime_package.specs.declared.refusal.MimeRefusal.TheVariants as mime_refusal
+use Rattle.as4_message.specs.Attached.{AttachedValue, attach, not_supported, inconsistent}
+use Rattle.as4_message.specs.declared.refusal.Refusal.{Refusal}
+
+-- a message as it came: a header and the parts that it refers to, a signal, or a pair
+pub data ReceivedValue : Type 0 where
+  user : UserHeader → List AttachedValue → ReceivedValue
+  signal : Signal → ReceivedValue
+  pair : Pair → ReceivedValue
+
+abbrev pub refused : {X : Type 0} → ℕ → Option (List ℕ) → Result X Refusal
+refused code about = Err (record { code = code; about = about })
+
+-- what is no package: MimeInconsistency, or FeatureNotSupported where a part is encoded for transfer
+abbrev pub package_code : MimeRefusal → ℕ
+package_code mime_refusal.BadType = inconsistent
+package_code mime_refusal.NoBoundary = inconsistent
+package_code (mime_refusal.BadPart index) = inconsistent
+package_code mime_refusal.NoRoot = inconsistent
+package_code (mime_refusal.Encoding index) = not_supported
+package_code mime_refusal.NoMemory = inconsistent
+
+-- what is no envelope of a unit: InvalidHeader, or FeatureNotSupported
+abbrev pub invalid_header : ℕ
+invalid_header = 9
+
+abbrev pub envelope_code : HeaderRefusal → ℕ
+envelope_code header_refusal.Invalid = invalid_header
+envelope_code header_refusal.Unsupported = not_supported
+envelope_code header_refusal.NoMemory = invalid_header
+
+abbrev pub unit_or_code : Result MessageUnit HeaderRefusal → Result MessageUnit ℕ
+unit_or_code (Ok u) = Ok u
+unit_or_code (Err refusal) = Err (envelope_code refusal)
+
+-- what the root means: the unit of its tree, or the code by which it is refused
+abbrev pub RootMeans : List ℕ → Result MessageUnit ℕ → Type 0
+RootMeans root meant =
+    ((meant ≡ Err invalid_header) × ((tree : Element) → ¬ (IsDocument root tree)))
+    ⊎ ((tree : Element) × IsDocument root tree × (meant ≡ unit_or_code (unit_of tree)))
+
+-- a header with the parts that it refers to; a signal or a pair has no parts
+abbrev pub user_with : UserHeader → Result (List AttachedValue) ℕ → Result ReceivedValue Refusal
+user_with header (Ok parts) = Ok (user header parts)
+user_with header (Err code) = refused code (Some header.id)
+
+abbrev pub alone : List PartValue → List ℕ → ReceivedValue → Result ReceivedValue Refusal
+alone [] id received = Ok received
+alone (part ∷ parts) id received = refused inconsistent (Some id)
+
+abbrev pub unit_with : List PartValue → MessageUnit → Result ReceivedValue Refusal
+unit_with parts (unit.User header) = user_with header (attach header.parts parts)
+unit_with parts (unit.Signal s) = alone parts s.id (signal s)
+unit_with parts (unit.Pair p) = alone parts p.receipt.id (pair p)
+
+abbrev pub root_with : List PartValue → Result MessageUnit ℕ → Result ReceivedValue Refusal
+root_with parts (Ok u) = unit_with parts u
+root_with parts (Err code) = refused code None
+
+-- what a package means
+abbrev pub PackageMeans : Result PackageValue MimeRefusal → Result ReceivedValue Refusal → Type 0
+PackageMeans (Err refusal) meant = meant ≡ refused (package_code refusal) None
+PackageMeans (Ok whole) meant = (root : Result MessageUnit ℕ) × RootMeans whole.root root × (meant ≡ root_with whole.parts root)
+
+-- what a media text and a body mean
+abbrev pub Means : List ℕ → List ℕ → Result ReceivedValue Refusal → Type 0
+Means media body meant = PackageMeans (package_of media body) meant
+
+-- the message itself, with its parts as payloads
+abbrev pub payload_value : Payload → AttachedValue
+payload_value payload = record { cid = payload.cid; media = payload.media; content = payload.content }
+
+abbrev pub IsMessage : ReceivedValue → Message → Type 0
+IsMessage (user header parts) m = (payloads : List Payload) × (parts ≡ map payload_value payloads) × (m ≡ message.User header payloads)
+IsMessage (signal s) m = m ≡ message.Signal s
+IsMessage (pair p) m = m ≡ message.Pair p

@@ -1,0 +1,141 @@
+//! The parts of a package that a header refers to (ebMS 3.0 Core, section 5.2.2.13; RFC 2392).
+ghost use Rattle.std.specs.Prelude.{◌≡◌, IfOk, Some, map, option_map, option_and_then};
+ghost use Rattle.std.specs.List.{list_any};
+ghost use Rattle.as4_effects.specs.Pairing.{cid_in, named_by, are_paired};
+ghost use Rattle.mime_fields.specs.Lent.{part_value};
+ghost use Rattle.as4_message.specs.Attached.{is_inside, is_outside, attached, all_attached, paired, attach};
+ghost use Rattle.as4_message.specs.Answers.{StopsBy};
+ghost use Rattle.as4_message.specs.Views.{attached_value};
+
+use crate::attachment::Attachment;
+use crate::stop::Stop;
+use as4_effects::{all_differ, are_among, cid_in};
+use as4_values::{NoMemory, Octets, PartInfo, PlainData};
+use mime_fields::Part;
+use std::alloc::Global;
+
+/// The code of what isn't supported: FeatureNotSupported (ebMS 3.0 Core, section 6.7.1).
+pub(crate) const NOT_SUPPORTED: u16 = 8;
+
+/// The code of a payload outside of the package: ExternalPayloadError.
+const EXTERNAL: u16 = 11;
+
+/// The code of what is no package: MimeInconsistency.
+pub(crate) const INCONSISTENT: u16 = 7;
+
+/// The parts that the part infos refer to.
+pub(crate) fn attach<'a>(
+    alloc: Global,
+    infos: &[PartInfo],
+    parts: &[Part<'a>],
+) -> Result<Vec<Attachment<'a>>, Stop>
+    ensures { StopsBy (λ list. map attached_value list.items) result (λ answer. answer ≡ attach infos.now (map part_value parts.now)) }
+{
+    if any_inside(infos) {
+        return Err(Stop::Code(NOT_SUPPORTED));
+    }
+    match names_of(alloc, infos)? {
+        Some(names) => attach_named(alloc, names.as_slice(), parts),
+        None => Err(Stop::Code(EXTERNAL)),
+    }
+}
+
+/// The parts of which each has one of these names.
+fn attach_named<'a>(
+    alloc: Global,
+    names: &[Octets],
+    parts: &[Part<'a>],
+) -> Result<Vec<Attachment<'a>>, Stop>
+    ensures { StopsBy (λ list. map attached_value list.items) result (λ answer. answer ≡ paired (Some names.now) (all_attached (map part_value parts.now))) }
+{
+    let Some(parts) = all_attached(alloc, parts)? else {
+        return Err(Stop::Code(INCONSISTENT));
+    };
+    if are_paired(names, parts.as_slice()) {
+        return Ok(parts);
+    }
+    drop(parts);
+    Err(Stop::Code(INCONSISTENT))
+}
+
+fn any_inside(infos: &[PartInfo]) -> bool
+    ensures { result ≡ list_any is_inside infos.now }
+{
+    infos.iter().any(|info| is_inside(info))
+}
+
+/// Whether a part info refers to nothing, or to something in the envelope itself.
+fn is_inside(info: &PartInfo) -> bool
+    ensures { result ≡ is_inside info.now }
+{
+    match &info.href {
+        None => true,
+        Some(href) => href.bytes().starts_with(b"#"),
+    }
+}
+
+/// The Content-IDs that the part infos name, and nothing where one refers to something outside of the package.
+#[tactic(auto, unfolding(as4_effects::specs::Pairing::named_by))]
+fn names_of(alloc: Global, infos: &[PartInfo]) -> Result<Option<Vec<Octets>>, NoMemory>
+    ensures { IfOk result (λ names. option_map (λ list. list.items) names ≡ named_by infos.now) }
+{
+    let mut names = Vec::new(alloc);
+    for info in infos {
+        let Some(name) = name_of(alloc, info)? else {
+            return Ok(None);
+        };
+        names.push(name)?;
+    }
+    Ok(Some(names))
+}
+
+fn name_of(alloc: Global, info: &PartInfo) -> Result<Option<Octets>, NoMemory>
+    ensures { IfOk result (λ name. name ≡ option_and_then cid_in info.now.href) }
+{
+    match &info.href {
+        None => Ok(None),
+        Some(href) => cid_in(alloc, href.bytes()),
+    }
+}
+
+/// All parts, and nothing where one has no Content-ID.
+#[tactic(auto, unfolding(crate::specs::Attached::all_attached))]
+fn all_attached<'a>(
+    alloc: Global,
+    parts: &[Part<'a>],
+) -> Result<Option<Vec<Attachment<'a>>>, NoMemory>
+    ensures { IfOk result (λ found. option_map (λ list. map attached_value list.items) found ≡ all_attached (map part_value parts.now)) }
+{
+    let mut found = Vec::with_capacity(alloc, parts.len())?;
+    for part in parts {
+        let Some(attachment) = attached(alloc, part)? else {
+            return Ok(None);
+        };
+        found.push(attachment)?;
+    }
+    Ok(Some(found))
+}
+
+fn attached<'a>(alloc: Global, part: &Part<'a>) -> Result<Option<Attachment<'a>>, NoMemory>
+    ensures { IfOk result (λ found. option_map attached_value found ≡ attached (part_value part.now)) }
+{
+    let Some(id) = &part.id else {
+        return Ok(None);
+    };
+    Ok(Some(Attachment {
+        cid: id.try_clone(alloc)?,
+        media: part.media.try_clone(alloc)?,
+        content: part.content,
+    }))
+}
+
+/// Whether each Content-ID is named once, and is that of one part.
+fn are_paired(names: &[Octets], parts: &[Attachment<'_>]) -> bool
+    ensures { result ≡ are_paired (Some names.now) (map (λ part. part.cid) parts.now) }
+{
+    let named_once = all_differ(names);
+    let apart = all_differ(parts);
+    let there = are_among(names, parts);
+    let named = are_among(parts, names);
+    named_once && (apart && (there && named))
+}

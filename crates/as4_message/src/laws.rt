@@ -1,0 +1,9 @@
+//! Laws of what media texts and bodies mean.
+ghost use Rattle.std.specs.Prelude.{◌≡◌, ℕ, List, Result};
+ghost use Rattle.as4_message.specs.Meaning.{ReceivedValue, Means};
+ghost use Rattle.as4_message.specs.declared.refusal.Refusal.{Refusal};
+
+/// No media text and body mean two things.
+pub fn one_meaning()
+    ensures { (media body : List ℕ) (one other : Result ReceivedValue Refusal) → Means media body one → Means media body other → one ≡ other }
+{}
