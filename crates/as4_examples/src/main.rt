@@ -1,5 +1,5 @@
-//! Runs the example scripts of `data`, as `as4 drill` does, and compares what each writes with the text beside it.
-//! Prints a line for each, and ends with 1 where one of them differs.
+//! Runs the example scripts of `data`, as `as4 drill` does, and checks its messages, as `as4 check` does, and compares what
+//! each writes with the text beside it. Prints a line for each, and ends with 1 where one of them differs.
 #![tactic(auto)]
 
 use as4_flow::{MemorySink, MemorySource};
@@ -10,19 +10,23 @@ use std::process::ExitCode;
 use std::rt::Files;
 use std::{fs, io};
 
-/// The names of the scripts. `NAME.drill` leads to `NAME.txt`.
-const NAMES: [&str; 5] = [
-    "bundled-pulls",
-    "clean-push",
-    "losses-and-repeats",
-    "pulls",
-    "retries-until-spent",
+/// The names of the files, their endings, and the commands that read them. `NAME.ENDING` leads to `NAME.txt`. The messages
+/// are as other handlers write them.
+const EXAMPLES: [(&str, &str, &str); 8] = [
+    ("bundled-pulls", "drill", "drill"),
+    ("clean-push", "drill", "drill"),
+    ("losses-and-repeats", "drill", "drill"),
+    ("pulls", "drill", "drill"),
+    ("retries-until-spent", "drill", "drill"),
+    ("as-domibus-writes", "as4", "check"),
+    ("as-holodeck-writes", "as4", "check"),
+    ("as-phase4-writes", "as4", "check"),
 ];
 
 fn main(rt: HostRuntime) -> io::Result<ExitCode> {
     let mut all_agree = true;
-    for name in NAMES {
-        let agrees = agrees(&rt, name)?;
+    for (name, ending, command) in EXAMPLES {
+        let agrees = agrees(&rt, name, ending, command)?;
         let word = if agrees { "as shown" } else { "differs" };
         println!(rt; "{name}: {word}")?;
         all_agree &= agrees;
@@ -30,25 +34,30 @@ fn main(rt: HostRuntime) -> io::Result<ExitCode> {
     Ok(ExitCode::from(u8::from(!all_agree)))
 }
 
-// Whether the script writes the text beside it, tells nothing on the errors and ends with 0.
-fn agrees<R: Files + AllocGlobal>(rt: &R, name: &str) -> io::Result<bool> {
-    let script = fs::read(rt, format!(in rt.alloc(); "{name}.drill")?)?;
+// Whether the command writes of the file the text beside it.
+fn agrees<R: Files + AllocGlobal>(
+    rt: &R,
+    name: &str,
+    ending: &str,
+    command: &str,
+) -> io::Result<bool> {
+    let file = fs::read(rt, format!(in rt.alloc(); "{name}.{ending}")?)?;
     let text = fs::read(rt, format!(in rt.alloc(); "{name}.txt")?)?;
-    Ok(writes(rt, script, &text)?)
+    Ok(writes(rt, command, file, &text)?)
 }
 
-// Whether a drill of the script writes this text.
-fn writes<R: AllocGlobal>(rt: &R, script: Vec<u8>, text: &[u8]) -> Result<bool, AllocError> {
-    let words = drill_words(rt)?;
-    let mut input = MemorySource::of(script, Vec::new(rt.alloc()), Vec::new(rt.alloc()));
+// Whether the command writes this text of the input, tells nothing on the errors and ends with 0.
+fn writes<R: AllocGlobal>(
+    rt: &R,
+    command: &str,
+    file: Vec<u8>,
+    text: &[u8],
+) -> Result<bool, AllocError> {
+    let word = Octets::of(Vec::from_slice(rt.alloc(), command.as_bytes())?);
+    let words = Seq::of(vec![in rt.alloc(); word]?);
+    let mut input = MemorySource::of(file, Vec::new(rt.alloc()), Vec::new(rt.alloc()));
     let mut output = MemorySink::of(rt.alloc(), Vec::new(rt.alloc()), Vec::new(rt.alloc()));
     let mut errors = MemorySink::of(rt.alloc(), Vec::new(rt.alloc()), Vec::new(rt.alloc()));
     let status = run(rt.alloc(), &words, &mut input, &mut output, &mut errors);
     Ok(status == 0 && output.bytes() == text && errors.bytes().is_empty())
-}
-
-// The words `drill`.
-fn drill_words<R: AllocGlobal>(rt: &R) -> Result<Seq<Octets>, AllocError> {
-    let drill = Octets::of(Vec::from_slice(rt.alloc(), b"drill")?);
-    Ok(Seq::of(vec![in rt.alloc(); drill]?))
 }

@@ -6,11 +6,11 @@ use Rattle.drill.specs.Generated.{GeneratedAt}
 use Rattle.drill.specs.declared.script.DrillEnd.{DrillEnd}
 use Rattle.drill.specs.declared.script.DrillEnd.TheVariants as ends
 use Rattle.as4_tool.specs.Status.{code_of, status_of}
-use Rattle.as4_tool.specs.declared.status.Status.TheVariants.{Done, ReadFault, WriteFault, TooLong, Unbuilt, BadWords}
+use Rattle.as4_tool.specs.declared.status.Status.TheVariants.{Done, ReadFault, WriteFault, TooLong, NotUser, BadWords}
 
 -- it is never one of these
 pub no_other : (end : DrillEnd)
-    → (code_of (status_of end) ≢ code_of TooLong) × (code_of (status_of end) ≢ code_of Unbuilt)
+    → (code_of (status_of end) ≢ code_of TooLong) × (code_of (status_of end) ≢ code_of NotUser)
     × (code_of (status_of end) ≢ code_of BadWords)
 no_other ends.Read = (omega arith, omega arith, omega arith)
 no_other (ends.Line number) = (omega arith, omega arith, omega arith)
@@ -48,7 +48,7 @@ writes ends.NoMemory streams counts = record { fault = λ is. absurd (omega (ari
 -- a generated script ends with no read fault, and with none of the others
 pub no_fault_of_input : (seed count : ℕ) (end : DrillEnd) (streams : Streams) → GeneratedAt seed count end streams
     → (code_of (status_of end) ≢ code_of ReadFault) × (code_of (status_of end) ≢ code_of TooLong)
-    × (code_of (status_of end) ≢ code_of Unbuilt) × (code_of (status_of end) ≢ code_of BadWords)
+    × (code_of (status_of end) ≢ code_of NotUser) × (code_of (status_of end) ≢ code_of BadWords)
 no_fault_of_input seed count ends.Read streams drilled = (omega arith, omega arith, omega arith, omega arith)
 no_fault_of_input seed count (ends.Line number) streams drilled = absurd drilled
 no_fault_of_input seed count ends.TooMany streams drilled = absurd drilled

@@ -1,41 +1,42 @@
--- What is answered to a message file.
-use Rattle.std.specs.Prelude.{◌≡◌, ℕ, ◌⊎◌, List}
-use Rattle.as4_values.specs.declared.payload.Payload.{Payload}
+-- What is answered to a message file, and what is told of it.
+use Rattle.std.specs.Prelude.{◌≡◌, ℕ, List, Bool, Result, Ok, Err}
 use Rattle.as4_values.specs.declared.signal.Signal.{Signal}
 use Rattle.as4_values.specs.declared.message.Message.TheVariants as message
-use Rattle.message_model.specs.Wire.{file_of}
+use Rattle.message_model.specs.Wire.{IsFile}
 use Rattle.as4_codes.specs.Signals.{IsReceiptOf, IsErrorSignalOf}
-use Rattle.as4_message.specs.Plain.{PlainHeader, IsPlain, header_of, plain_message}
+use Rattle.as4_message.specs.FileReading.{media_and_body}
+use Rattle.as4_message.specs.Line.{IsLine}
+use Rattle.as4_message.specs.Meaning.{ReceivedValue, user, signal, pair, Means}
 use Rattle.as4_message.specs.declared.refusal.Refusal.{Refusal}
-use Rattle.as4_message.specs.Refused.{IsRefusedFile}
 
--- the file is that of this plain message
-pub record IsPlainFile (file : List ℕ) (header : PlainHeader) (payload : Payload) : Type 0 where
-  pub plain : IsPlain header payload
-  pub is_file : file ≡ file_of 0 (plain_message header payload)
+-- what the media text and the body of a message file mean
+abbrev pub FileMeans : List ℕ → Result ReceivedValue Refusal → Type 0
+FileMeans file meant = Means (media_and_body file).0 (media_and_body file).1 meant
 
--- the file is that of a plain message, and the signal is this message's receipt
-abbrev pub IsReceipt : ℕ → ℕ → List ℕ → Signal → Type 0
-IsReceipt stamp nonce file signal =
-    (header : PlainHeader) × (payload : Payload) × IsPlainFile file header payload
-    × IsReceiptOf (header_of header) stamp nonce signal
-
--- the file is refused, and the signal is the error signal of this refusal
-abbrev pub IsError : ℕ → ℕ → List ℕ → Signal → Type 0
-IsError stamp nonce file signal =
-    (refusal : Refusal) × IsRefusedFile file refusal
-    × IsErrorSignalOf refusal.code refusal.about stamp nonce signal
-
--- the signal that replies to the file
-abbrev pub IsReply : ℕ → ℕ → List ℕ → Signal → Type 0
-IsReply stamp nonce file signal = IsReceipt stamp nonce file signal ⊎ IsError stamp nonce file signal
+-- the signal that replies: the receipt of a user message, or the error signal of a refusal. A signal or a pair has none
+abbrev pub IsReply : ℕ → ℕ → Result ReceivedValue Refusal → Signal → Type 0
+IsReply stamp nonce (Ok (user header parts)) reply = IsReceiptOf header stamp nonce reply
+IsReply stamp nonce (Ok (signal s)) reply = ⊥
+IsReply stamp nonce (Ok (pair p)) reply = ⊥
+IsReply stamp nonce (Err refusal) reply = IsErrorSignalOf refusal.code refusal.about stamp nonce reply
 
 -- the answer is the message file of the signal that replies to the file
 abbrev pub IsAnswer : ℕ → ℕ → List ℕ → List ℕ → Type 0
 IsAnswer stamp nonce file answer =
-    (signal : Signal) × IsReply stamp nonce file signal × (answer ≡ file_of 0 (message.Signal signal))
+    (meant : Result ReceivedValue Refusal) × (reply : Signal) × FileMeans file meant × IsReply stamp nonce meant reply
+    × IsFile (message.Signal reply) answer
 
--- the file is that of no plain message, and isn't refused
-pub record IsUnbuilt (file : List ℕ) : Type 0 where
-  pub not_plain : (header : PlainHeader) (payload : Payload) → ¬ IsPlainFile file header payload
-  pub not_refused : (refusal : Refusal) → ¬ IsRefusedFile file refusal
+-- a signal, alone or in a pair
+abbrev pub IsSignal : Result ReceivedValue Refusal → Type 0
+IsSignal (Ok (user header parts)) = ⊥
+IsSignal (Ok (signal s)) = Unit {0}
+IsSignal (Ok (pair p)) = Unit {0}
+IsSignal (Err refusal) = ⊥
+
+-- the file is that of a signal or a pair
+abbrev pub IsSignalFile : List ℕ → Type 0
+IsSignalFile file = (meant : Result ReceivedValue Refusal) × FileMeans file meant × IsSignal meant
+
+-- the line that tells what the file means, and whether it is refused
+abbrev pub IsFileLine : List ℕ → List ℕ → Bool → Type 0
+IsFileLine file line refused = IsLine (FileMeans file) line refused

@@ -1,8 +1,8 @@
 -- The words of the program: its own choice.
-use Rattle.std.specs.Prelude.{◌≡◌, ℕ, ◌^◌, ◌<◌, ◌≤◌, List, [], ◌∷◌, codes, decimal}
+use Rattle.std.specs.Prelude.{◌≡◌, ℕ, ◌^◌, ◌<◌, ◌≤◌, ◌⊎◌, List, [], ◌∷◌, codes, decimal}
 use Rattle.as4_values.specs.declared.moment.TheConstants.{MAX_MOMENT}
 use Rattle.as4_tool.specs.declared.command.Command.{Command}
-use Rattle.as4_tool.specs.declared.command.Command.TheVariants.{Help, Version, Answer, Drill, Generate}
+use Rattle.as4_tool.specs.declared.command.Command.TheVariants.{Help, Version, Answer, Check, Drill, Generate}
 
 -- these words, each a list of bytes, spell the command
 abbrev pub Spells : List (List ℕ) → Command → Type 0
@@ -10,6 +10,7 @@ Spells words Help = words ≡ codes "--help" ∷ []
 Spells words Version = words ≡ codes "--version" ∷ []
 Spells words (Answer stamp nonce) =
     (words ≡ codes "answer" ∷ decimal stamp ∷ decimal nonce ∷ []) × (stamp ≤ MAX_MOMENT) × (nonce < 2 ^ 128)
+Spells words Check = words ≡ codes "check" ∷ []
 Spells words Drill = words ≡ codes "drill" ∷ []
 Spells words (Generate seed count) =
     (words ≡ codes "drill" ∷ codes "--generate" ∷ decimal seed ∷ decimal count ∷ []) × (seed < 2 ^ 64) × (count ≤ 1000)
@@ -18,9 +19,9 @@ Spells words (Generate seed count) =
 abbrev pub IsCommand : List (List ℕ) → Type 0
 IsCommand words = (command : Command) × Spells words command
 
--- these words ask for an answer
-abbrev pub AsksAnswer : List (List ℕ) → Type 0
-AsksAnswer words = (stamp : ℕ) × (nonce : ℕ) × Spells words (Answer stamp nonce)
+-- these words ask for something about a message file: an answer or a line
+abbrev pub AsksOfFile : List (List ℕ) → Type 0
+AsksOfFile words = ((stamp : ℕ) × (nonce : ℕ) × Spells words (Answer stamp nonce)) ⊎ Spells words Check
 
 -- these words ask for a drill of a script
 abbrev pub AsksDrill : List (List ℕ) → Type 0

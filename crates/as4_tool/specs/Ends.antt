@@ -1,29 +1,38 @@
 -- How a run ends: with which status, and what it has written then.
-use Rattle.std.specs.Prelude.{◌≡◌, ℕ, ◌≤◌, ◌⊎◌, List, [], ◌∷◌, Option, None, length}
+use Rattle.std.specs.Prelude.{◌≡◌, ℕ, ◌≤◌, ◌⊎◌, List, [], ◌∷◌, Bool, if◌then◌else◌, Option, None, length}
 use Rattle.as4_flow.specs.Told.{Told, behind, TakesFront}
 use Rattle.drill.specs.Ends.{Streams, Ends as DrillEnds}
 use Rattle.drill.specs.Generated.{GeneratedEnds}
 use Rattle.drill.specs.declared.script.DrillEnd.{DrillEnd}
-use Rattle.as4_tool.specs.Answer.{IsAnswer}
+use Rattle.as4_tool.specs.Answer.{IsAnswer, IsFileLine}
 use Rattle.as4_tool.specs.Status.{IsOneOf, status_of}
 use Rattle.as4_tool.specs.declared.texts.TheConstants.{HELP, VERSION}
 use Rattle.as4_tool.specs.declared.running.TheConstants.{LIMIT}
 use Rattle.as4_tool.specs.declared.command.Command.{Command}
-use Rattle.as4_tool.specs.declared.command.Command.TheVariants.{Help, Version, Answer, Drill, Generate}
+use Rattle.as4_tool.specs.declared.command.Command.TheVariants.{Help, Version, Answer, Check, Drill, Generate}
 use Rattle.as4_tool.specs.declared.status.Status.{Status}
-use Rattle.as4_tool.specs.declared.status.Status.TheVariants.{Done, ReadFault, WriteFault, NoMemory, TooLong, Unbuilt}
+use Rattle.as4_tool.specs.declared.status.Status.TheVariants.{Done, Refused, ReadFault, WriteFault, NoMemory, NotUser, TooLong}
 
--- the whole text was written behind what was taken, or a front of it and then the output failed
-abbrev pub Writes : List ℕ → Status → Option (List ℕ) → Option (List ℕ) → Type 0
-Writes text status taken later =
-    ((status ≡ Done) × (later ≡ behind taken text))
+-- the whole text was written behind what was taken, and the run ends so, or a front of it and then the output failed
+abbrev pub WritesAs : Status → List ℕ → Status → Option (List ℕ) → Option (List ℕ) → Type 0
+WritesAs end text status taken later =
+    ((status ≡ end) × (later ≡ behind taken text))
     ⊎ ((status ≡ WriteFault) × TakesFront text taken later)
+
+abbrev pub Writes : List ℕ → Status → Option (List ℕ) → Option (List ℕ) → Type 0
+Writes text status taken later = WritesAs Done text status taken later
 
 -- the input is within the limit and was read to its end, and its answer was written
 abbrev pub Answers : ℕ → ℕ → Status → Streams → Type 0
 Answers stamp nonce status streams =
     (answer : List ℕ) × Told streams.left (λ file. (length file ≤ LIMIT) × IsAnswer stamp nonce file answer)
     × Told streams.rest (λ rest. rest ≡ []) × Writes answer status streams.taken streams.later
+
+-- the input is within the limit and was read to its end, and its line was written; the status tells whether it is refused
+abbrev pub Checks : Status → Streams → Type 0
+Checks status streams =
+    (line : List ℕ) × (refused : Bool) × Told streams.left (λ file. (length file ≤ LIMIT) × IsFileLine file line refused)
+    × Told streams.rest (λ rest. rest ≡ []) × WritesAs (if refused then Refused else Done) line status streams.taken streams.later
 
 -- no input, and the output as it is
 abbrev pub no_input : Streams → Streams
@@ -35,7 +44,8 @@ Ends Help status streams = Writes HELP.now status streams.taken streams.later
 Ends Version status streams = Writes VERSION.now status streams.taken streams.later
 Ends (Answer stamp nonce) status streams =
     Answers stamp nonce status streams
-    ⊎ IsOneOf (ReadFault ∷ NoMemory ∷ TooLong ∷ Unbuilt ∷ []) status
+    ⊎ IsOneOf (ReadFault ∷ NoMemory ∷ NotUser ∷ TooLong ∷ []) status
+Ends Check status streams = Checks status streams ⊎ IsOneOf (ReadFault ∷ NoMemory ∷ TooLong ∷ []) status
 Ends Drill status streams = (end : DrillEnd) × (status ≡ status_of end) × DrillEnds end streams
 Ends (Generate seed count) status streams =
     (end : DrillEnd) × (status ≡ status_of end) × GeneratedEnds seed count end (no_input streams)

@@ -4,18 +4,19 @@ use Rattle.std.specs.Fmt.{decimal}
 use Rattle.drill.specs.declared.script.DrillEnd.{DrillEnd}
 use Rattle.drill.specs.declared.script.DrillEnd.TheVariants as ends
 use Rattle.as4_tool.specs.declared.status.Status.{Status}
-use Rattle.as4_tool.specs.declared.status.Status.TheVariants.{Done, WrongLine, ReadFault, WriteFault, NoMemory, TooManyEvents, TooLong, Unbuilt, BadWords}
+use Rattle.as4_tool.specs.declared.status.Status.TheVariants.{Done, Refused, WrongLine, ReadFault, WriteFault, NoMemory, TooManyEvents, NotUser, TooLong, BadWords}
 
 -- the exit status of an end
 abbrev pub code_of : Status → ℕ
 code_of Done = 0
+code_of Refused = 1
 code_of (WrongLine number) = 2
 code_of ReadFault = 3
 code_of WriteFault = 4
 code_of NoMemory = 5
 code_of TooManyEvents = 6
+code_of NotUser = 7
 code_of TooLong = 11
-code_of Unbuilt = 13
 code_of BadWords = 64
 
 -- it is one of these ends
@@ -23,16 +24,17 @@ abbrev pub IsOneOf : List Status → Status → Type 0
 IsOneOf [] status = ⊥
 IsOneOf (one ∷ others) status = (status ≡ one) ⊎ IsOneOf others status
 
--- what is told of it on the errors: one line, or nothing where all was done
+-- what is told of it on the errors: one line, or nothing where all was done or the output tells of the refusal
 abbrev pub line_of : Status → List ℕ
 line_of Done = []
+line_of Refused = []
 line_of (WrongLine number) = codes "line " ++ decimal number ++ codes "\n"
 line_of ReadFault = codes "read fault\n"
 line_of WriteFault = codes "write fault\n"
 line_of NoMemory = codes "no memory\n"
 line_of TooManyEvents = codes "more than 100000 events\n"
+line_of NotUser = codes "not a user message\n"
 line_of TooLong = codes "input too long\n"
-line_of Unbuilt = codes "not built yet\n"
 line_of BadWords = codes "bad words\n"
 
 -- the status of a drill's end

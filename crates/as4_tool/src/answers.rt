@@ -1,16 +1,22 @@
-//! What is answered to a message file: the receipt of the message, or the error signal of its refusal.
-ghost use Rattle.std.specs.Prelude.{◌≡◌, ◌≤◌, List, IfOk, IsSomeAnd, MatchOption};
-ghost use Rattle.as4_values.specs.declared.payload.Payload.{Payload as PayloadValue};
-ghost use Rattle.as4_codes.specs.Signals.{IsReceiptOf};
-ghost use Rattle.as4_tool.specs.Answer.{IsReply, IsAnswer, IsUnbuilt};
+//! What is answered to a message file, and what is told of it: the receipt of a message or the error signal of its
+//! refusal, and the line of either.
+ghost use Rattle.std.specs.Prelude.{◌≡◌, ◌≤◌, Ok, None, Some, IfOk, MatchOption};
+ghost use Rattle.as4_values.specs.declared.signal.Signal.{Signal as SignalValue};
+ghost use Rattle.message_model.specs.Wire.{IsFile};
+ghost use Rattle.as4_message.specs.Views.{received_value};
+ghost use Rattle.as4_message.specs.Answers.{AnswersBy};
+ghost use Rattle.as4_tool.specs.Answer.{FileMeans, IsReply, IsAnswer, IsSignal, IsSignalFile, IsFileLine};
 
 use as4_codes::receipt;
-use as4_message::{MessageRefusal, read_message_file, refusal_signal, write_message_file};
-use as4_values::{MAX_MOMENT, Message, NoMemory, Octets, Signal, UserHeader};
+use as4_message::{
+    Line, MessageRefusal, Received, check_line, lend_message, refusal_signal, split_file,
+    write_message_file,
+};
+use as4_values::{MAX_MOMENT, Message, NoMemory, Octets, Signal};
 use std::alloc::Global;
 
-/// The answer to a message file: the message file of the signal that replies to it. Nothing where the file can't be
-/// read yet.
+/// The answer to a message file: the message file of the signal that replies to it. Nothing where the message is a signal
+/// or a pair.
 pub fn answer_file(
     alloc: Global,
     stamp: u64,
@@ -18,34 +24,20 @@ pub fn answer_file(
     file: &[u8],
 ) -> Result<Option<Octets>, NoMemory>
     requires { stamp ≤ MAX_MOMENT }
-    ensures { IfOk result (λ answer. MatchOption answer (IsUnbuilt file.now) (IsAnswer stamp nonce file.now)) }
+    ensures { IfOk result (λ answer. MatchOption answer (IsSignalFile file.now) (IsAnswer stamp nonce file.now)) }
 {
-    let Some(signal) = reply_to(alloc, stamp, nonce, file)? else {
-        return Ok(None);
-    };
-    let reply = Message::Signal(signal);
-    let answer = write_message_file(alloc, &reply);
-    drop(reply);
-    Ok(Some(answer?))
-}
-
-// The receipt of the message in a message file, or the error signal of its refusal.
-fn reply_to(alloc: Global, stamp: u64, nonce: u128, file: &[u8]) -> Result<Option<Signal>, NoMemory>
-    requires { stamp ≤ MAX_MOMENT }
-    ensures { IfOk result (λ reply. MatchOption reply (IsUnbuilt file.now) (IsReply stamp nonce file.now)) }
-{
-    match read_message_file(alloc, file) {
-        Ok(message) => {
-            let reply = receipt_of(alloc, stamp, nonce, &message);
-            drop(message);
-            reply
+    let (media, body) = split_file(file);
+    match lend_message(alloc, media, body) {
+        Ok(received) => {
+            let reply = receipt_of(alloc, stamp, nonce, &received);
+            drop(received);
+            file_of(alloc, reply?)
         }
         Err(MessageRefusal::Refused(refusal)) => {
             let reply = refusal_signal(alloc, &refusal, stamp, nonce);
             drop(refusal);
-            Ok(Some(reply?))
+            file_of(alloc, Some(reply?))
         }
-        Err(MessageRefusal::Unbuilt) => Ok(None),
         Err(MessageRefusal::NoMemory) => Err(NoMemory),
     }
 }
@@ -55,14 +47,35 @@ fn receipt_of(
     alloc: Global,
     stamp: u64,
     nonce: u128,
-    message: &Message,
+    received: &Received<'_>,
 ) -> Result<Option<Signal>, NoMemory>
     requires { stamp ≤ MAX_MOMENT }
-    ensures { (header : UserHeader) (payloads : List PayloadValue) → message.now ≡ Message.User header payloads
-        → IfOk result (λ reply. IsSomeAnd reply (λ signal. IsReceiptOf header stamp nonce signal)) }
+    ensures { IfOk result (λ reply. MatchOption reply (IsSignal (Ok (received_value received.now)))
+        (IsReply stamp nonce (Ok (received_value received.now)))) }
 {
-    match message {
-        Message::User { header, .. } => Ok(Some(receipt(alloc, header, stamp, nonce)?)),
-        Message::Signal(_) | Message::Pair(_) => Ok(None),
+    match received {
+        Received::User(header, _) => Ok(Some(receipt(alloc, header, stamp, nonce)?)),
+        Received::Signal(_) | Received::Pair(_) => Ok(None),
     }
+}
+
+// The message file of a signal, where there is one.
+fn file_of(alloc: Global, reply: Option<Signal>) -> Result<Option<Octets>, NoMemory>
+    ensures { IfOk result (λ file. MatchOption file (reply ≡ None) (λ bytes. (signal : SignalValue) × (reply ≡ Some signal) × IsFile (Message.Signal signal) bytes)) }
+{
+    let Some(signal) = reply else {
+        return Ok(None);
+    };
+    let reply = Message::Signal(signal);
+    let file = write_message_file(alloc, &reply);
+    drop(reply);
+    Ok(Some(file?))
+}
+
+/// The line of a message file.
+pub fn check_file(alloc: Global, file: &[u8]) -> Result<Line, NoMemory>
+    ensures { IfOk result (λ line. IsFileLine file.now line.text line.refused) }
+{
+    let (media, body) = split_file(file);
+    check_line(alloc, media, body)
 }

@@ -3,6 +3,7 @@
 //!     --help                          shows the words
 //!     --version                       shows the version
 //!     answer STAMP NONCE              reads a request and writes the answer
+//!     check                           reads a message and writes a line that tells what it is
 //!     drill                           runs a script of two ends, and writes what its lines lead to
 //!     drill --generate SEED COUNT     runs a generated script, and writes the numbers of both ends
 ghost use Rattle.std.specs.Prelude.{◌≡◌, ℕ, List, [], ◌∷◌, ◌<◌, ◌^◌, codes, IfSome, IfNone};
@@ -27,6 +28,7 @@ pub enum Command {
         /// What makes the answer's identifiers unlike all others.
         nonce: u128,
     },
+    Check,
     Drill,
     Generate {
         /// What the sizes of the messages follow from.
@@ -71,6 +73,9 @@ fn lone_command_of(word: &[u8]) -> Option<Command>
     }
     if word == b"--version".as_slice() {
         return Some(Command::Version);
+    }
+    if word == b"check".as_slice() {
+        return Some(Command::Check);
     }
     if word == b"drill".as_slice() {
         return Some(Command::Drill);

@@ -1,22 +1,23 @@
 //! A run of the program: words and input come in, and the output, the errors and the exit status go out.
 //!
 //!     --help, --version               a text                                         0, 4
-//!     answer STAMP NONCE              the answer to the input                        0, 3, 4, 5, 11, 13
+//!     answer STAMP NONCE              the answer to the input                        0, 3, 4, 5, 7, 11
+//!     check                           the line of the input                          0, 1, 3, 4, 5, 11
 //!     drill                           what the lines of the script lead to           0, 2, 3, 4, 5, 6
 //!     drill --generate SEED COUNT     the numbers that a generated script leads to   0, 4, 5
 //!     other words                                                                    64
-ghost use Rattle.std.specs.Prelude.{◌≡◌, ◌≢◌, ℕ, [], ◌+◌, ◌<◌, ◌≤◌, ◌↔◌, List, None, length, IfOk, IsErrOf, MatchResult};
+ghost use Rattle.std.specs.Prelude.{◌≡◌, ◌≢◌, if◌then◌else◌, ℕ, [], ◌+◌, ◌<◌, ◌≤◌, ◌↔◌, List, None, length, IfOk, IsErrOf, MatchResult};
 ghost use Rattle.as4_flow.specs.Told.{Told, LosesFront};
 ghost use Rattle.as4_flow.specs.Faults.{Rose};
 ghost use Rattle.drill.specs.Generated.{GeneratedEnds};
 ghost use Rattle.drill.specs.declared.script.DrillEnd.{DrillEnd};
-ghost use Rattle.as4_tool.specs.Command.{Spells, IsCommand, AsksAnswer, AsksDrill};
+ghost use Rattle.as4_tool.specs.Command.{Spells, IsCommand, AsksOfFile, AsksDrill};
 ghost use Rattle.as4_tool.specs.Status.{code_of, line_of, status_of};
-ghost use Rattle.as4_tool.specs.Answer.{IsUnbuilt};
-ghost use Rattle.as4_tool.specs.Ends.{Writes, Ends};
+ghost use Rattle.as4_tool.specs.Answer.{IsSignalFile};
+ghost use Rattle.as4_tool.specs.Ends.{Writes, WritesAs, Ends};
 ghost use Rattle.as4_tool.specs.Telling.{Tells};
 
-use crate::answers::answer_file;
+use crate::answers::{answer_file, check_file};
 use crate::command::{Command, command_of};
 use crate::status::Status;
 use crate::texts::{HELP, VERSION};
@@ -59,20 +60,20 @@ pub fn run<I: Source, O: Sink, E: Sink>(
     ensures read_fault { result ≡ code_of Status.ReadFault → Rose (I.faults input.old) (I.faults input.new) }
     ensures write_fault { result ≡ code_of Status.WriteFault → Rose (O.faults output.old) (O.faults output.new) }
     ensures too_long { result ≡ code_of Status.TooLong → Told (I.left input.old) (λ file. LIMIT < length file) }
-    ensures unbuilt { result ≡ code_of Status.Unbuilt →
-        Told (I.left input.old) (λ file. (length file ≤ LIMIT) × IsUnbuilt file) × Told (I.left input.new) (λ rest. rest ≡ []) }
+    ensures not_user { result ≡ code_of Status.NotUser →
+        Told (I.left input.old) (λ file. (length file ≤ LIMIT) × IsSignalFile file) × Told (I.left input.new) (λ rest. rest ≡ []) }
 
     // No fault is read over or written over.
     ensures read_quiet { result ≢ code_of Status.ReadFault → I.faults input.new ≡ I.faults input.old }
     ensures write_quiet { result ≢ code_of Status.WriteFault → O.faults output.new ≡ O.faults output.old }
 
-    // Of the input of an answer a front is read, of one byte above the limit at most.
-    ensures reads { AsksAnswer words.now → LosesFront (LIMIT + 1) (I.left input.old) (I.left input.new) }
+    // Of a message file a front is read, of one byte above the limit at most.
+    ensures reads { AsksOfFile words.now → LosesFront (LIMIT + 1) (I.left input.old) (I.left input.new) }
 
     // What stays as it was.
-    ensures silent { ¬ AsksDrill words.now → result ≢ code_of Status.Done → result ≢ code_of Status.WriteFault →
-        O.taken output.new ≡ O.taken output.old }
-    ensures untouched { ¬ AsksAnswer words.now → ¬ AsksDrill words.now → input.new ≡ input.old }
+    ensures silent { ¬ AsksDrill words.now → result ≢ code_of Status.Done → result ≢ code_of Status.Refused →
+        result ≢ code_of Status.WriteFault → O.taken output.new ≡ O.taken output.old }
+    ensures untouched { ¬ AsksOfFile words.now → ¬ AsksDrill words.now → input.new ≡ input.old }
     ensures counted { (I.faults input.old ≤ I.faults input.new) × (O.faults output.old ≤ O.faults output.new) ×
         (E.faults errors.old ≤ E.faults errors.new) }
 {
@@ -104,21 +105,22 @@ fn obey<I: Source, O: Sink>(
     ensures read_fault { code_of result ≡ code_of Status.ReadFault → Rose (I.faults input.old) (I.faults input.new) }
     ensures write_fault { code_of result ≡ code_of Status.WriteFault → Rose (O.faults output.old) (O.faults output.new) }
     ensures too_long { code_of result ≡ code_of Status.TooLong → Told (I.left input.old) (λ file. LIMIT < length file) }
-    ensures unbuilt { code_of result ≡ code_of Status.Unbuilt →
-        Told (I.left input.old) (λ file. (length file ≤ LIMIT) × IsUnbuilt file) × Told (I.left input.new) (λ rest. rest ≡ []) }
+    ensures not_user { code_of result ≡ code_of Status.NotUser →
+        Told (I.left input.old) (λ file. (length file ≤ LIMIT) × IsSignalFile file) × Told (I.left input.new) (λ rest. rest ≡ []) }
 
     ensures read_quiet { code_of result ≢ code_of Status.ReadFault → I.faults input.new ≡ I.faults input.old }
     ensures write_quiet { code_of result ≢ code_of Status.WriteFault → O.faults output.new ≡ O.faults output.old }
-    ensures reads { AsksAnswer words.now → LosesFront (LIMIT + 1) (I.left input.old) (I.left input.new) }
-    ensures silent { ¬ AsksDrill words.now → code_of result ≢ code_of Status.Done →
+    ensures reads { AsksOfFile words.now → LosesFront (LIMIT + 1) (I.left input.old) (I.left input.new) }
+    ensures silent { ¬ AsksDrill words.now → code_of result ≢ code_of Status.Done → code_of result ≢ code_of Status.Refused →
         code_of result ≢ code_of Status.WriteFault → O.taken output.new ≡ O.taken output.old }
-    ensures untouched { ¬ AsksAnswer words.now → ¬ AsksDrill words.now → input.new ≡ input.old }
+    ensures untouched { ¬ AsksOfFile words.now → ¬ AsksDrill words.now → input.new ≡ input.old }
     ensures counted { (I.faults input.old ≤ I.faults input.new) × (O.faults output.old ≤ O.faults output.new) }
 {
     match command_of(words) {
         Some(Command::Help) => write(output, HELP),
         Some(Command::Version) => write(output, VERSION),
         Some(Command::Answer { stamp, nonce }) => answer(alloc, stamp, nonce, input, output),
+        Some(Command::Check) => check(alloc, input, output),
         Some(Command::Drill) => play(alloc, input, output),
         Some(Command::Generate { seed, count }) => generate(alloc, seed, count, output),
         None => Status::BadWords,
@@ -132,8 +134,19 @@ fn write<O: Sink>(output: &mut O, bytes: &[u8]) -> Status
     ensures quiet { code_of result ≢ code_of Status.WriteFault → O.faults output.new ≡ O.faults output.old }
     ensures counted { O.faults output.old ≤ O.faults output.new }
 {
+    write_as(Status::Done, output, bytes)
+}
+
+// Writes all the bytes, and then the run ends so.
+fn write_as<O: Sink>(end: Status, output: &mut O, bytes: &[u8]) -> Status
+    requires { code_of end ≢ code_of Status.WriteFault }
+    ensures writes { WritesAs end bytes.now result (O.taken output.old) (O.taken output.new) }
+    ensures fault { code_of result ≡ code_of Status.WriteFault → Rose (O.faults output.old) (O.faults output.new) }
+    ensures quiet { code_of result ≢ code_of Status.WriteFault → O.faults output.new ≡ O.faults output.old }
+    ensures counted { O.faults output.old ≤ O.faults output.new }
+{
     match send_all(output, bytes) {
-        Ok(()) => Status::Done,
+        Ok(()) => end,
         Err(SendFailed) => Status::WriteFault,
     }
 }
@@ -161,8 +174,8 @@ fn answer<I: Source, O: Sink>(
     ensures read_fault { code_of result ≡ code_of Status.ReadFault → Rose (I.faults input.old) (I.faults input.new) }
     ensures write_fault { code_of result ≡ code_of Status.WriteFault → Rose (O.faults output.old) (O.faults output.new) }
     ensures too_long { code_of result ≡ code_of Status.TooLong → Told (I.left input.old) (λ file. LIMIT < length file) }
-    ensures unbuilt { code_of result ≡ code_of Status.Unbuilt →
-        Told (I.left input.old) (λ file. (length file ≤ LIMIT) × IsUnbuilt file) × Told (I.left input.new) (λ rest. rest ≡ []) }
+    ensures not_user { code_of result ≡ code_of Status.NotUser →
+        Told (I.left input.old) (λ file. (length file ≤ LIMIT) × IsSignalFile file) × Told (I.left input.new) (λ rest. rest ≡ []) }
 
     ensures read_quiet { code_of result ≢ code_of Status.ReadFault → I.faults input.new ≡ I.faults input.old }
     ensures write_quiet { code_of result ≢ code_of Status.WriteFault → O.faults output.new ≡ O.faults output.old }
@@ -179,8 +192,54 @@ fn answer<I: Source, O: Sink>(
     };
     match answer_file(alloc, stamp, nonce, &file) {
         Ok(Some(bytes)) => write(output, bytes.bytes()),
-        Ok(None) => Status::Unbuilt,
+        Ok(None) => Status::NotUser,
         Err(NoMemory) => Status::NoMemory,
+    }
+}
+
+// Reads the input to its end and writes its line.
+fn check<I: Source, O: Sink>(alloc: Global, input: &mut I, output: &mut O) -> Status
+    ensures ends { Ends Command.Check result (record {
+      left = I.left input.old;
+      rest = I.left input.new;
+      taken = O.taken output.old;
+      later = O.taken output.new;
+      read_faults = I.faults input.old;
+      later_read_faults = I.faults input.new;
+      write_faults = O.faults output.old;
+      later_write_faults = O.faults output.new;
+    }) }
+
+    ensures read_fault { code_of result ≡ code_of Status.ReadFault → Rose (I.faults input.old) (I.faults input.new) }
+    ensures write_fault { code_of result ≡ code_of Status.WriteFault → Rose (O.faults output.old) (O.faults output.new) }
+    ensures too_long { code_of result ≡ code_of Status.TooLong → Told (I.left input.old) (λ file. LIMIT < length file) }
+    ensures read_quiet { code_of result ≢ code_of Status.ReadFault → I.faults input.new ≡ I.faults input.old }
+    ensures write_quiet { code_of result ≢ code_of Status.WriteFault → O.faults output.new ≡ O.faults output.old }
+    ensures others { (code_of result ≢ code_of Status.NotUser) × (code_of result ≢ code_of Status.BadWords) }
+    ensures reads { LosesFront (LIMIT + 1) (I.left input.old) (I.left input.new) }
+    ensures silent { code_of result ≢ code_of Status.Done → code_of result ≢ code_of Status.Refused →
+        code_of result ≢ code_of Status.WriteFault → O.taken output.new ≡ O.taken output.old }
+    ensures counted { (I.faults input.old ≤ I.faults input.new) × (O.faults output.old ≤ O.faults output.new) }
+{
+    match read_all(alloc, input, LIMIT) {
+        Ok(file) => match check_file(alloc, &file) {
+            Ok(line) => write_as(end_of(line.refused), output, line.text.bytes()),
+            Err(NoMemory) => Status::NoMemory,
+        },
+        Err(ReadRefusal::Failed) => Status::ReadFault,
+        Err(ReadRefusal::TooLong) => Status::TooLong,
+        Err(ReadRefusal::NoMemory) => Status::NoMemory,
+    }
+}
+
+// How a check ends.
+fn end_of(refused: bool) -> Status
+    ensures { result ≡ (if refused then Status.Refused else Status.Done) }
+{
+    if refused {
+        Status::Refused
+    } else {
+        Status::Done
     }
 }
 
@@ -201,7 +260,7 @@ fn play<I: Source, O: Sink>(alloc: Global, input: &mut I, output: &mut O) -> Sta
     ensures write_fault { code_of result ≡ code_of Status.WriteFault → Rose (O.faults output.old) (O.faults output.new) }
     ensures read_quiet { code_of result ≢ code_of Status.ReadFault → I.faults input.new ≡ I.faults input.old }
     ensures write_quiet { code_of result ≢ code_of Status.WriteFault → O.faults output.new ≡ O.faults output.old }
-    ensures others { (code_of result ≢ code_of Status.TooLong) × (code_of result ≢ code_of Status.Unbuilt) ×
+    ensures others { (code_of result ≢ code_of Status.TooLong) × (code_of result ≢ code_of Status.NotUser) ×
         (code_of result ≢ code_of Status.BadWords) }
     ensures counted { (I.faults input.old ≤ I.faults input.new) × (O.faults output.old ≤ O.faults output.new) }
 {
@@ -225,7 +284,7 @@ fn generate<O: Sink>(alloc: Global, seed: u64, count: u64, output: &mut O) -> St
     ensures write_fault { code_of result ≡ code_of Status.WriteFault → Rose (O.faults output.old) (O.faults output.new) }
     ensures write_quiet { code_of result ≢ code_of Status.WriteFault → O.faults output.new ≡ O.faults output.old }
     ensures others { (code_of result ≢ code_of Status.ReadFault) × (code_of result ≢ code_of Status.TooLong) ×
-        (code_of result ≢ code_of Status.Unbuilt) × (code_of result ≢ code_of Status.BadWords) }
+        (code_of result ≢ code_of Status.NotUser) × (code_of result ≢ code_of Status.BadWords) }
     ensures silent { code_of result ≢ code_of Status.Done → code_of result ≢ code_of Status.WriteFault →
         O.taken output.new ≡ O.taken output.old }
     ensures counted { O.faults output.old ≤ O.faults output.new }

@@ -1,10 +1,11 @@
 //! How a run of the program ends.
 //!
-//!      0  all was done
-//!      2  line N             6  more than 100000 events
-//!      3  read fault        11  input too long
-//!      4  write fault       13  not built yet
-//!      5  no memory         64  bad words
+//!      0  all was done             6  more than 100000 events
+//!      1  refused, by the output   7  not a user message
+//!      2  line N                  11  input too long
+//!      3  read fault              64  bad words
+//!      4  write fault
+//!      5  no memory
 ghost use Rattle.std.specs.Prelude.{◌≡◌, ◌≤◌, ◌++◌, codes};
 ghost use Rattle.std.specs.Fmt.{decimal};
 ghost use Rattle.as4_tool.specs.Telling.{Tells};
@@ -17,6 +18,8 @@ use itoa::Buffer;
 #[derive(Clone, Copy, Debug, PartialEq, Eq)]
 pub enum Status {
     Done,
+    /// The message that was to be checked is refused. The output tells by which error.
+    Refused,
     /// This line of the script, the first being 1, isn't one of a script, or not in its place. What the lines before it
     /// wrote was written.
     WrongLine { number: u64 },
@@ -28,10 +31,10 @@ pub enum Status {
     NoMemory,
     /// The next line would make event 100,001. Nothing was written, but what a script's lines before wrote.
     TooManyEvents,
+    /// The message that was to be answered is a signal or a pair. Nothing was written.
+    NotUser,
     /// The input is longer than the limit. Nothing was written.
     TooLong,
-    /// The program can't answer this input yet. Nothing was written.
-    Unbuilt,
     /// The words name no command. Nothing was read or written.
     BadWords,
 }
@@ -59,31 +62,33 @@ impl Status {
     {
         match self {
             Status::Done => 0,
+            Status::Refused => 1,
             Status::WrongLine { .. } => 2,
             Status::ReadFault => 3,
             Status::WriteFault => 4,
             Status::NoMemory => 5,
             Status::TooManyEvents => 6,
+            Status::NotUser => 7,
             Status::TooLong => 11,
-            Status::Unbuilt => 13,
             Status::BadWords => 64,
         }
     }
 
-    /// Tells it on the errors, as one line. There is nothing to tell where all was done. It takes no memory.
+    /// Tells it on the errors, as one line. There is nothing to tell where all was done, or where the output tells of the
+    /// refusal. It takes no memory.
     pub fn tell<E: Sink>(self, errors: &mut E)
         ensures told { Tells (line_of self) (E.taken errors.old) (E.taken errors.new) (E.faults errors.old) (E.faults errors.new) }
         ensures counted { E.faults errors.old ≤ E.faults errors.new }
     {
         match self {
-            Status::Done => tell_text(errors, b""),
+            Status::Done | Status::Refused => tell_text(errors, b""),
             Status::WrongLine { number } => tell_line(errors, number),
             Status::ReadFault => tell_text(errors, b"read fault\n"),
             Status::WriteFault => tell_text(errors, b"write fault\n"),
             Status::NoMemory => tell_text(errors, b"no memory\n"),
             Status::TooManyEvents => tell_text(errors, b"more than 100000 events\n"),
+            Status::NotUser => tell_text(errors, b"not a user message\n"),
             Status::TooLong => tell_text(errors, b"input too long\n"),
-            Status::Unbuilt => tell_text(errors, b"not built yet\n"),
             Status::BadWords => tell_text(errors, b"bad words\n"),
         }
     }

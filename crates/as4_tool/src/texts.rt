@@ -1,10 +1,12 @@
 //! What the program writes about itself.
 
 /// The answer to `--help`.
-pub const HELP: &[u8] = b"as4: answers AS4 messages, and runs drills of two ends that exchange them
+pub const HELP: &[u8] =
+    b"as4: answers and checks AS4 messages, and runs drills of two ends that exchange them
 
 usage:
   as4 answer STAMP NONCE             reads a message file from the input, writes the answer to the output
+  as4 check                          reads a message file from the input, writes a line that tells what it is
   as4 drill                          runs the script in the input, writes to the output what its lines lead to
   as4 drill --generate SEED COUNT    runs a generated script, writes the numbers of both ends to the output
   as4 --help                         writes this text: the words, the lines of a script and the exit statuses
@@ -14,9 +16,16 @@ STAMP  the moment of the answer: milliseconds since 1970-01-01T00:00:00Z, 0 to 2
 NONCE  makes the answer's identifiers unlike all others: 0 to 340282366920938463463374607431768211455
 SEED   what the sizes of the generated messages follow from: 0 to 18446744073709551615; 0 makes all of 40960 bytes
 COUNT  how many messages the generated script submits: 0 to 1000
-All are decimal, without sign and without leading zeros. The input of an answer has at most 67174400 bytes.
+All are decimal, without sign and without leading zeros.
 
 A message file is a line of Content-Type: and the media text, an empty line, both ended by CR LF, and then the body.
+A message file has at most 67174400 bytes. The line of check is one of
+  user ID                a user message of this identifier
+  pull CHANNEL           a pull request for this channel
+  receipt ID             a receipt of this message
+  errors COUNT           so many errors
+  pair ID CHANNEL        a receipt of this message with a pull request for this channel
+  refused EBMS:CODE ID   no message: by the error of this code, with the identifier where it could be read
 
 The lines of a script, each ended by LF, with one space between words. END is a or b; NAME and MODE are 1 to 32 of a to
 z and 0 to 9; PACKAGE and NUMBER count from 0:
@@ -36,17 +45,18 @@ z and 0 to 9; PACKAGE and NUMBER count from 0:
 A script has at most 1000000 lines of at most 1048576 bytes each, names at most 1024 modes and makes at most 100000
 events: each line but mode makes one, where the package or the submission that it names is there.
 
-exit statuses, each but 0 with one line on the errors, as it stands here up to the colon:
+exit statuses, each but 0 and 1 with one line on the errors, as it stands here up to the colon:
    0  done
+   1  the message that was checked is refused, as the output tells
    2  line N: this line of the script, the first being 1, isn't one of a script, or not in its place
    3  read fault: the input can't be read to its end
    4  write fault: the output has only a front of what was to be written
    5  no memory: what was to be done next needs more
    6  more than 100000 events: the next line of the script would make one too many
-  11  input too long: it has more bytes than an answer reads
-  13  not built yet: the input has a media text and is no plain message, the only kind that can be answered so far
+   7  not a user message: the message that was to be answered is a signal or a pair
+  11  input too long: a message file has more bytes
   64  bad words: none of the usages above, or a number out of range
-On all but 0 and 4 nothing is written to the output, except by a drill of a script: it writes what the lines before
+On all but 0, 1 and 4 nothing is written to the output, except by a drill of a script: it writes what the lines before
 lead to.
 ";
 

@@ -41,17 +41,41 @@ fn a_message_is_answered_by_its_receipt(rt: HostRuntime) {
     assert!(rt; is_answered(rt.alloc(), FILE.as_bytes(), (0, RECEIPT.as_bytes(), b"")));
 }
 
-/// Whether the message without its last byte isn't answered.
+/// Whether the message without its last byte is answered by the error.
 fn is_cut_short(alloc: Global) -> bool {
     match FILE.as_bytes().split_last() {
-        Some((_, file)) => is_answered(alloc, file, (13, b"", b"not built yet\n")),
+        Some((_, file)) => is_answered(alloc, file, (0, ERROR.as_bytes(), b"")),
         None => false,
     }
 }
 
 #[test]
-fn a_message_without_its_last_byte_is_not_answered(rt: HostRuntime) {
+fn a_message_without_its_last_byte_is_answered_by_an_error(rt: HostRuntime) {
     assert!(rt; is_cut_short(rt.alloc()));
+}
+
+/// The inputs of a check, its statuses and its lines.
+const CHECKS: [(&str, u8, &str); 4] = [
+    (FILE, 0, "user m1@a\n"),
+    (RECEIPT, 0, "receipt m1@a\n"),
+    (ERROR, 0, "errors 1\n"),
+    ("", 1, "refused EBMS:0007\n"),
+];
+
+/// The first of these inputs of which another line is told.
+fn first_other_line(alloc: Global, rows: &[(&str, u8, &str)]) -> Option<usize> {
+    for (at, (file, status, line)) in rows.iter().enumerate() {
+        let wanted = (*status, line.as_bytes(), b"".as_slice());
+        if !ends(alloc, "check", file.as_bytes(), NOTHING_FAILS, wanted) {
+            return Some(at);
+        }
+    }
+    None
+}
+
+#[test]
+fn a_message_is_told_in_a_line(rt: HostRuntime) {
+    assert_eq!(rt; first_other_line(rt.alloc(), &CHECKS), None);
 }
 
 const WITHOUT_MEDIA: [&str; 6] = [

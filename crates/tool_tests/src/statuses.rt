@@ -4,16 +4,21 @@ use crate::ended::{Failing, NOTHING_FAILS, READ_FAILS, TELL_FAILS, WRITE_FAILS, 
 use as4_tool::Status;
 use std::alloc::Global;
 
+/// The message file of a pull request.
+const PULL: &str =
+    "Content-Type: application/soap+xml\r\n\r\n<S:Envelope xmlns:S=\"http://www.w3.org/2003/05/soap-envelope\" xmlns:eb=\"http://docs.oasis-open.org/ebxml-msg/ebms/v3.0/ns/core/200704/\"><S:Header><eb:Messaging S:mustUnderstand=\"true\"><eb:SignalMessage><eb:MessageInfo><eb:Timestamp>2025-01-02T03:04:05.006Z</eb:Timestamp><eb:MessageId>s2@b</eb:MessageId></eb:MessageInfo><eb:PullRequest mpc=\"urn:ch\"></eb:PullRequest></eb:SignalMessage></eb:Messaging></S:Header><S:Body></S:Body></S:Envelope>";
+
 /// Words, what fails, and the status and the line with which they end.
-const FAULTS: [(&str, Failing, u8, &str); 9] = [
+const FAULTS: [(&str, Failing, u8, &str); 10] = [
     ("answer 0 1", READ_FAILS, 3, "read fault\n"),
+    ("check", READ_FAILS, 3, "read fault\n"),
     ("drill", READ_FAILS, 3, "read fault\n"),
     ("--help", WRITE_FAILS, 4, "write fault\n"),
     ("--version", WRITE_FAILS, 4, "write fault\n"),
     ("drill --generate 0 0", WRITE_FAILS, 4, "write fault\n"),
     ("drill", NOTHING_FAILS, 2, "line 1\n"),
-    ("answer 0 1", NOTHING_FAILS, 13, "not built yet\n"),
-    ("answer 0 1", TELL_FAILS, 13, ""),
+    ("answer 0 1", NOTHING_FAILS, 7, "not a user message\n"),
+    ("answer 0 1", TELL_FAILS, 7, ""),
     ("answer 0", TELL_FAILS, 64, ""),
 ];
 
@@ -21,13 +26,7 @@ const FAULTS: [(&str, Failing, u8, &str); 9] = [
 fn first_other_fault(alloc: Global, rows: &[(&str, Failing, u8, &str)]) -> Option<usize> {
     for (at, (line, failing, status, told)) in rows.iter().enumerate() {
         let wanted = (*status, b"".as_slice(), told.as_bytes());
-        if !ends(
-            alloc,
-            line,
-            b"Content-Type: text/xml\r\n\r\n<order/>",
-            *failing,
-            wanted,
-        ) {
+        if !ends(alloc, line, PULL.as_bytes(), *failing, wanted) {
             return Some(at);
         }
     }
@@ -48,8 +47,9 @@ fn is_told(alloc: Global, status: Status, failing: u64, code: u8, told: &str) ->
     status.code() == code && errors.bytes() == told.as_bytes()
 }
 
-const STATUSES: [(Status, u8, &str); 10] = [
+const STATUSES: [(Status, u8, &str); 11] = [
     (Status::Done, 0, ""),
+    (Status::Refused, 1, ""),
     (
         Status::WrongLine {
             number: 18_446_744_073_709_551_615,
@@ -62,8 +62,8 @@ const STATUSES: [(Status, u8, &str); 10] = [
     (Status::WriteFault, 4, "write fault\n"),
     (Status::NoMemory, 5, "no memory\n"),
     (Status::TooManyEvents, 6, "more than 100000 events\n"),
+    (Status::NotUser, 7, "not a user message\n"),
     (Status::TooLong, 11, "input too long\n"),
-    (Status::Unbuilt, 13, "not built yet\n"),
     (Status::BadWords, 64, "bad words\n"),
 ];
 

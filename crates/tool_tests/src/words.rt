@@ -10,17 +10,18 @@ use std::str;
 
 const TOLD: &[u8] = b"bad words\n";
 
-/// A message file that isn't read yet.
-const OTHER: &[u8] = b"Content-Type: text/xml\r\n\r\n<order/>";
+/// The message file of a pull request, which isn't answered.
+const OTHER: &[u8] =
+    b"Content-Type: application/soap+xml\r\n\r\n<S:Envelope xmlns:S=\"http://www.w3.org/2003/05/soap-envelope\" xmlns:eb=\"http://docs.oasis-open.org/ebxml-msg/ebms/v3.0/ns/core/200704/\"><S:Header><eb:Messaging S:mustUnderstand=\"true\"><eb:SignalMessage><eb:MessageInfo><eb:Timestamp>2025-01-02T03:04:05.006Z</eb:Timestamp><eb:MessageId>s2@b</eb:MessageId></eb:MessageInfo><eb:PullRequest mpc=\"urn:ch\"></eb:PullRequest></eb:SignalMessage></eb:Messaging></S:Header><S:Body></S:Body></S:Envelope>";
 
-/// Whether these words ask for an answer, which isn't built yet.
+/// Whether these words ask for an answer.
 fn are_heard(alloc: Global, line: &str) -> bool {
     ends(
         alloc,
         line,
         OTHER,
         NOTHING_FAILS,
-        (13, b"", b"not built yet\n"),
+        (7, b"", b"not a user message\n"),
     )
 }
 
@@ -32,7 +33,9 @@ fn the_first_and_the_last_words_are_heard(rt: HostRuntime) {
     assert!(rt; are_heard(alloc, last));
 }
 
-const BAD_WORDS: [&str; 16] = [
+const BAD_WORDS: [&str; 18] = [
+    "check 0",
+    "Check",
     "answer 253402300800000 1",
     "answer 0 340282366920938463463374607431768211456",
     "answer 00 1",
@@ -74,7 +77,8 @@ fn are_read(alloc: Global, line: &str, command: Option<Command>) -> bool {
     }
 }
 
-const DRILLS: [(&str, Command); 3] = [
+const COMMANDS: [(&str, Command); 4] = [
+    ("check", Command::Check),
     ("drill", Command::Drill),
     (
         "drill --generate 0 1",
@@ -100,8 +104,8 @@ fn first_other(alloc: Global, lines: &[(&str, Command)]) -> Option<usize> {
 }
 
 #[test]
-fn a_drill_is_asked_for_with_numbers_in_range(rt: HostRuntime) {
-    assert_eq!(rt; first_other(rt.alloc(), &DRILLS), None);
+fn commands_are_read_with_numbers_in_range(rt: HostRuntime) {
+    assert_eq!(rt; first_other(rt.alloc(), &COMMANDS), None);
 }
 
 const NO_DRILLS: [&str; 10] = [
@@ -147,15 +151,16 @@ fn help_and_version_are_written(rt: HostRuntime) {
 }
 
 /// The lines that a user goes by.
-const HELP_PARTS: [&str; 9] = [
+const HELP_PARTS: [&str; 10] = [
     "0 to 340282366920938463463374607431768211455",
+    "1  the message",
     "2  line N:",
     "3  read fault:",
     "4  write fault:",
     "5  no memory:",
     "6  more than 100000 events:",
+    "7  not a user message:",
     "11  input too long:",
-    "13  not built yet:",
     "64  bad words:",
 ];
 
@@ -180,7 +185,7 @@ const NUMBERS: [(&str, u64, &str); 13] = [
     ("1970-01-01T00:00:00Z, 0 to ", MAX_MOMENT, "\n"),
     ("messages follow from: 0 to ", u64::MAX, ";"),
     ("script submits: 0 to ", MAX_COUNT, "\n"),
-    ("an answer has at most ", LIMIT as u64, " bytes"),
+    ("A message file has at most ", LIMIT as u64, " bytes"),
     ("a period has 1 to ", MAX_PERIOD, "\n"),
     ("retries are at most ", MAX_RETRIES, ";"),
     ("size=BYTES, at most ", MAX_SIZE, "\n"),

@@ -1,5 +1,5 @@
 use Rattle.std.proofs.Common.{◌≤◌, length, inl, sym}
-use Rattle.as4_tool.specs.Answer.{IsAnswer, IsUnbuilt}
+use Rattle.as4_tool.specs.Answer.{IsAnswer, IsSignalFile}
 use Rattle.as4_tool.specs.declared.running.TheConstants.{LIMIT}
 use Rattle.as4_tool.proofs.AnswerLemmas.{told_whole}
 use Rattle.as4_tool.proofs.running.answer.Goals as goal
@@ -18,11 +18,11 @@ returns-in-Ok-Some-clause-ends g c =
       c.write.ensures.writes,
     )
 
-pub returns-in-Ok-None-clause-unbuilt : goal.returns-in-Ok-None-clause-unbuilt
-returns-in-Ok-None-clause-unbuilt g c _ =
-    let other : IsUnbuilt c.in-Ok.file.items = rw (sym c.deref.ensures.value) (rw c.in-Ok-None.field-0-is at c.in-Ok-None.ensures) in (
+pub returns-in-Ok-None-clause-not_user : goal.returns-in-Ok-None-clause-not_user
+returns-in-Ok-None-clause-not_user g c _ =
+    let other : IsSignalFile c.in-Ok.file.items = rw (sym c.deref.ensures.value) (rw c.in-Ok-None.field-0-is at c.in-Ok-None.ensures) in (
       told_whole (g.I.Source.left c.args.input.now) (g.I.Source.left c.read_all.new.source) c.in-Ok.file.items
-          (λ file. (length file ≤ LIMIT) × IsUnbuilt file)
+          (λ file. (length file ≤ LIMIT) × IsSignalFile file)
           c.in-Ok.ensures.bytes c.in-Ok.ensures.end (c.in-Ok.ensures.within, other),
       c.in-Ok.ensures.end,
     )
