@@ -1,37 +1,60 @@
 -- Lemmas on bodies.
-use Rattle.std.proofs.Common.{◌≡◌, ℕ, List, [], ◌++◌, length, Option, None, Some, refl, sym, ◌∙◌, ap, subst, arith, append-nil, length-append}
-use Rattle.as4_flow.specs.Told.{Told, before}
-use Rattle.as4_http.specs.Bodies.{BeginsChunked, BeginsBody, HasNoBody, TakesBody}
+use Rattle.std.proofs.Common.{◌≡◌, ℕ, ◌-◌, ◌≤◌, replicate, List, [], ◌++◌, length, Option, None, Some, refl, sym, ◌∙◌, ap, subst, arith, append-nil, length-append}
+use Rattle.std.proofs.lemmas.List.{length-replicate}
+use Rattle.as4_flow.specs.Told.{before}
+use Rattle.as4_http.specs.Bodies.{BeginsChunked, BeginsBody, HasNoBody, IsBody, IsLong, TakesBody}
 use Rattle.as4_http.specs.Came.{IsShorter}
-use Rattle.as4_http.specs.Chunks.{print_chunked, HasNoChunked}
+use Rattle.as4_http.specs.Chunks.{print_chunked, joined, HasNoChunked, IsWholeChunked}
+use Rattle.as4_http.specs.Refused.{MayBecome}
+use Rattle.as4_http.specs.Limits.{Limits, the_limits}
 use Rattle.as4_http.specs.declared.framing.Framing.{Framing}
 use Rattle.as4_http.specs.declared.framing.Framing.TheVariants.{Empty, Counted, Chunked, ToEnd}
+use Rattle.as4_http.specs.declared.limits.TheConstants.{MAX_BODY}
 use Rattle.as4_http.proofs.ChunkedLemmas.{same_front, chunked_text_unique}
 
-short_counted : (n : ℕ) (stream : List ℕ) → IsShorter n stream → HasNoBody (Counted n) stream
-short_counted n stream short bytes rest begins = omega (arith, ap length begins.2, length-append bytes rest, begins.0)
+-- fewer bytes than the head says may become a body
+short_counted : (n : ℕ) → n ≤ MAX_BODY → (stream : List ℕ) → IsShorter n stream → HasNoBody (Counted n) the_limits stream × MayBecome (IsBody (Counted n)) stream
+short_counted n within stream short =
+    let zeros : List ℕ = replicate (n - length stream) 48 in
+    let whole = stream ++ zeros in
+    let count : length whole ≡ n = omega (arith, length-append stream zeros, length-replicate {A = ℕ} (n - length stream) 48, short) in
+    (λ bytes rest begins. omega (arith, short, ap length begins.2, length-append bytes rest, begins.0), (zeros, (whole, (count, within, sym (append-nil whole)))))
 
-pub short_body : (framing : Framing) (n : ℕ) (told : Option (List ℕ)) → framing ≡ Counted n → Told told (IsShorter n) → Told told (HasNoBody framing)
-short_body framing n told is short stream tells = subst (λ (f : Framing). HasNoBody f stream) (sym is) (short_counted n stream (short stream tells))
+pub short_body : (framing : Framing) (n : ℕ) → framing ≡ Counted n → n ≤ MAX_BODY → (stream : List ℕ) → IsShorter n stream → HasNoBody framing the_limits stream × MayBecome (IsBody framing) stream
+short_body framing n is within stream short = subst (λ (f : Framing). HasNoBody f the_limits stream × MayBecome (IsBody f) stream) (sym is) (short_counted n within stream short)
 
-not_chunked : (stream : List ℕ) → HasNoChunked stream → HasNoBody Chunked stream
-not_chunked stream none bytes rest begins = none begins.body rest begins.valid begins.small begins.reads
+-- a body in chunks that more bytes end
+chunked_whole : (stream : List ℕ) → MayBecome IsWholeChunked stream → MayBecome (IsBody Chunked) stream
+chunked_whole stream may = (may.0, (joined may.1.body.chunks, record { body = may.1.body; valid = may.1.valid; small = may.1.small; joins = refl; reads = may.1.is ∙ sym (append-nil (print_chunked may.1.body)) }))
 
-pub chunked_body : (framing : Framing) (told : Option (List ℕ)) → framing ≡ Chunked → Told told HasNoChunked → Told told (HasNoBody framing)
-chunked_body framing told is none stream tells = subst (λ (f : Framing). HasNoBody f stream) (sym is) (not_chunked stream (none stream tells))
+pub chunked_may : (framing : Framing) → framing ≡ Chunked → (stream : List ℕ) → MayBecome IsWholeChunked stream → MayBecome (IsBody framing) stream
+chunked_may framing is stream may = subst (λ (f : Framing). MayBecome (IsBody f) stream) (sym is) (chunked_whole stream may)
+
+not_chunked : (limits : Limits) (stream : List ℕ) → HasNoChunked limits stream → HasNoBody Chunked limits stream
+not_chunked limits stream none bytes rest begins = none begins.body rest begins.valid begins.small begins.reads
+
+pub chunked_body : (framing : Framing) → framing ≡ Chunked → (limits : Limits) (stream : List ℕ) → HasNoChunked limits stream → HasNoBody framing limits stream
+chunked_body framing is limits stream none = subst (λ (f : Framing). HasNoBody f limits stream) (sym is) (not_chunked limits stream none)
+
+-- more bytes than a body has
+not_rest : (limits : Limits) (stream : List ℕ) → IsLong limits stream → HasNoBody ToEnd limits stream
+not_rest limits stream long bytes rest begins = omega (arith, long, begins.0, ap length begins.1)
+
+pub rest_body : (framing : Framing) → framing ≡ ToEnd → (limits : Limits) (stream : List ℕ) → IsLong limits stream → HasNoBody framing limits stream
+rest_body framing is limits stream long = subst (λ (f : Framing). HasNoBody f limits stream) (sym is) (not_rest limits stream long)
 
 -- ---- a stream begins with one body at most
 
-chunked_unique : (stream : List ℕ) (a b : List ℕ) (r q : List ℕ) → BeginsChunked stream a r → BeginsChunked stream b q → (a ≡ b) × (r ≡ q)
-chunked_unique stream a b r q x y =
+chunked_unique : (limits : Limits) (stream : List ℕ) (a b : List ℕ) (r q : List ℕ) → BeginsChunked limits stream a r → BeginsChunked limits stream b q → (a ≡ b) × (r ≡ q)
+chunked_unique limits stream a b r q x y =
     let same = chunked_text_unique x.body y.body r q x.valid y.valid (sym x.reads ∙ y.reads) in
     (x.joins ∙ same.0 ∙ sym y.joins, same.1)
 
-pub body_unique : (framing : Framing) (stream a b r q : List ℕ) → BeginsBody framing stream a r → BeginsBody framing stream b q → (a ≡ b) × (r ≡ q)
-body_unique Empty stream a b r q x y = (x.0 ∙ sym y.0, sym x.1 ∙ y.1)
-body_unique (Counted n) stream a b r q x y = same_front a b r q (x.0 ∙ sym y.0) (sym x.2 ∙ y.2)
-body_unique Chunked stream a b r q x y = chunked_unique stream a b r q x y
-body_unique ToEnd stream a b r q x y = (sym x.1 ∙ y.1, x.2 ∙ sym y.2)
+pub body_unique : (limits : Limits) (framing : Framing) (stream a b r q : List ℕ) → BeginsBody limits framing stream a r → BeginsBody limits framing stream b q → (a ≡ b) × (r ≡ q)
+body_unique limits Empty stream a b r q x y = (x.0 ∙ sym y.0, sym x.1 ∙ y.1)
+body_unique limits (Counted n) stream a b r q x y = same_front a b r q (x.0 ∙ sym y.0) (sym x.2 ∙ y.2)
+body_unique limits Chunked stream a b r q x y = chunked_unique limits stream a b r q x y
+body_unique limits ToEnd stream a b r q x y = (sym x.1 ∙ y.1, x.2 ∙ sym y.2)
 
 -- ---- what has gone is what the stream begins with
 
@@ -40,7 +63,7 @@ pub before_some : (start end : Option (List ℕ)) (front stream : List ℕ) → 
 before_some start None front stream taken told = let clash : None ≡ Some stream = sym taken ∙ told in absurd (cc)
 before_some start (Some rest) front stream taken told = (rest, refl, cc (sym told ∙ taken))
 
-pub body_begins : (framing : Framing) (bytes stream : List ℕ) (start end : Option (List ℕ)) → TakesBody framing bytes start end → start ≡ Some stream → (rest : List ℕ) × (end ≡ Some rest) × BeginsBody framing stream bytes rest
+pub body_begins : (framing : Framing) (bytes stream : List ℕ) (start end : Option (List ℕ)) → TakesBody framing bytes start end → start ≡ Some stream → (rest : List ℕ) × (end ≡ Some rest) × BeginsBody the_limits framing stream bytes rest
 body_begins Empty bytes stream start end takes told = (stream, sym takes.1 ∙ told, (takes.0, refl))
 body_begins (Counted n) bytes stream start end takes told =
     let found = before_some start end bytes stream takes.2 told in

@@ -1,20 +1,25 @@
 -- Lemmas on a body in chunks, of which some have passed.
-use Rattle.std.proofs.Common.{◌≡◌, ℕ, ◌+◌, ◌<◌, ◌≤◌, List, [], ◌∷◌, ◌++◌, length, take, Option, ◌⊎◌, inl, inr, refl, sym, ◌∙◌, ap, subst, arith, append_assoc, append-nil, length-append}
+use Rattle.std.proofs.Common.{◌≡◌, ℕ, zero, suc, ◌+◌, ◌-◌, ◌<◌, ◌≤◌, replicate, get_or, List, [], ◌∷◌, ◌++◌, length, take, Option, ◌⊎◌, inl, inr, refl, sym, ◌∙◌, ap, subst, arith, append_assoc, append-nil, length-append}
 use Rattle.std.specs.Prelude.{All}
 use Rattle.std.specs.List.{flat_map}
-use Rattle.std.proofs.lemmas.List.{append_cancel_left, flat_map_more, take_at}
+use Rattle.std.proofs.lemmas.List.{append_cancel_left, flat_map_more, take_at, length-replicate}
 use Rattle.std.proofs.lemmas.List.Concat.{flat_map-append}
-use Rattle.std.proofs.lemmas.List.Elements.{All-head, All-tail}
-use Rattle.as4_flow.specs.Told.{Told, before}
+use Rattle.std.proofs.lemmas.List.Elements.{All-nil, All-push, All-head, All-tail}
+use Rattle.as4_flow.specs.Told.{before}
 use Rattle.as4_flow.proofs.ToldLemmas.{before_append}
-use Rattle.httparse.specs.Grammar.{print_section, ChunkLine, IsChunkLine, print_chunk_line, chunk_size}
+use Rattle.httparse.specs.Grammar.{LineEnd, lf, Field, IsField, print_section, ChunkLine, IsChunkLine, print_chunk_line, chunk_size}
 use Rattle.httparse.proofs.ChunkLemmas.{chunk_line_unique}
 use Rattle.httparse.proofs.GrammarLemmas.{section_unique}
-use Rattle.as4_http.specs.ChunkLines.{HasNoLine, TakesLine, HasNoCrlf}
-use Rattle.as4_http.proofs.StreamLemmas.{told_behind}
-use Rattle.as4_http.specs.Chunks.{Chunk, print_chunk, IsChunk, IsShortChunk, ChunkedBody, print_end_of_chunks, print_chunked, joined, IsChunked, IsSmallChunked, HasNoChunk, HasNoChunked, TakesChunked}
-use Rattle.as4_http.specs.Trailers.{HasNoTrailers, TakesTrailers}
-use Rattle.as4_http.specs.declared.limits.TheConstants.{MAX_BODY}
+use Rattle.as4_http.specs.Came.{IsShorter}
+use Rattle.as4_http.specs.ChunkLines.{IsShortLine, HasNoLine, IsWholeLine, IsCrlf, TakesLine, HasNoCrlf}
+use Rattle.as4_http.proofs.LineEndLemmas.{zero_line, zero_valid}
+use Rattle.as4_http.proofs.RefusedLemmas.{refuses_behind, may_behind}
+use Rattle.as4_http.specs.Limits.{Limits, the_limits}
+use Rattle.as4_http.specs.Refused.{MayBecome, Refuses}
+use Rattle.as4_http.specs.declared.refusal.HttpRefusal.{HttpRefusal}
+use Rattle.as4_http.specs.Chunks.{Chunk, print_chunk, IsChunk, IsShortChunk, ChunkedBody, print_end_of_chunks, print_chunked, joined, IsChunked, IsSmallChunked, HasNoChunk, HasNoChunked, IsWholeChunk, IsWholeChunked, TakesChunked}
+use Rattle.as4_http.specs.Trailers.{HasNoTrailers, AreTrailers, TakesTrailers}
+use Rattle.as4_http.specs.declared.limits.TheConstants.{MAX_TRAILERS, MAX_BODY}
 
 -- fronts of one length are one
 pub same_front : (a b x y : List ℕ) → length a ≡ length b → a ++ x ≡ b ++ y → (a ≡ b) × (x ≡ y)
@@ -59,19 +64,19 @@ chunks_skip (c ∷ cs) (d ∷ ds) body now rest valid others last none same =
     (tail.0, cc (is, tail.1), tail.2)
 
 -- a body of which some chunks have passed, and what is left of it
-pub record Goes (chunks : List Chunk) (now : List ℕ) : Type 0 where
+pub record Goes (limits : Limits) (chunks : List Chunk) (now : List ℕ) : Type 0 where
   pub body : ChunkedBody
   pub rest : List ℕ
   pub ahead : List Chunk
   pub valid : IsChunked body
-  pub small : IsSmallChunked body
+  pub small : IsSmallChunked limits body
   pub parts : body.chunks ≡ chunks ++ ahead
   pub left : now ≡ left_text ahead body rest
 
 -- where nothing can be left of a body, there is none
-pub none_goes : (chunks : List Chunk) (now : List ℕ) → All IsChunk chunks → ¬ (Goes chunks now) → HasNoChunked (flat_map print_chunk chunks ++ now)
+pub none_goes : (limits : Limits) (chunks : List Chunk) (now : List ℕ) → All IsChunk chunks → ¬ (Goes limits chunks now) → HasNoChunked limits (flat_map print_chunk chunks ++ now)
 unfolding print_chunked
-none_goes chunks now passed none body rest valid small same =
+none_goes limits chunks now passed none body rest valid small same =
     let skipped = chunks_skip chunks body.chunks body now rest passed valid.chunks valid.last valid.none same in
     none (record { body = body; rest = rest; ahead = skipped.0; valid = valid; small = small; parts = skipped.1; left = skipped.2 })
 
@@ -79,32 +84,41 @@ all_behind : {X : Type 0} (P : X → Type 0) (xs ys : List X) → All P (xs ++ y
 all_behind P [] ys all = all
 all_behind P (x ∷ xs) ys all = all_behind P xs ys (All-tail P x (xs ++ ys) all)
 
-chunks_ahead : (chunks : List Chunk) (now : List ℕ) (goes : Goes chunks now) → All IsChunk goes.ahead
-chunks_ahead chunks now goes = all_behind IsChunk chunks goes.ahead (subst (All IsChunk) goes.parts goes.valid.chunks)
+chunks_ahead : (limits : Limits) (chunks : List Chunk) (now : List ℕ) (goes : Goes limits chunks now) → All IsChunk goes.ahead
+chunks_ahead limits chunks now goes = all_behind IsChunk chunks goes.ahead (subst (All IsChunk) goes.parts goes.valid.chunks)
 
-short_ahead : (chunks : List Chunk) (now : List ℕ) (goes : Goes chunks now) → All IsShortChunk goes.ahead
-short_ahead chunks now goes = all_behind IsShortChunk chunks goes.ahead (subst (All IsShortChunk) goes.parts goes.small.lines)
+short_ahead : (limits : Limits) (chunks : List Chunk) (now : List ℕ) (goes : Goes limits chunks now) → All (IsShortChunk limits) goes.ahead
+short_ahead limits chunks now goes = all_behind (IsShortChunk limits) chunks goes.ahead (subst (All (IsShortChunk limits)) goes.parts goes.small.lines)
 
--- what is left begins with a line
-pub goes_on : (chunks : List Chunk) (now : List ℕ) → HasNoLine now → ¬ (Goes chunks now)
-goes_on chunks now none goes = go goes.ahead (chunks_ahead chunks now goes) (short_ahead chunks now goes) goes.left
+joined_count : (chunks : List Chunk) (d : Chunk) (ds : List Chunk) → length (joined (chunks ++ d ∷ ds)) ≡ length (joined chunks) + (length d.bytes + length (joined ds))
+joined_count chunks d ds =
+    ap length (flat_map-append (λ (c : Chunk). c.bytes) chunks (d ∷ ds)) ∙ length-append (joined chunks) (joined (d ∷ ds)) ∙ ap (λ (n : ℕ). length (joined chunks) + n) (length-append d.bytes (joined ds))
+
+-- what is left begins with a line, whose chunk leaves the body within the limit
+pub goes_on : (limits : Limits) (chunks : List Chunk) (now : List ℕ) → HasNoLine (length (joined chunks)) limits now → ¬ (Goes limits chunks now)
+goes_on limits chunks now none goes = go goes.ahead goes.parts (chunks_ahead limits chunks now goes) (short_ahead limits chunks now goes) goes.left
   where
-    go : (ahead : List Chunk) → All IsChunk ahead → All IsShortChunk ahead → now ≡ left_text ahead goes.body goes.rest → ⊥
-    go [] valid short left = none _ _ (record { line = goes.body.last; reads = (goes.valid.last, left ∙ no_chunk goes.body goes.rest); short = goes.small.last; says = refl })
-    go (d ∷ ds) valid short left = none _ _ (record { line = d.line; reads = ((All-head IsChunk d ds valid).line, left ∙ next_chunk d ds goes.body goes.rest); short = All-head IsShortChunk d ds short; says = refl })
+    go : (ahead : List Chunk) → goes.body.chunks ≡ chunks ++ ahead → All IsChunk ahead → All (IsShortChunk limits) ahead → now ≡ left_text ahead goes.body goes.rest → ⊥
+    go [] parts valid short left =
+        let over = none _ _ (record { line = goes.body.last; reads = (goes.valid.last, left ∙ no_chunk goes.body goes.rest); short = goes.small.last; says = refl }) in
+        omega (arith, over, goes.valid.none, ap (λ (l : List Chunk). length (joined l)) (parts ∙ append-nil chunks), goes.small.bytes)
+    go (d ∷ ds) parts valid short left =
+        let first = All-head IsChunk d ds valid in
+        let over = none _ _ (record { line = d.line; reads = (first.line, left ∙ next_chunk d ds goes.body goes.rest); short = All-head (IsShortChunk limits) d ds short; says = refl }) in
+        omega (arith, over, first.size, ap (λ (l : List Chunk). length (joined l)) parts ∙ joined_count chunks d ds, goes.small.bytes)
 
 -- it is the line behind the last chunk, or that of the next
-abbrev Ends : (chunks : List Chunk) (now : List ℕ) → Goes chunks now → ChunkLine → List ℕ → Type 0
-Ends chunks now goes line behind = (line ≡ goes.body.last) × (behind ≡ print_section goes.body.trailers goes.body.end ++ goes.rest)
+abbrev Ends : (limits : Limits) (chunks : List Chunk) (now : List ℕ) → Goes limits chunks now → ChunkLine → List ℕ → Type 0
+Ends limits chunks now goes line behind = (line ≡ goes.body.last) × (behind ≡ print_section goes.body.trailers goes.body.end ++ goes.rest)
 
-abbrev Continues : (chunks : List Chunk) (now : List ℕ) → Goes chunks now → ChunkLine → List ℕ → Type 0
-Continues chunks now goes line behind =
+abbrev Continues : (limits : Limits) (chunks : List Chunk) (now : List ℕ) → Goes limits chunks now → ChunkLine → List ℕ → Type 0
+Continues limits chunks now goes line behind =
     (d : Chunk) × (ds : List Chunk) × (goes.ahead ≡ d ∷ ds) × (line ≡ d.line) × IsChunk d × (behind ≡ d.bytes ++ 13 ∷ 10 ∷ left_text ds goes.body goes.rest)
 
-line_is : (chunks : List Chunk) (line : ChunkLine) (behind : List ℕ) → IsChunkLine line → (goes : Goes chunks (print_chunk_line line ++ behind)) → Ends chunks (print_chunk_line line ++ behind) goes line behind ⊎ Continues chunks (print_chunk_line line ++ behind) goes line behind
-line_is chunks line behind valid goes = go goes.ahead refl (chunks_ahead chunks (print_chunk_line line ++ behind) goes) goes.left
+line_is : (limits : Limits) (chunks : List Chunk) (line : ChunkLine) (behind : List ℕ) → IsChunkLine line → (goes : Goes limits chunks (print_chunk_line line ++ behind)) → Ends limits chunks (print_chunk_line line ++ behind) goes line behind ⊎ Continues limits chunks (print_chunk_line line ++ behind) goes line behind
+line_is limits chunks line behind valid goes = go goes.ahead refl (chunks_ahead limits chunks (print_chunk_line line ++ behind) goes) goes.left
   where
-    go : (ahead : List Chunk) → goes.ahead ≡ ahead → All IsChunk ahead → print_chunk_line line ++ behind ≡ left_text ahead goes.body goes.rest → Ends chunks (print_chunk_line line ++ behind) goes line behind ⊎ Continues chunks (print_chunk_line line ++ behind) goes line behind
+    go : (ahead : List Chunk) → goes.ahead ≡ ahead → All IsChunk ahead → print_chunk_line line ++ behind ≡ left_text ahead goes.body goes.rest → Ends limits chunks (print_chunk_line line ++ behind) goes line behind ⊎ Continues limits chunks (print_chunk_line line ++ behind) goes line behind
     go [] is others left = inl (same_text line goes.body.last behind _ valid goes.valid.last (left ∙ no_chunk goes.body goes.rest))
     go (d ∷ ds) is others left =
         let first = All-head IsChunk d ds others in
@@ -112,32 +126,17 @@ line_is chunks line behind valid goes = go goes.ahead refl (chunks_ahead chunks 
         inr (d, ds, is, same.0, first, same.1)
 
 -- behind a line that says 0 there are trailers
-pub goes_to_trailers : (chunks : List Chunk) (line : ChunkLine) (behind : List ℕ) → IsChunkLine line → chunk_size line ≡ 0 → HasNoTrailers behind → ¬ (Goes chunks (print_chunk_line line ++ behind))
-goes_to_trailers chunks line behind valid zero none goes =
-    elim (line_is chunks line behind valid goes) [
+pub goes_to_trailers : (limits : Limits) (chunks : List Chunk) (line : ChunkLine) (behind : List ℕ) → IsChunkLine line → chunk_size line ≡ 0 → HasNoTrailers 0 limits behind → ¬ (Goes limits chunks (print_chunk_line line ++ behind))
+goes_to_trailers limits chunks line behind valid empty none goes =
+    elim (line_is limits chunks line behind valid goes) [
       | inl ends ↦ omega (arith, none goes.body.trailers goes.body.end goes.rest (goes.valid.trailers, ends.1), goes.small.trailers)
-      | inr on ↦ omega (arith, zero, ap chunk_size on.3, on.4.size, on.4.some)
-    ]
-
-joined_count : (chunks : List Chunk) (d : Chunk) (ds : List Chunk) → length (joined (chunks ++ d ∷ ds)) ≡ length (joined chunks) + (length d.bytes + length (joined ds))
-joined_count chunks d ds =
-    ap length (flat_map-append (λ (c : Chunk). c.bytes) chunks (d ∷ ds)) ∙ length-append (joined chunks) (joined (d ∷ ds)) ∙ ap (λ (n : ℕ). length (joined chunks) + n) (length-append d.bytes (joined ds))
-
--- a chunk for which there is no room
-pub goes_over : (chunks : List Chunk) (line : ChunkLine) (behind : List ℕ) → IsChunkLine line → 0 < chunk_size line → MAX_BODY < length (joined chunks) + chunk_size line → ¬ (Goes chunks (print_chunk_line line ++ behind))
-goes_over chunks line behind valid some over goes =
-    elim (line_is chunks line behind valid goes) [
-      | inl ends ↦ omega (arith, some, ap chunk_size ends.0, goes.valid.none)
-      | inr on ↦
-          let counts : length (joined goes.body.chunks) ≡ length (joined chunks) + (length on.0.bytes + length (joined on.1)) =
-          ap (λ (l : List Chunk). length (joined l)) (goes.parts ∙ ap (λ (l : List Chunk). chunks ++ l) on.2) ∙ joined_count chunks on.0 on.1 in
-          omega (arith, counts, goes.small.bytes, over, ap chunk_size on.3, on.4.size)
+      | inr on ↦ omega (arith, empty, ap chunk_size on.3, on.4.size, on.4.some)
     ]
 
 -- behind a line that says how many bytes there are, there are so many, and CRLF
-pub goes_to_chunk : (chunks : List Chunk) (line : ChunkLine) (behind : List ℕ) → IsChunkLine line → 0 < chunk_size line → HasNoChunk (chunk_size line) behind → ¬ (Goes chunks (print_chunk_line line ++ behind))
-goes_to_chunk chunks line behind valid some none goes =
-    elim (line_is chunks line behind valid goes) [
+pub goes_to_chunk : (limits : Limits) (chunks : List Chunk) (line : ChunkLine) (behind : List ℕ) → IsChunkLine line → 0 < chunk_size line → HasNoChunk (chunk_size line) behind → ¬ (Goes limits chunks (print_chunk_line line ++ behind))
+goes_to_chunk limits chunks line behind valid some none goes =
+    elim (line_is limits chunks line behind valid goes) [
       | inl ends ↦ omega (arith, some, ap chunk_size ends.0, goes.valid.none)
       | inr on ↦ none on.0.bytes (left_text on.1 goes.body goes.rest) (sym on.4.size ∙ ap chunk_size (sym on.3)) on.5
     ]
@@ -146,20 +145,114 @@ pub chunk_none : (size : ℕ) (piece rest : List ℕ) → length piece ≡ size 
 chunk_none size piece rest count none other behind counts same =
     none behind (same_front piece other rest (13 ∷ 10 ∷ behind) (count ∙ sym counts) same).1
 
+-- ---- what more bytes make of it
+
+-- a chunk whose bytes have passed
+pub crlf_may : (size : ℕ) (piece : List ℕ) → length piece ≡ size → (rest : List ℕ) → MayBecome IsCrlf rest → MayBecome (IsWholeChunk size) (piece ++ rest)
+crlf_may size piece count = may_behind IsCrlf (IsWholeChunk size) piece (λ rest is. ([], (piece, count, append-nil (piece ++ rest) ∙ ap (λ (l : List ℕ). piece ++ l) is)))
+
+-- fewer bytes than the chunk has
+pub chunk_shorter : (size : ℕ) (stream : List ℕ) → IsShorter size stream → HasNoChunk size stream × MayBecome (IsWholeChunk size) stream
+chunk_shorter size stream short =
+    let zeros : List ℕ = replicate (size - length stream) 48 in
+    let count : length zeros ≡ size - length stream = length-replicate (size - length stream) 48 in (
+      λ piece rest counts same. omega (arith, short, ap length same, length-append piece (13 ∷ 10 ∷ rest), counts),
+      (zeros ++ 13 ∷ 10 ∷ [], (stream ++ zeros, omega (arith, length-append stream zeros, count, short), sym (append_assoc stream zeros (13 ∷ 10 ∷ [])))),
+    )
+
+abbrev pub made : (line : ChunkLine) (bytes : List ℕ) → Chunk
+made line bytes = record { line = line; bytes = bytes }
+
+-- chunks within the limits
+pub record Passed (chunks : List Chunk) : Type 0 where
+  pub valid : All IsChunk chunks
+  pub short : All (IsShortChunk the_limits) chunks
+  pub within : length (joined chunks) ≤ MAX_BODY
+
+-- what a loop knows of the chunks that have passed
+pub passed_of : (chunks : List Chunk) (bytes : List ℕ) → All IsChunk chunks → All (IsShortChunk the_limits) chunks → bytes ≡ joined chunks → length bytes ≤ MAX_BODY → Passed chunks
+passed_of chunks bytes valid short joins within = record { valid = valid; short = short; within = omega (arith, within, ap length joins) }
+
+-- bytes that may be the CR
+pub crlf_begun : (held : List ℕ) → length held < 2 → (length held ≡ 1 → get_or held 0 0 ≡ 13) → HasNoCrlf held × MayBecome IsCrlf held
+crlf_begun [] few cr = (λ rest is. cc, (13 ∷ 10 ∷ [], refl))
+crlf_begun (b ∷ []) few cr = (λ rest is. let short : ◌≡◌ {A = List ℕ} [] (10 ∷ rest) = cc in cc, (10 ∷ [], ap (λ (c : ℕ). c ∷ 10 ∷ []) (cr (omega arith))))
+crlf_begun (b ∷ c ∷ held) few cr = absurd (omega (arith, few))
+
+-- chunks, the line behind the last and trailers are a body
+whole_of : (chunks : List Chunk) (last : ChunkLine) (fields : List Field) (end : LineEnd) (stream : List ℕ) → Passed chunks → IsChunkLine last → IsShortLine the_limits last → chunk_size last ≡ 0 → All IsField fields → length (print_section fields end) ≤ MAX_TRAILERS → stream ≡ flat_map print_chunk chunks ++ (print_chunk_line last ++ print_section fields end) → IsWholeChunked stream
+unfolding print_chunked
+whole_of chunks last fields end stream passed valid short empty fields_valid small is = record {
+  body = record { chunks = chunks; last = last; trailers = fields; end = end };
+  valid = record { chunks = passed.valid; last = valid; none = empty; trailers = fields_valid };
+  small = record { lines = passed.short; last = short; trailers = small; bytes = passed.within };
+  is = is;
+}
+
+-- the line that says 0, where no chunk follows
+zero_text : print_chunk_line zero_line ≡ 48 ∷ 13 ∷ 10 ∷ []
+unfolding print_chunk_line
+zero_text = refl
+
+-- one more chunk
+one_more : (chunks : List Chunk) (line : ChunkLine) (piece : List ℕ) → Passed chunks → IsChunkLine line → IsShortLine the_limits line → 0 < chunk_size line → length piece ≡ chunk_size line → length (joined chunks) + chunk_size line ≤ MAX_BODY → Passed (chunks ++ made line piece ∷ [])
+one_more chunks line piece passed valid short some count room = record {
+  valid = All-push IsChunk chunks (made line piece) passed.valid (record { line = valid; some = omega (arith, some, count); size = sym count });
+  short = All-push (IsShortChunk the_limits) chunks (made line piece) passed.short short;
+  within = omega (arith, joined_count chunks (made line piece) [], count, room);
+}
+
+-- a chunk that more bytes end, and then the last line and no trailers
+pub chunk_may : (chunks : List Chunk) (line : ChunkLine) → Passed chunks → IsChunkLine line → IsShortLine the_limits line → 0 < chunk_size line → length (joined chunks) + chunk_size line ≤ MAX_BODY → (behind : List ℕ) → IsWholeChunk (chunk_size line) behind → MayBecome IsWholeChunked (flat_map print_chunk chunks ++ (print_chunk_line line ++ behind))
+chunk_may chunks line passed valid short some room behind whole =
+    let piece = whole.0 in
+    let now = flat_map print_chunk chunks ++ (print_chunk_line line ++ behind) in
+    let parts : now ≡ flat_map print_chunk (chunks ++ made line piece ∷ []) = ap (λ (l : List ℕ). flat_map print_chunk chunks ++ (print_chunk_line line ++ l)) whole.2 ∙ flat_map_more print_chunk [] chunks (made line piece) in (
+      48 ∷ 13 ∷ 10 ∷ 10 ∷ [],
+      whole_of (chunks ++ made line piece ∷ []) zero_line [] lf (now ++ 48 ∷ 13 ∷ 10 ∷ 10 ∷ []) (one_more chunks line piece passed valid short some whole.1 room) zero_valid (omega (arith, ap length zero_text)) refl (All-nil IsField) (omega arith)
+          (ap (λ (l : List ℕ). l ++ 48 ∷ 13 ∷ 10 ∷ 10 ∷ []) parts ∙ ap (λ (l : List ℕ). flat_map print_chunk (chunks ++ made line piece ∷ []) ++ (l ++ 10 ∷ [])) (sym zero_text)),
+    )
+
+-- the line behind the last chunk, and trailers that more bytes end
+pub trailers_may : (chunks : List Chunk) (line : ChunkLine) → Passed chunks → IsChunkLine line → IsShortLine the_limits line → chunk_size line ≡ 0 → (behind : List ℕ) → AreTrailers 0 behind → MayBecome IsWholeChunked (flat_map print_chunk chunks ++ (print_chunk_line line ++ behind))
+trailers_may chunks line passed valid short empty behind whole =
+    let now = flat_map print_chunk chunks ++ (print_chunk_line line ++ behind) in
+    let section : behind ≡ print_section whole.fields whole.last = whole.reads.1 ∙ append-nil (print_section whole.fields whole.last) in
+    ([], whole_of chunks line whole.fields whole.last (now ++ []) passed valid short empty whole.reads.0 (omega (arith, whole.small, ap length section)) (append-nil now ∙ ap (λ (l : List ℕ). flat_map print_chunk chunks ++ (print_chunk_line line ++ l)) section))
+
+-- a line that more bytes end, and what it asks for
+line_whole : (chunks : List Chunk) → Passed chunks → (rest : List ℕ) → IsWholeLine (length (joined chunks)) rest → MayBecome IsWholeChunked (flat_map print_chunk chunks ++ rest)
+line_whole chunks passed rest whole = go (chunk_size whole.line) refl
+  where
+    behind_line : (behind : List ℕ) → MayBecome IsWholeChunked (flat_map print_chunk chunks ++ (print_chunk_line whole.line ++ behind)) → MayBecome IsWholeChunked (flat_map print_chunk chunks ++ rest)
+    behind_line behind may = (behind ++ may.0, subst IsWholeChunked (ap (λ (l : List ℕ). (flat_map print_chunk chunks ++ (l ++ behind)) ++ may.0) (sym whole.is) ∙ ap (λ (l : List ℕ). l ++ may.0) (sym (append_assoc (flat_map print_chunk chunks) rest behind)) ∙ append_assoc (flat_map print_chunk chunks ++ rest) behind may.0) may.1)
+
+    go : (size : ℕ) → chunk_size whole.line ≡ size → MayBecome IsWholeChunked (flat_map print_chunk chunks ++ rest)
+    go zero is = behind_line (10 ∷ []) (trailers_may chunks whole.line passed whole.valid whole.short is (10 ∷ []) (record { fields = []; last = lf; reads = (All-nil IsField, refl); small = omega arith }))
+    go (suc n) is =
+        let zeros : List ℕ = replicate (chunk_size whole.line) 48 in
+        behind_line (zeros ++ 13 ∷ 10 ∷ []) (chunk_may chunks whole.line passed whole.valid whole.short (omega (arith, is)) whole.room (zeros ++ 13 ∷ 10 ∷ []) (zeros, length-replicate (chunk_size whole.line) 48, refl))
+
+-- the same where more bytes end the line
+pub line_may : (chunks : List Chunk) (passed : ℕ) → passed ≡ length (joined chunks) → Passed chunks → (rest : List ℕ) → MayBecome (IsWholeLine passed) rest → MayBecome IsWholeChunked (flat_map print_chunk chunks ++ rest)
+line_may chunks passed count all = may_behind (IsWholeLine passed) IsWholeChunked (flat_map print_chunk chunks) (λ rest whole. line_whole chunks all rest (subst (λ (n : ℕ). IsWholeLine n rest) count whole))
+
 -- ---- the same of a stream that is told
 
-pub told_no_line : (chunks : List Chunk) (start now : Option (List ℕ)) → All IsChunk chunks → start ≡ before (flat_map print_chunk chunks) now → Told now HasNoLine → Told start HasNoChunked
-told_no_line chunks start now valid taken =
-    told_behind HasNoLine HasNoChunked start now (flat_map print_chunk chunks) taken (λ rest none. none_goes chunks rest valid (goes_on chunks rest none))
+pub refuses_line : (chunks : List Chunk) (passed : ℕ) (told now left : Option (List ℕ)) → passed ≡ length (joined chunks) → Passed chunks → told ≡ before (flat_map print_chunk chunks) now → (refusal : HttpRefusal) → Refuses (HasNoLine passed) (MayBecome (IsWholeLine passed)) now left refusal → Refuses HasNoChunked (MayBecome IsWholeChunked) told left refusal
+refuses_line chunks passed told now left count all taken =
+    refuses_behind (HasNoLine passed) HasNoChunked (MayBecome (IsWholeLine passed)) (MayBecome IsWholeChunked) told now left (flat_map print_chunk chunks) taken
+    (λ limits rest none. none_goes limits chunks rest all.valid (goes_on limits chunks rest (subst (λ (n : ℕ). HasNoLine n limits rest) count none)))
+    (line_may chunks passed count all)
 
-pub told_line : (P : List ℕ → Type 0) (chunks : List Chunk) (line : ChunkLine) (start now mid : Option (List ℕ)) → All IsChunk chunks → start ≡ before (flat_map print_chunk chunks) now → now ≡ before (print_chunk_line line) mid → ((behind : List ℕ) → P behind → ¬ (Goes chunks (print_chunk_line line ++ behind))) → Told mid P → Told start HasNoChunked
-told_line P chunks line start now mid valid taken line_taken none fact =
-    told_behind (λ rest. ¬ (Goes chunks rest)) HasNoChunked start now (flat_map print_chunk chunks) taken (λ rest not. none_goes chunks rest valid not)
-    (told_behind P (λ rest. ¬ (Goes chunks rest)) now mid (print_chunk_line line) line_taken none fact)
+pub refuses_next : (P : Limits → List ℕ → Type 0) (B : List ℕ → Type 0) (chunks : List Chunk) (line : ChunkLine) (told now mid left : Option (List ℕ)) → All IsChunk chunks → told ≡ before (flat_map print_chunk chunks) now → now ≡ before (print_chunk_line line) mid → ((limits : Limits) (behind : List ℕ) → P limits behind → ¬ (Goes limits chunks (print_chunk_line line ++ behind))) → ((behind : List ℕ) → B behind → MayBecome IsWholeChunked (flat_map print_chunk chunks ++ (print_chunk_line line ++ behind))) → (refusal : HttpRefusal) → Refuses P B mid left refusal → Refuses HasNoChunked (MayBecome IsWholeChunked) told left refusal
+refuses_next P B chunks line told now mid left valid taken line_taken none cut refusal fact =
+    refuses_behind (λ limits rest. ¬ (Goes limits chunks rest)) HasNoChunked (λ rest. MayBecome IsWholeChunked (flat_map print_chunk chunks ++ rest)) (MayBecome IsWholeChunked) told now left (flat_map print_chunk chunks) taken (λ limits rest not. none_goes limits chunks rest valid not) (λ rest may. may) refusal
+    (refuses_behind P (λ limits rest. ¬ (Goes limits chunks rest)) B (λ rest. MayBecome IsWholeChunked (flat_map print_chunk chunks ++ rest)) now mid left (print_chunk_line line) line_taken none cut refusal fact)
 
 -- ---- what has been taken
 
-pub chunked : (chunks : List Chunk) (bytes : List ℕ) (start now mid end : Option (List ℕ)) (line : TakesLine now mid 0) (trailers : TakesTrailers mid end) → All IsChunk chunks → All IsShortChunk chunks → bytes ≡ joined chunks → length bytes ≤ MAX_BODY → start ≡ before (flat_map print_chunk chunks) now → TakesChunked bytes start end
+pub chunked : (chunks : List Chunk) (bytes : List ℕ) (start now mid end : Option (List ℕ)) (line : TakesLine now mid 0) (trailers : TakesTrailers mid end) → All IsChunk chunks → All (IsShortChunk the_limits) chunks → bytes ≡ joined chunks → length bytes ≤ MAX_BODY → start ≡ before (flat_map print_chunk chunks) now → TakesChunked bytes start end
 unfolding print_chunked
 chunked chunks bytes start now mid end line trailers valid short joins within taken =
     let body : ChunkedBody = record { chunks = chunks; last = line.line; trailers = trailers.fields; end = trailers.last } in record {
@@ -172,9 +265,6 @@ chunked chunks bytes start now mid end line trailers valid short joins within ta
           ∙ ap (λ (t : Option (List ℕ)). before (flat_map print_chunk chunks) t) (line.taken ∙ ap (λ (t : Option (List ℕ)). before (print_chunk_line line.line) t) trailers.taken ∙ before_append (print_chunk_line line.line) (print_section trailers.fields trailers.last) end)
           ∙ before_append (flat_map print_chunk chunks) (print_end_of_chunks body) end;
     }
-
-abbrev pub made : (line : ChunkLine) (bytes : List ℕ) → Chunk
-made line bytes = record { line = line; bytes = bytes }
 
 pub chunk_taken : (chunks : List Chunk) (line : ChunkLine) (piece : List ℕ) (start now mid end : Option (List ℕ)) → start ≡ before (flat_map print_chunk chunks) now → now ≡ before (print_chunk_line line) mid → mid ≡ before (piece ++ 13 ∷ 10 ∷ []) end → start ≡ before (flat_map print_chunk (chunks ++ made line piece ∷ [])) end
 chunk_taken chunks line piece start now mid end taken line_taken piece_taken =

@@ -7,6 +7,7 @@ pub mod FieldLemmas
 pub mod FramingLemmas
 pub mod GatheredLemmas
 pub mod LengthLemmas
+pub mod LineEndLemmas
 pub mod LineLemmas
 pub mod ReadBackLemmas
 pub mod RefusedLemmas
@@ -14,6 +15,7 @@ pub mod RequestHeadLemmas
 pub mod RequestLemmas
 pub mod ResponseHeadLemmas
 pub mod ResponseLemmas
+pub mod SplitLemmas
 pub mod StreamLemmas
 pub mod TrailerLemmas
 pub mod WrittenLemmas

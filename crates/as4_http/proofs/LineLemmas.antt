@@ -1,9 +1,10 @@
 -- Lemmas on lines: bytes without an LF, and an LF behind them.
 use Rattle.std.proofs.Common.{◌≡◌, ◌≢◌, ℕ, suc, ◌+◌, ◌<◌, ◌≤◌, None, Some, List, [], ◌∷◌, ◌++◌, length, take, drop, get_or, refl, sym, ◌∙◌, ap, subst, arith, append_assoc, length-append, eq-eqb}
-use Rattle.std.proofs.lemmas.Bool.{eqb-true}
+use Rattle.std.proofs.lemmas.Bool.{eqb-true, false≢true}
 use Rattle.std.proofs.lemmas.List.{get_or-take, get_or_default, length-take, length-take-le, take-append-drop, take_at, drop_at, drop-drop}
 use Rattle.std.proofs.Math.Seq.{drop-cons}
 use Rattle.std.proofs.lemmas.List.Elements.{All-nil, All-cons, All-head, All-tail, All-append}
+use Rattle.std.specs.Prelude.{All, Option, is_some, true, false}
 use Rattle.memchr.specs.Find.{IsFirstByte, is_byte}
 use Rattle.as4_http.specs.Trailers.{HasNoLf, BeginsWithLine, IsLine}
 
@@ -27,9 +28,20 @@ pub no_lf_append : (front rest : List ℕ) → HasNoLf front → HasNoLf rest �
 unfolding HasNoLf
 no_lf_append front rest first second = All-append (λ b. b ≢ 10) front rest first second
 
+nowhere : (byte : ℕ) (bytes : List ℕ) → IsFirstByte (is_byte byte) bytes None → All (λ b. b ≢ byte) bytes
+nowhere byte bytes none k d short is = none k (omega arith) short (eq-eqb (get_or bytes k 0) byte (get_or_default bytes k 0 d short ∙ is))
+
+pub not_found : (byte : ℕ) (bytes : List ℕ) (found : Option ℕ) → is_some found ≡ false → IsFirstByte (is_byte byte) bytes found → All (λ b. b ≢ byte) bytes
+not_found byte bytes None none first = nowhere byte bytes first
+not_found byte bytes (Some at) none first = absurd (false≢true (sym none))
+
+pub found_one : (byte : ℕ) (bytes : List ℕ) (found : Option ℕ) → is_some found ≡ true → IsFirstByte (is_byte byte) bytes found → ¬ (All (λ b. b ≢ byte) bytes)
+found_one byte bytes None some first none = false≢true some
+found_one byte bytes (Some at) some first none = none at 0 first.0.high (eqb-true (get_or bytes at 0) byte first.1)
+
 no_lf_nowhere : (bytes : List ℕ) → IsFirstByte (is_byte 10) bytes None → HasNoLf bytes
 unfolding HasNoLf
-no_lf_nowhere bytes none k d short is = none k (omega arith) short (eq-eqb (get_or bytes k 0) 10 (get_or_default bytes k 0 d short ∙ is))
+no_lf_nowhere bytes none = nowhere 10 bytes none
 
 no_lf_before : (bytes : List ℕ) (at : ℕ) → IsFirstByte (is_byte 10) bytes (Some at) → HasNoLf (take at bytes)
 unfolding HasNoLf
@@ -64,10 +76,19 @@ same_line bytes more n m one other =
     let same = first_line one.text other.text (drop n bytes ++ more) (drop m (bytes ++ more)) one.one other.one whole in
     omega (arith, ap length same.0, one.count, other.count)
 
+-- what ends in a byte isn't shorter than bytes that don't have it
+pub longer_than : (byte : ℕ) (bytes text more rest : List ℕ) → All (λ b. b ≢ byte) bytes → bytes ++ more ≡ text ++ byte ∷ rest → length bytes < length text + 1
+longer_than byte [] text more rest none is = omega arith
+longer_than byte (b ∷ bytes) [] more rest none is = let same : b ≡ byte = cc in absurd (All-head (λ c. c ≢ byte) b bytes none same)
+longer_than byte (b ∷ bytes) (t ∷ text) more rest none is = let others : bytes ++ more ≡ text ++ byte ∷ rest = cc in omega (arith, longer_than byte bytes text more rest (All-tail (λ c. c ≢ byte) b bytes none) others)
+
 longer_by : (bytes text more rest : List ℕ) → HasNoLf bytes → bytes ++ more ≡ text ++ 10 ∷ rest → length bytes < length text + 1
-longer_by [] text more rest none is = omega arith
-longer_by (b ∷ bytes) [] more rest none is = let lf : b ≡ 10 = cc in absurd (no_lf_head b bytes none lf)
-longer_by (b ∷ bytes) (t ∷ text) more rest none is = let others : bytes ++ more ≡ text ++ 10 ∷ rest = cc in omega (arith, longer_by bytes text more rest (no_lf_tail b bytes none) others)
+unfolding HasNoLf
+longer_by bytes text more rest none is = longer_than 10 bytes text more rest none is
+
+pub no_lf_front : (front rest : List ℕ) → HasNoLf (front ++ rest) → HasNoLf front
+no_lf_front [] rest none = no_lf_none
+no_lf_front (b ∷ front) rest none = no_lf_more b front (no_lf_head b (front ++ rest) none) (no_lf_front front rest (no_lf_tail b (front ++ rest) none))
 
 -- no line is shorter than bytes without an LF
 pub line_longer : (bytes more : List ℕ) (n : ℕ) → HasNoLf bytes → BeginsWithLine (bytes ++ more) n → length bytes < n

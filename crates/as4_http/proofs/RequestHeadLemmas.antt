@@ -7,6 +7,7 @@ use Rattle.httparse.specs.Grammar.{RequestHead, print_request, ReadsRequest, Has
 use Rattle.httparse.specs.Spans.{IsRequestAt, IsRequestOf, header_bytes, name_and_value}
 use Rattle.httparse.proofs.GrammarLemmas.{request_unique, ReadsRequest-append}
 use Rattle.as4_http.proofs.StreamLemmas.{front_is}
+use Rattle.as4_http.specs.Limits.{Limits, the_limits}
 use Rattle.as4_http.specs.declared.limits.TheConstants.{MAX_HEAD, MAX_FIELDS}
 use Rattle.as4_http.specs.declared.request_start.RequestStart.{RequestStart}
 use Rattle.as4_http.specs.RequestStarts.{SaysRequest, BeginsRequestHead, HasNoRequestHead}
@@ -16,16 +17,16 @@ pub at_any : (buf : List ℕ) (headers : List HeaderSpan) (spans : RequestSpans)
 at_any buf headers spans head other rest at reads =
     subst (λ (h : RequestHead). IsRequestAt buf headers spans h) (request_unique buf head other _ rest at.reads reads).0 at
 
-pub none_long : (buf : List ℕ) (headers : List HeaderSpan) (spans : RequestSpans) → IsRequestOf buf headers spans → MAX_HEAD < spans.len → HasNoRequestHead buf
+pub none_long : (buf : List ℕ) (headers : List HeaderSpan) (spans : RequestSpans) → IsRequestOf buf headers spans → MAX_HEAD < spans.len → HasNoRequestHead the_limits buf
 none_long buf headers spans of long rest start begins =
     let at = at_any buf headers spans of.0 begins.head rest of.1 begins.reads in
     omega (arith, at.len, begins.small.bytes)
 
-pub none_says : (bytes buf : List ℕ) (headers : List HeaderSpan) (spans : RequestSpans) → IsRequestOf buf headers spans → bytes ≡ buf → ((head : RequestHead) (start : RequestStart) → IsRequestAt bytes headers spans head → ¬ (SaysRequest head start)) → HasNoRequestHead buf
-none_says bytes buf headers spans of same none rest start begins =
+pub none_says : (limits : Limits) (bytes buf : List ℕ) (headers : List HeaderSpan) (spans : RequestSpans) → IsRequestOf buf headers spans → bytes ≡ buf → ((head : RequestHead) (start : RequestStart) → IsRequestAt bytes headers spans head → ¬ (SaysRequest head start)) → HasNoRequestHead limits buf
+none_says limits bytes buf headers spans of same none rest start begins =
     none begins.head start (subst (λ (b : List ℕ). IsRequestAt b headers spans begins.head) (sym same) (at_any buf headers spans of.0 begins.head rest of.1 begins.reads)) begins.says
 
-pub begins : (bytes buf rest : List ℕ) (headers : List HeaderSpan) (spans : RequestSpans) (start : RequestStart) → IsRequestOf buf headers spans → length headers ≤ MAX_FIELDS → spans.len ≤ MAX_HEAD → rest ≡ drop spans.len buf → bytes ≡ buf → ((head : RequestHead) → IsRequestAt bytes headers spans head → SaysRequest head start) → BeginsRequestHead buf rest start
+pub begins : (bytes buf rest : List ℕ) (headers : List HeaderSpan) (spans : RequestSpans) (start : RequestStart) → IsRequestOf buf headers spans → length headers ≤ MAX_FIELDS → spans.len ≤ MAX_HEAD → rest ≡ drop spans.len buf → bytes ≡ buf → ((head : RequestHead) → IsRequestAt bytes headers spans head → SaysRequest head start) → BeginsRequestHead the_limits buf rest start
 begins bytes buf rest headers spans start of few short rest_is same says =
     let at = of.1 in
     let counts : length (map (header_bytes buf) (take spans.headers headers)) ≡ length (map name_and_value of.0.fields) = ap length at.fields in record {
@@ -39,8 +40,8 @@ begins bytes buf rest headers spans start of few short rest_is same says =
     }
 
 -- where the bytes begin with a head, and it isn't such a one, none that goes on so does
-pub none_on : (held : List ℕ) (headers : List HeaderSpan) (spans : RequestSpans) → IsRequestOf held headers spans → HasNoRequestHead held → (more : List ℕ) → HasNoRequestHead (held ++ more)
-none_on held headers spans of none more rest start begins =
+pub none_on : (limits : Limits) (held : List ℕ) (headers : List HeaderSpan) (spans : RequestSpans) → IsRequestOf held headers spans → HasNoRequestHead limits held → (more : List ℕ) → HasNoRequestHead limits (held ++ more)
+none_on limits held headers spans of none more rest start begins =
     let same : of.0 ≡ begins.head = (request_unique (held ++ more) of.0 begins.head _ rest (ReadsRequest-append held of.0 _ more of.1.reads) begins.reads).0 in
     none (drop spans.len held) start (record {
       head = begins.head;
@@ -50,6 +51,10 @@ none_on held headers spans of none more rest start begins =
     })
 
 -- no bytes of a head came yet, and there are more than a head has
-pub none_yet : (held : List ℕ) → HasNoRequest held → MAX_HEAD < length held → (more : List ℕ) → HasNoRequestHead (held ++ more)
+pub none_yet : (held : List ℕ) → HasNoRequest held → MAX_HEAD < length held → (more : List ℕ) → HasNoRequestHead the_limits (held ++ more)
 none_yet held none long more rest start begins =
     none begins.head _ (begins.reads.0, front_is held (print_request begins.head) more rest begins.reads.1 (omega (arith, begins.small.bytes)))
+
+-- bytes that are no whole head
+pub none_begun : (held : List ℕ) → HasNoRequest held → HasNoRequestHead the_limits held
+none_begun held none rest start begins = none begins.head rest begins.reads

@@ -1,12 +1,14 @@
 -- Lemmas on requests.
-use Rattle.std.proofs.Common.{◌≡◌, ℕ, Bool, List, Option, refl, sym, ◌∙◌, subst}
+use Rattle.std.proofs.Common.{◌≡◌, ℕ, Bool, List, ◌++◌, Option, inr, refl, sym, ◌∙◌, subst, append_assoc}
 use Rattle.as4_flow.specs.Told.{Told}
-use Rattle.httparse.specs.Grammar.{RequestHead, print_request}
+use Rattle.httparse.specs.Grammar.{RequestHead, IsRequestHead, print_request}
 use Rattle.httparse.proofs.GrammarLemmas.{request_unique}
-use Rattle.as4_http.specs.Bodies.{BeginsBody, HasNoBody, TakesBody}
+use Rattle.as4_http.specs.Bodies.{BeginsBody, HasNoBody, IsBody, TakesBody}
+use Rattle.as4_http.specs.Limits.{Limits, the_limits}
 use Rattle.as4_http.specs.Methods.{method_text}
-use Rattle.as4_http.specs.RequestStarts.{SaysRequest, HasNoRequestHead, TakesRequestHead}
-use Rattle.as4_http.specs.Requests.{BeginsKept, BeginsRequest, HasNoRequest, start_of}
+use Rattle.as4_http.specs.Refused.{MayBecome}
+use Rattle.as4_http.specs.RequestStarts.{IsSmallRequest, SaysRequest, HasNoRequestHead, TakesRequestHead}
+use Rattle.as4_http.specs.Requests.{BeginsKept, BeginsRequest, HasNoRequestWithin, IsCutRequest, start_of}
 use Rattle.as4_http.specs.declared.framing.Framing.{Framing}
 use Rattle.as4_http.specs.declared.framing.Framing.TheVariants.{Empty}
 use Rattle.as4_http.specs.declared.message.Method.{Method}
@@ -38,28 +40,37 @@ kept_unique stream a b k l r q x y =
     let says = subst (λ (h : RequestHead). SaysRequest h (start_of b y.framing l)) (sym heads.0) y.says in
     let starts = says_one x.head (start_of a x.framing k) (start_of b y.framing l) x.says says in
     let framing : y.framing ≡ x.framing = λ i. (sym starts i).framing in
-    let body : BeginsBody x.framing x.behind b.body q = subst (λ (s : List ℕ). BeginsBody x.framing s b.body q) (sym heads.1) (subst (λ (f : Framing). BeginsBody f y.behind b.body q) framing y.body) in
-    let bodies = body_unique x.framing x.behind a.body b.body r q x.body body in
+    let body : BeginsBody the_limits x.framing x.behind b.body q = subst (λ (s : List ℕ). BeginsBody the_limits x.framing s b.body q) (sym heads.1) (subst (λ (f : Framing). BeginsBody the_limits f y.behind b.body q) framing y.body) in
+    let bodies = body_unique the_limits x.framing x.behind a.body b.body r q x.body body in
     (λ i. record { method = (starts i).method; target = (starts i).target; media = (starts i).media; body = bodies.0 i }, λ i. (starts i).kept, bodies.1)
 
 pub request_one : (stream : List ℕ) (a b : Request) (r q : List ℕ) → BeginsRequest stream a r → BeginsRequest stream b q → (a ≡ b) × (r ≡ q)
 request_one stream a b r q x y = let same = kept_unique stream a b x.0 y.0 r q x.1 y.1 in (same.0, same.2)
 
 -- no head, hence no request
-pub no_head : (told : Option (List ℕ)) → Told told HasNoRequestHead → Told told HasNoRequest
-no_head told none stream tells request rest begins =
-    none stream tells begins.1.behind (start_of request begins.1.framing begins.0) (record { head = begins.1.head; reads = begins.1.reads; small = begins.1.small; says = begins.1.says })
+pub no_head : (limits : Limits) (stream : List ℕ) → HasNoRequestHead limits stream → HasNoRequestWithin limits stream
+no_head limits stream none request rest begins =
+    none begins.1.behind (start_of request begins.1.framing begins.0) (record { head = begins.1.head; reads = begins.1.reads; small = begins.1.small; says = begins.1.says })
 
 -- a head, and no body behind it
-pub no_body : (start : RequestStart) (old mid : Option (List ℕ)) → TakesRequestHead old mid start → Told mid (HasNoBody start.framing) → Told old HasNoRequest
-no_body start old mid head none stream told request rest begins =
+pub no_body : (start : RequestStart) (head : RequestHead) (limits : Limits) (behind : List ℕ) → IsRequestHead head → SaysRequest head start → HasNoBody start.framing limits behind → HasNoRequestWithin limits (print_request head ++ behind)
+no_body start head limits behind valid says none request rest begins =
     let x = begins.1 in
-    let found = before_some old mid (print_request head.head) stream head.taken told in
-    let heads = request_unique stream head.head x.head found.0 x.behind (head.valid, found.2) x.reads in
-    let says = subst (λ (h : RequestHead). SaysRequest h (start_of request x.framing begins.0)) (sym heads.0) x.says in
-    let starts = says_one head.head start (start_of request x.framing begins.0) head.says says in
+    let heads = request_unique (print_request head ++ behind) head x.head behind x.behind (valid, refl) x.reads in
+    let others = subst (λ (h : RequestHead). SaysRequest h (start_of request x.framing begins.0)) (sym heads.0) x.says in
+    let starts = says_one head start (start_of request x.framing begins.0) says others in
     let framing : x.framing ≡ start.framing = λ i. (sym starts i).framing in
-    none found.0 found.1 request.body rest (subst (λ (s : List ℕ). BeginsBody start.framing s request.body rest) (sym heads.1) (subst (λ (f : Framing). BeginsBody f x.behind request.body rest) framing x.body))
+    none request.body rest (subst (λ (s : List ℕ). BeginsBody limits start.framing s request.body rest) (sym heads.1) (subst (λ (f : Framing). BeginsBody limits f x.behind request.body rest) framing x.body))
+
+-- a head, and what more bytes make a body of it
+pub cut_body : (start : RequestStart) (head : RequestHead) → IsRequestHead head → IsSmallRequest the_limits head → SaysRequest head start → (behind : List ℕ) → MayBecome (IsBody start.framing) behind → IsCutRequest (print_request head ++ behind)
+cut_body start head valid small says behind may = inr (
+  may.0,
+  (
+    record { method = start.method; target = start.target; media = start.media; body = may.1.0 },
+    (start.kept, record { head = head; framing = start.framing; behind = behind ++ may.0; reads = (valid, append_assoc (print_request head) behind may.0); small = small; says = says; body = may.1.1 }),
+  ),
+)
 
 -- a head and a body that have gone are a request, and what is left is the rest
 pub request_begins : (start : RequestStart) (bytes : List ℕ) (old mid new : Option (List ℕ)) → TakesRequestHead old mid start → TakesBody start.framing bytes mid new → Told old (λ stream. Told new (BeginsKept stream (record { method = start.method; target = start.target; media = start.media; body = bytes }) start.kept))
@@ -73,5 +84,5 @@ request_begins start bytes old mid new head body stream told rest left =
       reads = (head.valid, found.2);
       small = head.small;
       says = head.says;
-      body = subst (λ (r : List ℕ). BeginsBody start.framing found.0 bytes r) same behind.2;
+      body = subst (λ (r : List ℕ). BeginsBody the_limits start.framing found.0 bytes r) same behind.2;
     }

@@ -1,11 +1,13 @@
 -- Lemmas on responses.
-use Rattle.std.proofs.Common.{◌≡◌, ℕ, List, Option, sym, ◌∙◌, ap, subst}
+use Rattle.std.proofs.Common.{◌≡◌, ℕ, List, ◌++◌, Option, inr, refl, sym, ◌∙◌, ap, subst, append_assoc}
 use Rattle.as4_flow.specs.Told.{Told}
-use Rattle.httparse.specs.Grammar.{ResponseHead, print_response}
+use Rattle.httparse.specs.Grammar.{ResponseHead, IsResponseHead, print_response}
 use Rattle.httparse.proofs.GrammarLemmas.{response_unique}
-use Rattle.as4_http.specs.Bodies.{BeginsBody, HasNoBody, TakesBody}
-use Rattle.as4_http.specs.ResponseStarts.{SaysResponse, HasNoResponseHead, TakesResponseHead, framing_at}
-use Rattle.as4_http.specs.Responses.{BeginsResponse, HasNoResponse, start_of}
+use Rattle.as4_http.specs.Bodies.{BeginsBody, HasNoBody, IsBody, TakesBody}
+use Rattle.as4_http.specs.Limits.{Limits, the_limits}
+use Rattle.as4_http.specs.Refused.{MayBecome}
+use Rattle.as4_http.specs.ResponseStarts.{IsSmallResponse, SaysResponse, HasNoResponseHead, TakesResponseHead, framing_at}
+use Rattle.as4_http.specs.Responses.{BeginsResponse, HasNoResponseWithin, IsCutResponse, start_of}
 use Rattle.as4_http.specs.declared.framing.Framing.{Framing}
 use Rattle.as4_http.specs.declared.framing.Framing.TheVariants.{ToEnd}
 use Rattle.as4_http.specs.declared.message.Response.{Response}
@@ -28,24 +30,33 @@ response_one stream a b r q x y =
     let says = subst (λ (h : ResponseHead). SaysResponse h (start_of b y.framing)) (sym heads.0) y.says in
     let starts = says_one x.head (start_of a x.framing) (start_of b y.framing) x.says says in
     let framing : y.framing ≡ x.framing = λ i. (sym starts i).framing in
-    let body : BeginsBody x.framing x.behind b.body q = subst (λ (s : List ℕ). BeginsBody x.framing s b.body q) (sym heads.1) (subst (λ (f : Framing). BeginsBody f y.behind b.body q) framing y.body) in
-    let bodies = body_unique x.framing x.behind a.body b.body r q x.body body in
+    let body : BeginsBody the_limits x.framing x.behind b.body q = subst (λ (s : List ℕ). BeginsBody the_limits x.framing s b.body q) (sym heads.1) (subst (λ (f : Framing). BeginsBody the_limits f y.behind b.body q) framing y.body) in
+    let bodies = body_unique the_limits x.framing x.behind a.body b.body r q x.body body in
     (λ i. record { status = (starts i).status; media = (starts i).media; body = bodies.0 i }, bodies.1)
 
 -- no head, hence no response
-pub no_head : (told : Option (List ℕ)) → Told told HasNoResponseHead → Told told HasNoResponse
-no_head told none stream tells response rest begins =
-    none stream tells begins.behind (start_of response begins.framing) (record { head = begins.head; reads = begins.reads; small = begins.small; says = begins.says })
+pub no_head : (limits : Limits) (stream : List ℕ) → HasNoResponseHead limits stream → HasNoResponseWithin limits stream
+no_head limits stream none response rest begins =
+    none begins.behind (start_of response begins.framing) (record { head = begins.head; reads = begins.reads; small = begins.small; says = begins.says })
 
 -- a head, and no body behind it
-pub no_body : (start : ResponseStart) (old mid : Option (List ℕ)) → TakesResponseHead old mid start → Told mid (HasNoBody start.framing) → Told old HasNoResponse
-no_body start old mid head none stream told response rest x =
-    let found = before_some old mid (print_response head.head) stream head.taken told in
-    let heads = response_unique stream head.head x.head found.0 x.behind (head.valid, found.2) x.reads in
-    let says = subst (λ (h : ResponseHead). SaysResponse h (start_of response x.framing)) (sym heads.0) x.says in
-    let starts = says_one head.head start (start_of response x.framing) head.says says in
+pub no_body : (start : ResponseStart) (head : ResponseHead) (limits : Limits) (behind : List ℕ) → IsResponseHead head → SaysResponse head start → HasNoBody start.framing limits behind → HasNoResponseWithin limits (print_response head ++ behind)
+no_body start head limits behind valid says none response rest x =
+    let heads = response_unique (print_response head ++ behind) head x.head behind x.behind (valid, refl) x.reads in
+    let others = subst (λ (h : ResponseHead). SaysResponse h (start_of response x.framing)) (sym heads.0) x.says in
+    let starts = says_one head start (start_of response x.framing) says others in
     let framing : x.framing ≡ start.framing = λ i. (sym starts i).framing in
-    none found.0 found.1 response.body rest (subst (λ (s : List ℕ). BeginsBody start.framing s response.body rest) (sym heads.1) (subst (λ (f : Framing). BeginsBody f x.behind response.body rest) framing x.body))
+    none response.body rest (subst (λ (s : List ℕ). BeginsBody limits start.framing s response.body rest) (sym heads.1) (subst (λ (f : Framing). BeginsBody limits f x.behind response.body rest) framing x.body))
+
+-- a head, and what more bytes make a body of it
+pub cut_body : (start : ResponseStart) (head : ResponseHead) → IsResponseHead head → IsSmallResponse the_limits head → SaysResponse head start → (behind : List ℕ) → MayBecome (IsBody start.framing) behind → IsCutResponse (print_response head ++ behind)
+cut_body start head valid small says behind may = inr (
+  may.0,
+  (
+    record { status = start.status; media = start.media; body = may.1.0 },
+    record { head = head; framing = start.framing; behind = behind ++ may.0; reads = (valid, append_assoc (print_response head) behind may.0); small = small; says = says; body = may.1.1 },
+  ),
+)
 
 -- a head and a body that have gone are a response, and what is left is the rest
 pub response_begins : (start : ResponseStart) (bytes : List ℕ) (old mid new : Option (List ℕ)) → TakesResponseHead old mid start → TakesBody start.framing bytes mid new → Told old (λ stream. Told new (BeginsResponse stream (record { status = start.status; media = start.media; body = bytes })))
@@ -59,5 +70,5 @@ response_begins start bytes old mid new head body stream told rest left =
       reads = (head.valid, found.2);
       small = head.small;
       says = head.says;
-      body = subst (λ (r : List ℕ). BeginsBody start.framing found.0 bytes r) same behind.2;
+      body = subst (λ (r : List ℕ). BeginsBody the_limits start.framing found.0 bytes r) same behind.2;
     }

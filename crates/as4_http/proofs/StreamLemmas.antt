@@ -1,7 +1,9 @@
 -- Lemmas on a stream: what an intake holds, and then what a source has left, where that is told.
-use Rattle.std.proofs.Common.{◌≡◌, ℕ, ◌≤◌, List, [], ◌++◌, length, take, drop, Option, None, Some, refl, sym, ◌∙◌, ap, subst}
+use Rattle.std.proofs.Common.{◌≡◌, ℕ, ◌≤◌, List, [], ◌++◌, length, take, drop, Option, None, Some, refl, sym, ◌∙◌, ap, subst, append_assoc}
 use Rattle.std.proofs.lemmas.List.{take_at, take-append-le, take-append-drop, append-nil}
 use Rattle.as4_flow.specs.Told.{Told, before}
+use Rattle.as4_flow.proofs.ToldLemmas.{before_append}
+use Rattle.as4_http.specs.Refused.{Dooms}
 
 -- of two fronts of the same bytes the shorter begins the longer
 pub front_is : (held text more rest : List ℕ) → held ++ more ≡ text ++ rest → length text ≤ length held → held ≡ text ++ drop (length text) held
@@ -32,9 +34,14 @@ told_behind P Q start (Some rest) front is on fact stream told =
     let same : front ++ rest ≡ stream = cc (sym is ∙ told) in
     subst Q same (on rest (fact rest refl))
 
--- what holds of a front and held bytes, however they go on
-pub told_two : (Q : List ℕ → Type 0) (start now left : Option (List ℕ)) (front held : List ℕ) → start ≡ before front now → now ≡ before held left → ((more : List ℕ) → Q (front ++ (held ++ more))) → Told start Q
-told_two Q start now left front held first second on =
-    told_behind (λ rest. (more : List ℕ) × (held ++ more ≡ rest)) Q start now front first
-    (λ rest found. subst (λ (l : List ℕ). Q (front ++ l)) found.1 (on found.0))
-    (told_on (λ rest. (more : List ℕ) × (held ++ more ≡ rest)) now left held second (λ more. (more, refl)))
+-- what dooms the rest of a stream, and says something of the whole
+pub dooms_behind : (P Q : List ℕ → Type 0) (told now left : Option (List ℕ)) (front : List ℕ) → told ≡ before front now → ((rest : List ℕ) → P rest → Q (front ++ rest)) → Dooms P now left → Dooms Q told left
+dooms_behind P Q told now left front is on dooms = record {
+  read = front ++ dooms.read;
+  taken = is ∙ ap (λ (t : Option (List ℕ)). before front t) dooms.taken ∙ before_append front dooms.read left;
+  doomed = λ more. subst Q (sym (append_assoc front dooms.read more)) (on (dooms.read ++ more) (dooms.doomed more));
+}
+
+-- what is doomed doesn't hold of the stream
+pub dooms_told : (P : List ℕ → Type 0) (told left : Option (List ℕ)) → Dooms P told left → Told told P
+dooms_told P told left dooms = told_on P told left dooms.read dooms.taken dooms.doomed

@@ -1,22 +1,28 @@
 -- Lemmas on trailers, whose lines come one by one.
-use Rattle.std.proofs.Common.{◌≡◌, ◌≢◌, ℕ, ◌+◌, ◌-◌, ◌<◌, ◌≤◌, true, Result, Err, List, [], ◌∷◌, ◌++◌, length, take, drop, Option, ◌⊎◌, inl, inr, refl, sym, ◌∙◌, ap, subst, arith, append_assoc, append-nil, length-append}
-use Rattle.std.specs.Prelude.{All}
+use Rattle.std.proofs.Common.{◌≡◌, ◌≢◌, ℕ, ◌+◌, ◌<◌, ◌≤◌, true, false, Result, Ok, Err, List, [], ◌∷◌, ◌++◌, length, take, drop, Option, ◌⊎◌, inl, inr, refl, sym, ◌∙◌, ap, subst, arith, append_assoc, append-nil, length-append}
+use Rattle.std.specs.Prelude.{All, IsTrue, is_err}
 use Rattle.std.specs.List.{flat_map}
 use Rattle.std.proofs.lemmas.Bool.{false≢true, or_parts, eqb-false}
 use Rattle.std.proofs.lemmas.List.{append_cancel_right, take-append-drop, flat_map_more, length-take-le}
 use Rattle.std.proofs.lemmas.List.Concat.{flat_map-append}
-use Rattle.std.proofs.lemmas.List.Elements.{All-nil, All-head, All-tail, All-weaker}
+use Rattle.std.proofs.lemmas.List.Elements.{All-nil, All-cons, All-append, All-head, All-tail, All-weaker}
 use Rattle.as4_flow.specs.Told.{before}
 use Rattle.as4_flow.proofs.ToldLemmas.{before_append}
 use Rattle.httparse.specs.declared.Error.{Error}
 use Rattle.httparse.specs.declared.Error.TheVariants.{HeaderName, HeaderValue, NewLine, Status, Token, TooManyHeaders, Version}
 use Rattle.httparse.specs.declared.Status.{Status as Parsed}
-use Rattle.httparse.specs.Grammar.{LineEnd, crlf, lf, print_end, Field, print_field, IsField, print_section, ReadsSection, HasNoSection, NeverHasSection, MayBecomeSection, is_token_byte, is_value_byte}
-use Rattle.httparse.specs.Spans.{SectionExceeds}
-use Rattle.httparse.proofs.PieceLemmas.{token_is_no_newline, Section_skip}
+use Rattle.httparse.specs.Grammar.{LineEnd, crlf, lf, print_end, Field, print_field, IsField, print_section, ReadsSection, HasNoSection, NeverHasSection, MayBecomeSection, AllPass, IsToken, is_token_byte, is_value_byte}
+use Rattle.httparse.specs.Outcome.{IfComplete, OnPartial, OnInvalid, OnTooManyHeaders}
+use Rattle.httparse.specs.Spans.{SectionExceeds, IsSectionOf}
+use Rattle.httparse.specs.declared.spans.HeaderSpan.{HeaderSpan}
+use Rattle.httparse.specs.declared.Status.TheVariants.{Complete, Partial}
+use Rattle.httparse.proofs.PieceLemmas.{token_is_no_newline, colon_ends_token, Section_skip}
 use Rattle.as4_http.specs.declared.limits.TheConstants.{MAX_TRAILERS}
-use Rattle.as4_http.specs.Trailers.{HasNoLf, BeginsWithLine, HasNoLineWithin, IsLine, BeginsNoLine, TakesTrailers, HasNoTrailers}
-use Rattle.as4_http.proofs.LineLemmas.{no_lf_none, no_lf_more, no_lf_append, first_line, no_line, line_from}
+use Rattle.as4_http.proofs.SplitLemmas.{split, all_front}
+use Rattle.as4_http.specs.Limits.{Limits}
+use Rattle.as4_http.specs.Refused.{MayBecome}
+use Rattle.as4_http.specs.Trailers.{HasNoLf, BeginsWithLine, IsLine, AreTrailers, BeginsNoLine, TakesTrailers, HasNoTrailers, LeavesMissing, MissesOnly}
+use Rattle.as4_http.proofs.LineLemmas.{no_lf_none, no_lf_more, no_lf_append, no_lf_front, first_line, no_line, line_longer, line_from, longer_than}
 
 -- ---- a field line and the empty line, up to their LF
 
@@ -133,25 +139,29 @@ section_starts bytes rest (g ∷ hs) last reads = (
 pub section_more : (fs hs : List Field) (last : LineEnd) → print_section (fs ++ hs) last ≡ flat_map print_field fs ++ print_section hs last
 section_more fs hs last = ap (λ (l : List ℕ). l ++ print_end last) (flat_map-append print_field fs hs) ∙ append_assoc (flat_map print_field fs) (flat_map print_field hs) (print_end last)
 
--- no line within what the limit leaves, hence no trailers within the limit
-pub none_behind : (passed : List Field) (now : List ℕ) → All IsField passed → HasNoLineWithin (MAX_TRAILERS - length (flat_map print_field passed)) now → HasNoTrailers (flat_map print_field passed ++ now)
-none_behind passed now valid none gs last rest reads =
+-- no trailers within what the limit leaves, hence none with those that have passed
+pub none_behind : (passed : List Field) (limits : Limits) (now : List ℕ) → All IsField passed → HasNoTrailers (length (flat_map print_field passed)) limits now → HasNoTrailers 0 limits (flat_map print_field passed ++ now)
+none_behind passed limits now valid none gs last rest reads =
     let skipped = Section_skip passed gs last (flat_map print_field passed ++ now) now rest (valid, refl) reads in
-    let first = section_starts now rest skipped.0 last skipped.2 in
     let long : length (print_section gs last) ≡ length (flat_map print_field passed) + length (print_section skipped.0 last) =
     ap length (ap (λ (l : List Field). print_section l last) skipped.1 ∙ section_more passed skipped.0 last) ∙ length-append (flat_map print_field passed) (print_section skipped.0 last) in
-    omega (arith, none first.0 first.1, first.2)
+    omega (arith, none skipped.0 last rest skipped.2, long)
 
 -- a line that begins no trailers
-pub none_with : (passed : List Field) (held : List ℕ) (n : ℕ) → All IsField passed → BeginsNoLine (take n held) → (more : List ℕ) → HasNoTrailers (flat_map print_field passed ++ (held ++ more))
-none_with passed held n valid none more gs last rest reads =
-    let skipped = Section_skip passed gs last (flat_map print_field passed ++ (held ++ more)) (held ++ more) rest (valid, refl) reads in
+pub none_with : (limits : Limits) (held : List ℕ) (n passed : ℕ) → BeginsNoLine (take n held) → (more : List ℕ) → HasNoTrailers passed limits (held ++ more)
+none_with limits held n passed none more gs last rest reads =
     let parts : held ++ more ≡ take n held ++ (drop n held ++ more) = ap (λ (l : List ℕ). l ++ more) (sym (take-append-drop n held)) ∙ append_assoc (take n held) (drop n held) more in
-    absurd (none (drop n held ++ more) skipped.0 last rest (skipped.2.0, sym parts ∙ skipped.2.1))
+    absurd (none (drop n held ++ more) gs last rest (reads.0, sym parts ∙ reads.1))
+
+-- a line that leaves no room for trailers within the limit
+pub none_within : (limits : Limits) (held more : List ℕ) (n passed : ℕ) → ((m : ℕ) → BeginsWithLine (held ++ more) m → n ≤ m) → limits.trailers < passed + n → HasNoTrailers passed limits (held ++ more)
+none_within limits held more n passed least over gs last rest reads =
+    let first = section_starts (held ++ more) rest gs last reads in
+    omega (arith, least first.0 first.1, first.2, over)
 
 -- the empty line behind the lines that have passed
-pub takes_all : (passed : List Field) (end : LineEnd) (line held : List ℕ) (start left : Option (List ℕ)) (n : ℕ) → All IsField passed → start ≡ before (flat_map print_field passed) (before held left) → line ≡ take n held → line ≡ print_end end → n ≤ MAX_TRAILERS - length (flat_map print_field passed) → n ≤ length held → length (flat_map print_field passed) ≤ MAX_TRAILERS → TakesTrailers start (before (drop n held) left)
-takes_all passed end line held start left n valid so_far line_is empty few within fits =
+pub takes_all : (passed : List Field) (end : LineEnd) (line held : List ℕ) (start left : Option (List ℕ)) (n : ℕ) → All IsField passed → start ≡ before (flat_map print_field passed) (before held left) → line ≡ take n held → line ≡ print_end end → length (flat_map print_field passed) + n ≤ MAX_TRAILERS → n ≤ length held → TakesTrailers start (before (drop n held) left)
+takes_all passed end line held start left n valid so_far line_is empty few within =
     let whole : held ≡ print_end end ++ drop n held = sym (take-append-drop n held) ∙ ap (λ (l : List ℕ). l ++ drop n held) (sym line_is ∙ empty) in
     let count : length (print_end end) ≡ n = ap length (sym empty ∙ line_is) ∙ length-take-le n held within in record {
       fields = passed;
@@ -182,3 +192,204 @@ pub passes_count : (passed : List Field) (f : Field) (line held : List ℕ) (n :
 passes_count passed f line held n line_is field within =
     let count : length (print_field f) ≡ n = ap length (sym field ∙ line_is) ∙ length-take-le n held within in
     omega (arith, ap length (fields_more passed f), length-append (flat_map print_field passed) (print_field f))
+
+-- ---- an unended line
+
+-- bytes without an LF begin no section
+unended : (line rest : List ℕ) (gs : List Field) (last : LineEnd) → HasNoLf line → ReadsSection line gs last rest → ⊥
+unended line rest gs last none reads =
+    let first = section_starts line rest gs last reads in
+    no_line line first.1.text (drop first.0 line) none first.1.parts
+
+-- bytes without an LF are no trailers
+pub none_ended : (limits : Limits) (line : List ℕ) (passed : ℕ) → HasNoLf line → HasNoTrailers passed limits line
+none_ended limits line passed none gs last rest reads = absurd (unended line rest gs last none reads)
+
+-- where the parser takes them, they may become trailers
+pub unended_may : (line : List ℕ) (headers : List HeaderSpan) (r : Result (Parsed (ℕ × ℕ)) Error) → is_err r ≡ false → HasNoLf line → IfComplete r (IsSectionOf line 0 headers) → OnPartial r (MayBecomeSection line) → MayBecomeSection line
+unended_may line headers (Ok (Complete x)) taken none complete may = absurd (unended line _ complete.0 complete.1 none complete.2.reads)
+unended_may line headers (Ok Partial) taken none complete may = may
+unended_may line headers (Err e) taken none complete may = absurd (false≢true (sym taken))
+
+-- the parser finds no second field line in it
+unended_exceeds : (line : List ℕ) → HasNoLf line → SectionExceeds 1 line → ⊥
+unended_exceeds line none over = go over.3 over.4 over.5
+  where
+    go : (fields : List Field) → ReadsSection (over.0 ++ print_end lf) fields lf [] → 1 < length fields → ⊥
+    go [] reads many = omega arith
+    go (f ∷ []) reads many = omega arith
+    go (f ∷ g ∷ fs) reads many =
+        let valid : IsField f = All-head IsField f (g ∷ fs) reads.0 in
+        let front : HasNoLf over.0 = no_lf_front over.0 over.1 (subst HasNoLf over.2 none) in
+        let nothing : [] ≡ print_section (g ∷ fs) lf ++ [] = (first_line over.0 (field_text f) [] (print_section (g ∷ fs) lf ++ []) front (no_lf_field f valid) (reads.1 ∙ section_first f (g ∷ fs) lf [])).1 in
+        no_section_nil (g ∷ fs) lf [] (All-tail IsField f (g ∷ fs) reads.0, nothing)
+
+-- an error of the parser is about its bytes
+pub unended_err : (line : List ℕ) (error : Error) → HasNoLf line → (error ≢ TooManyHeaders → NeverHasSection line) → (◌≡◌ {A = Result (Parsed (ℕ × ℕ)) Error} (Err error) (Err TooManyHeaders) → SectionExceeds 1 line) → NeverHasSection line
+unended_err line TooManyHeaders none never over = absurd (unended_exceeds line none (over refl))
+unended_err line HeaderName none never over = never (λ is. cc)
+unended_err line HeaderValue none never over = never (λ is. cc)
+unended_err line NewLine none never over = never (λ is. cc)
+unended_err line Status none never over = never (λ is. cc)
+unended_err line Token none never over = never (λ is. cc)
+unended_err line Version none never over = never (λ is. cc)
+
+-- where the parser refuses it, it begins no trailers
+pub unended_bad : (line : List ℕ) (passed : ℕ) (r : Result (Parsed (ℕ × ℕ)) Error) → is_err r ≡ true → HasNoLf line → OnInvalid r (NeverHasSection line) → OnTooManyHeaders r (SectionExceeds 1 line) → (more : List ℕ) (limits : Limits) → HasNoTrailers passed limits (line ++ more)
+unended_bad line passed (Ok found) err none never over = absurd (false≢true err)
+unended_bad line passed (Err error) err none never over = λ more limits gs last rest reads. absurd (unended_err line error none never over more gs last rest reads)
+
+-- at least an LF is missing
+pub missing_one : (line : List ℕ) → HasNoLf line → LeavesMissing line 1
+missing_one line none more gs last rest reads =
+    let first = section_starts (line ++ more) rest gs last reads in
+    omega (arith, line_longer line more first.0 none first.1, first.2)
+
+-- it is no front of the empty line
+not_empty : (line more rest : List ℕ) (last : LineEnd) → HasNoLf line → line ≢ [] → line ≢ 13 ∷ [] → line ++ more ≡ cr_of last ++ 10 ∷ rest → ⊥
+not_empty [] more rest last none some other is = some refl
+not_empty (b ∷ line) more rest lf none some other is = let same : b ≡ 10 = cc in no_line (b ∷ line) [] line none (cc same)
+not_empty (b ∷ []) more rest crlf none some other is = let same : b ≡ 13 = cc in other (cc same)
+not_empty (b ∷ c ∷ line) more rest crlf none some other is = let same : c ≡ 10 = cc in no_line (b ∷ c ∷ line) (b ∷ []) line none (cc same)
+
+-- a field line and the empty line behind it
+field_long : (g : Field) (hs : List Field) (last : LineEnd) → length (field_text g) + 1 + length (print_end last) ≤ length (print_section (g ∷ hs) last)
+field_long g hs last = omega (arith, ap length (field_is g), length-append (field_text g) (10 ∷ []), length-append (print_field g) (flat_map print_field hs), length-append (print_field g ++ flat_map print_field hs) (print_end last))
+
+end_long : (last : LineEnd) → 1 ≤ length (print_end last)
+end_long crlf = omega arith
+end_long lf = omega arith
+
+-- where it isn't the empty line, that too
+pub missing_two : (line : List ℕ) → HasNoLf line → line ≢ [] → line ≢ 13 ∷ [] → LeavesMissing line 2
+missing_two line none some other more [] last rest reads = absurd (not_empty line more rest last none some other (reads.1 ∙ section_only last rest))
+missing_two line none some other more (g ∷ hs) last rest reads =
+    let longer = line_longer line more (length (field_text g) + 1) none (line_from (line ++ more) (field_text g) (print_section hs last ++ rest) (no_lf_field g (All-head IsField g hs reads.0)) (reads.1 ∙ section_first g hs last rest)) in
+    omega (arith, longer, field_long g hs last, end_long last)
+
+-- and where it has no colon, that too
+pub missing_three : (line : List ℕ) → HasNoLf line → line ≢ [] → line ≢ 13 ∷ [] → All (λ b. b ≢ 58) line → LeavesMissing line 3
+missing_three line none some other colon more [] last rest reads = absurd (not_empty line more rest last none some other (reads.1 ∙ section_only last rest))
+missing_three line none some other colon more (g ∷ hs) last rest reads =
+    let parts : line ++ more ≡ g.name ++ 58 ∷ ((g.raw ++ cr_of g.end) ++ 10 ∷ (print_section hs last ++ rest)) = reads.1 ∙ section_first g hs last rest ∙ append_assoc g.name (58 ∷ (g.raw ++ cr_of g.end)) (10 ∷ (print_section hs last ++ rest)) in
+    omega (arith, longer_than 58 line g.name more _ colon parts, length-append g.name (58 ∷ (g.raw ++ cr_of g.end)), field_long g hs last, end_long last)
+
+-- trailers behind field lines that have passed
+pub whole_behind : (passed : List Field) (n : ℕ) → All IsField passed → length (flat_map print_field passed) ≡ n → (rest : List ℕ) → AreTrailers n rest → MayBecome (AreTrailers 0) (flat_map print_field passed ++ rest)
+whole_behind passed n valid count rest whole = (
+  [],
+  record {
+    fields = passed ++ whole.fields;
+    last = whole.last;
+    reads = (
+      All-append IsField passed whole.fields valid whole.reads.0,
+      append-nil (flat_map print_field passed ++ rest) ∙ ap (λ (l : List ℕ). flat_map print_field passed ++ l) (whole.reads.1 ∙ append-nil (print_section whole.fields whole.last)) ∙ sym (section_more passed whole.fields whole.last) ∙ sym (append-nil (print_section (passed ++ whole.fields) whole.last)),
+    );
+    small = omega (arith, whole.small, count, ap length (append-nil (flat_map print_field passed ++ rest)), length-append (flat_map print_field passed) rest);
+  },
+)
+
+-- ---- what is missing of an unended line
+
+abbrev made : List ℕ → List ℕ → LineEnd → Field
+made name raw end = record { name = name; raw = raw; end = end }
+
+-- a field line that is ended, and the empty line
+one_field : (line more : List ℕ) (f : Field) → IsField f → line ++ more ≡ print_field f ++ print_end lf → MissesOnly line (length more)
+one_field line more f valid is = (more, f ∷ [], lf, refl, (All-cons IsField f [] valid (All-nil IsField), is ∙ ap (λ (l : List ℕ). l ++ print_end lf) (sym (append-nil (print_field f))) ∙ sym (append-nil (print_section (f ∷ []) lf))))
+
+-- a front of a name, a name and a front of a value, and a value with its CR
+name_misses : (line : List ℕ) → IsToken line → MissesOnly line 3
+name_misses line token = one_field line (58 ∷ 10 ∷ 10 ∷ []) (made line [] lf) (record { name = token; raw = All-nil (λ b. IsTrue (is_value_byte b)) })
+    (sym (append_assoc (line ++ 58 ∷ []) (10 ∷ []) (10 ∷ []) ∙ append_assoc line (58 ∷ []) (10 ∷ 10 ∷ [])))
+
+value_misses : (line name raw : List ℕ) → IsToken name → AllPass is_value_byte raw → line ≡ name ++ 58 ∷ raw → MissesOnly line 2
+value_misses line name raw token value is = one_field line (10 ∷ 10 ∷ []) (made name raw lf) (record { name = token; raw = value })
+    (ap (λ (l : List ℕ). l ++ 10 ∷ 10 ∷ []) is ∙ sym (append_assoc (name ++ 58 ∷ raw) (10 ∷ []) (10 ∷ [])))
+
+cr_misses : (line name raw : List ℕ) → IsToken name → AllPass is_value_byte raw → line ≡ name ++ 58 ∷ (raw ++ 13 ∷ []) → MissesOnly line 2
+cr_misses line name raw token value is = one_field line (10 ∷ 10 ∷ []) (made name raw crlf) (record { name = token; raw = value })
+    (ap (λ (l : List ℕ). l ++ 10 ∷ 10 ∷ []) (is ∙ sym (append_assoc name (58 ∷ raw) (13 ∷ []))) ∙ append_assoc (name ++ 58 ∷ raw) (13 ∷ []) (10 ∷ 10 ∷ []) ∙ sym (append_assoc (name ++ 58 ∷ raw) (13 ∷ 10 ∷ []) (10 ∷ [])))
+
+-- what is missing of a line: a colon and two line ends, or two line ends behind a colon
+abbrev Misses : List ℕ → Type 0
+Misses line = (All (λ b. b ≢ 58) line × MissesOnly line 3) ⊎ ((name : List ℕ) × (raw : List ℕ) × (line ≡ name ++ 58 ∷ raw) × MissesOnly line 2)
+
+not_colon : (b : ℕ) → is_token_byte b ≡ true → b ≢ 58
+not_colon b token is = false≢true (sym colon_ends_token ∙ subst (λ (c : ℕ). is_token_byte c ≡ true) is token)
+
+-- a front of a name, of a value, and of a field line
+token_front : (name line rest : List ℕ) → IsToken name → line ≢ [] → name ≡ line ++ rest → Misses line
+token_front name [] rest token some is = absurd (some refl)
+token_front name (b ∷ line) rest token some is =
+    let bytes : AllPass is_token_byte (b ∷ line) = all_front (λ c. IsTrue (is_token_byte c)) (b ∷ line) rest (subst (λ (l : List ℕ). AllPass is_token_byte l) is token.1) in
+    inl (All-weaker (λ c. is_token_byte c ≡ true) (λ c. c ≢ 58) not_colon (b ∷ line) bytes, name_misses (b ∷ line) (omega arith, bytes))
+
+value_front : (g : Field) (line value e : List ℕ) → IsField g → line ≡ g.name ++ 58 ∷ value → g.raw ++ cr_of g.end ≡ value ++ e → MissesOnly line 2
+value_front g line value e valid is parts =
+    elim (split g.raw (cr_of g.end) value e parts) [
+      | inl within ↦ value_misses line g.name value valid.name (all_front (λ c. IsTrue (is_value_byte c)) value within.0 (subst (λ (l : List ℕ). AllPass is_value_byte l) within.1 valid.raw)) is
+      | inr on ↦ go g.end on.0 on.1 on.2
+    ]
+  where
+    go : (end : LineEnd) (h : List ℕ) → value ≡ g.raw ++ h → cr_of end ≡ h ++ e → MissesOnly line 2
+    go end [] whole cr = value_misses line g.name g.raw valid.name valid.raw (is ∙ ap (λ (l : List ℕ). g.name ++ 58 ∷ l) (whole ∙ append-nil g.raw))
+    go lf (c ∷ h) whole cr = let clash : ◌≡◌ {A = List ℕ} [] (c ∷ (h ++ e)) = cr in absurd (cc)
+    go crlf (c ∷ []) whole cr =
+        let first : c ≡ 13 = cc in
+        cr_misses line g.name g.raw valid.name valid.raw (is ∙ ap (λ (l : List ℕ). g.name ++ 58 ∷ l) whole ∙ ap (λ (b : ℕ). g.name ++ 58 ∷ (g.raw ++ b ∷ [])) first)
+    go crlf (c ∷ d ∷ h) whole cr = let clash : ◌≡◌ {A = List ℕ} [] (d ∷ (h ++ e)) = cc in absurd (cc)
+
+field_front : (g : Field) (line e : List ℕ) → IsField g → line ≢ [] → field_text g ≡ line ++ e → Misses line
+field_front g line e valid some is =
+    elim (split g.name (58 ∷ (g.raw ++ cr_of g.end)) line e is) [
+      | inl within ↦ token_front g.name line within.0 valid.name some within.1
+      | inr on ↦ go on.0 on.1 on.2
+    ]
+  where
+    go : (f : List ℕ) → line ≡ g.name ++ f → 58 ∷ (g.raw ++ cr_of g.end) ≡ f ++ e → Misses line
+    go [] whole parts = token_front g.name line [] valid.name some (sym (append-nil line ∙ whole ∙ append-nil g.name))
+    go (c ∷ value) whole parts =
+        let colon : c ≡ 58 = cc in
+        let rest : g.raw ++ cr_of g.end ≡ value ++ e = cc in
+        let line_is : line ≡ g.name ++ 58 ∷ value = whole ∙ ap (λ (b : ℕ). g.name ++ b ∷ value) colon in
+        inr (g.name, value, line_is, value_front g line value e valid line_is rest)
+
+-- a line that may become trailers misses one or the other
+pub misses : (line : List ℕ) → HasNoLf line → line ≢ [] → line ≢ 13 ∷ [] → MayBecomeSection line → Misses line
+misses line none some other may = go may.1 may.3
+  where
+    ended : (g : Field) → IsField g → (e : List ℕ) → line ≡ field_text g ++ e → (rest : List ℕ) → 10 ∷ rest ≡ e ++ may.0 → Misses line
+    ended g valid [] whole rest parts = field_front g line [] valid some (sym (append-nil line ∙ whole ∙ append-nil (field_text g)))
+    ended g valid (c ∷ e) whole rest parts = let lf_is : c ≡ 10 = cc in absurd (no_line line (field_text g) e none (whole ∙ ap (λ (b : ℕ). field_text g ++ b ∷ e) lf_is))
+
+    go : (fields : List Field) → ReadsSection (line ++ may.0) fields may.2 [] → Misses line
+    go [] reads = absurd (not_empty line may.0 [] may.2 none some other (reads.1 ∙ section_only may.2 []))
+    go (g ∷ hs) reads =
+        let valid : IsField g = All-head IsField g hs reads.0 in
+        elim (split line may.0 (field_text g) (10 ∷ (print_section hs may.2 ++ [])) (reads.1 ∙ section_first g hs may.2 [])) [
+          | inr within ↦ field_front g line within.0 valid some within.1
+          | inl behind ↦ ended g valid behind.0 behind.1 (print_section hs may.2 ++ []) behind.2
+        ]
+
+-- as many bytes as are missing make it trailers
+pub enough_one : (line : List ℕ) (end : LineEnd) → line ≡ cr_of end → MissesOnly line 1
+enough_one line end is = (10 ∷ [], [], end, refl, (All-nil IsField, ap (λ (l : List ℕ). l ++ 10 ∷ []) is ∙ sym (end_is end) ∙ sym (append-nil (print_end end))))
+
+pub enough_two : (line : List ℕ) → HasNoLf line → line ≢ [] → line ≢ 13 ∷ [] → ¬ (All (λ b. b ≢ 58) line) → MayBecomeSection line → MissesOnly line 2
+enough_two line none some other colon may =
+    elim (misses line none some other may) [
+      | inl name ↦ absurd (colon name.0)
+      | inr value ↦ value.3
+    ]
+
+pub enough_three : (line : List ℕ) → HasNoLf line → line ≢ [] → line ≢ 13 ∷ [] → All (λ b. b ≢ 58) line → MayBecomeSection line → MissesOnly line 3
+enough_three line none some other colon may =
+    elim (misses line none some other may) [
+      | inl name ↦ name.1
+      | inr value ↦ absurd (omega (arith, longer_than 58 line value.0 [] value.1 colon (append-nil line ∙ value.2), ap length value.2, length-append value.0 (58 ∷ value.1)))
+    ]
+
+-- the fewest bytes that are missing leave the trailers within the limit
+pub may_trailers : (line : List ℕ) (n passed : ℕ) → MissesOnly line n → passed + (length line + n) ≤ MAX_TRAILERS → MayBecome (AreTrailers passed) line
+may_trailers line n passed only within = (only.0, record { fields = only.1; last = only.2; reads = only.4; small = omega (arith, length-append line only.0, only.3, within) })

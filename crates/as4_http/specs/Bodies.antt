@@ -4,26 +4,31 @@ use Rattle.as4_flow.specs.Told.{Told, before}
 use Rattle.as4_http.specs.Chunks.{ChunkedBody, print_chunked, joined, IsChunked, IsSmallChunked, TakesChunked}
 use Rattle.as4_http.specs.declared.framing.Framing.{Framing}
 use Rattle.as4_http.specs.declared.framing.Framing.TheVariants.{Empty, Counted, Chunked, ToEnd}
+use Rattle.as4_http.specs.Limits.{Limits, the_limits}
 use Rattle.as4_http.specs.declared.limits.TheConstants.{MAX_BODY}
 
 -- the stream is chunks of these bytes within the limits, and then the rest
-pub record BeginsChunked (stream bytes rest : List ℕ) : Type 0 where
+pub record BeginsChunked (limits : Limits) (stream bytes rest : List ℕ) : Type 0 where
   pub body : ChunkedBody
   pub valid : IsChunked body
-  pub small : IsSmallChunked body
+  pub small : IsSmallChunked limits body
   pub joins : bytes ≡ joined body.chunks
   pub reads : stream ≡ print_chunked body ++ rest
 
 -- the stream is a body of these bytes within the limits, and then the rest
-abbrev pub BeginsBody : Framing → List ℕ → List ℕ → List ℕ → Type 0
-BeginsBody Empty stream bytes rest = (bytes ≡ []) × (stream ≡ rest)
-BeginsBody (Counted n) stream bytes rest = (length bytes ≡ n) × (n ≤ MAX_BODY) × (stream ≡ bytes ++ rest)
-BeginsBody Chunked stream bytes rest = BeginsChunked stream bytes rest
-BeginsBody ToEnd stream bytes rest = (length bytes ≤ MAX_BODY) × (stream ≡ bytes) × (rest ≡ [])
+abbrev pub BeginsBody : Limits → Framing → List ℕ → List ℕ → List ℕ → Type 0
+BeginsBody limits Empty stream bytes rest = (bytes ≡ []) × (stream ≡ rest)
+BeginsBody limits (Counted n) stream bytes rest = (length bytes ≡ n) × (n ≤ limits.body) × (stream ≡ bytes ++ rest)
+BeginsBody limits Chunked stream bytes rest = BeginsChunked limits stream bytes rest
+BeginsBody limits ToEnd stream bytes rest = (length bytes ≤ limits.body) × (stream ≡ bytes) × (rest ≡ [])
 
 -- the stream doesn't begin with such a body
-abbrev pub HasNoBody : Framing → List ℕ → Type 0
-HasNoBody framing stream = (bytes rest : List ℕ) → ¬ (BeginsBody framing stream bytes rest)
+abbrev pub HasNoBody : Framing → Limits → List ℕ → Type 0
+HasNoBody framing limits stream = (bytes rest : List ℕ) → ¬ (BeginsBody limits framing stream bytes rest)
+
+-- the stream is such a body within the limits
+abbrev pub IsBody : Framing → List ℕ → Type 0
+IsBody framing stream = (bytes : List ℕ) × BeginsBody the_limits framing stream bytes []
 
 -- all that was told has gone, and it is within the limit
 pub record TakesRest (bytes : List ℕ) (old new : Option (List ℕ)) : Type 0 where
@@ -32,8 +37,8 @@ pub record TakesRest (bytes : List ℕ) (old new : Option (List ℕ)) : Type 0 w
   pub ended : Told new (λ rest. rest ≡ [])
 
 -- more bytes than a body has
-abbrev pub IsLong : List ℕ → Type 0
-IsLong bytes = MAX_BODY < length bytes
+abbrev pub IsLong : Limits → List ℕ → Type 0
+IsLong limits bytes = limits.body < length bytes
 
 -- a body within the limits has gone from the front of what was told, and nothing else; these are its bytes
 abbrev pub TakesBody : Framing → List ℕ → Option (List ℕ) → Option (List ℕ) → Type 0

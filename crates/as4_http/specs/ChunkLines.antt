@@ -1,31 +1,47 @@
 -- The line before a chunk, and the CRLF behind it (RFC 9112, section 7.1).
-use Rattle.std.specs.Prelude.{◌≡◌, ◌≢◌, ℕ, ◌≤◌, List, ◌∷◌, length, Option}
+use Rattle.std.specs.Prelude.{◌≡◌, ◌≢◌, ℕ, ◌+◌, ◌<◌, ◌≤◌, ◌==◌, if◌then◌else◌, List, [], ◌∷◌, length, get_or, Option}
 use Rattle.as4_flow.specs.Told.{before}
 use Rattle.httparse.specs.Grammar.{ChunkLine, IsChunkLine, print_chunk_line, ReadsChunkLine, chunk_size}
-use Rattle.as4_http.specs.declared.limits.TheConstants.{MAX_CHUNK_LINE}
+use Rattle.as4_http.specs.Limits.{Limits, the_limits}
 
 -- the line is within the limit
-abbrev pub IsShortLine : ChunkLine → Type 0
-IsShortLine line = length (print_chunk_line line) ≤ MAX_CHUNK_LINE
+abbrev pub IsShortLine : Limits → ChunkLine → Type 0
+IsShortLine limits line = length (print_chunk_line line) ≤ limits.line
 
 -- the bytes are a line within the limit that says this size, and then the rest
-pub record BeginsLine (bytes rest : List ℕ) (size : ℕ) : Type 0 where
+pub record BeginsLine (limits : Limits) (bytes rest : List ℕ) (size : ℕ) : Type 0 where
   pub line : ChunkLine
   pub reads : ReadsChunkLine bytes line rest
-  pub short : IsShortLine line
+  pub short : IsShortLine limits line
   pub says : size ≡ chunk_size line
 
--- the bytes don't begin with such a line
-abbrev pub HasNoLine : List ℕ → Type 0
-HasNoLine bytes = (rest : List ℕ) (size : ℕ) → ¬ (BeginsLine bytes rest size)
+-- the bytes begin with no such line whose chunk leaves the body within the limit, behind so many bytes of it
+abbrev pub HasNoLine : ℕ → Limits → List ℕ → Type 0
+HasNoLine passed limits bytes = (rest : List ℕ) (size : ℕ) → BeginsLine limits bytes rest size → limits.body < passed + size
+
+-- the fewest bytes that end a line: its last byte may be the CR
+abbrev pub shortest_end : List ℕ → List ℕ
+shortest_end [] = 48 ∷ 13 ∷ 10 ∷ []
+shortest_end (b ∷ bytes) = if get_or (b ∷ bytes) (length bytes) 0 == 13 then 10 ∷ [] else 13 ∷ 10 ∷ []
 
 -- such a line has gone from the front of what was told, and nothing else
 pub record TakesLine (old new : Option (List ℕ)) (size : ℕ) : Type 0 where
   pub line : ChunkLine
   pub valid : IsChunkLine line
-  pub short : IsShortLine line
+  pub short : IsShortLine the_limits line
   pub says : size ≡ chunk_size line
   pub taken : old ≡ before (print_chunk_line line) new
+
+-- the bytes are a line within the limit, whose chunk leaves the body within its limit, behind so many bytes of it
+pub record IsWholeLine (passed : ℕ) (bytes : List ℕ) : Type 0 where
+  pub line : ChunkLine
+  pub valid : IsChunkLine line
+  pub short : IsShortLine the_limits line
+  pub room : passed + chunk_size line ≤ the_limits.body
+  pub is : bytes ≡ print_chunk_line line
+
+abbrev pub IsCrlf : List ℕ → Type 0
+IsCrlf bytes = bytes ≡ 13 ∷ 10 ∷ []
 
 -- the bytes don't begin with CRLF
 abbrev pub HasNoCrlf : List ℕ → Type 0

@@ -4,7 +4,7 @@ use Rattle.std.specs.List.{flat_map}
 use Rattle.as4_flow.specs.Told.{before}
 use Rattle.httparse.specs.Grammar.{LineEnd, Field, IsField, print_section, ChunkLine, IsChunkLine, print_chunk_line, chunk_size}
 use Rattle.as4_http.specs.ChunkLines.{IsShortLine}
-use Rattle.as4_http.specs.declared.limits.TheConstants.{MAX_TRAILERS, MAX_BODY}
+use Rattle.as4_http.specs.Limits.{Limits, the_limits}
 
 pub record Chunk : Type 0 where
   pub line : ChunkLine
@@ -20,8 +20,8 @@ pub record IsChunk (chunk : Chunk) : Type 0 where
   pub some : 0 < length chunk.bytes
   pub size : chunk_size chunk.line ≡ length chunk.bytes
 
-abbrev pub IsShortChunk : Chunk → Type 0
-IsShortChunk chunk = IsShortLine chunk.line
+abbrev pub IsShortChunk : Limits → Chunk → Type 0
+IsShortChunk limits chunk = IsShortLine limits chunk.line
 
 -- the chunks, the line behind the last, and the trailers
 pub record ChunkedBody : Type 0 where
@@ -48,23 +48,23 @@ pub record IsChunked (body : ChunkedBody) : Type 0 where
   pub trailers : All IsField body.trailers
 
 -- each part is within its limit
-pub record IsSmallChunked (body : ChunkedBody) : Type 0 where
-  pub lines : All IsShortChunk body.chunks
-  pub last : IsShortLine body.last
-  pub trailers : length (print_section body.trailers body.end) ≤ MAX_TRAILERS
-  pub bytes : length (joined body.chunks) ≤ MAX_BODY
+pub record IsSmallChunked (limits : Limits) (body : ChunkedBody) : Type 0 where
+  pub lines : All (IsShortChunk limits) body.chunks
+  pub last : IsShortLine limits body.last
+  pub trailers : length (print_section body.trailers body.end) ≤ limits.trailers
+  pub bytes : length (joined body.chunks) ≤ limits.body
 
 -- such a body within the limits has gone from the front of what was told, and nothing else; these are its bytes
 pub record TakesChunked (bytes : List ℕ) (old new : Option (List ℕ)) : Type 0 where
   pub body : ChunkedBody
   pub valid : IsChunked body
-  pub small : IsSmallChunked body
+  pub small : IsSmallChunked the_limits body
   pub joins : bytes ≡ joined body.chunks
   pub taken : old ≡ before (print_chunked body) new
 
 -- the stream doesn't begin with such a body
-abbrev pub HasNoChunked : List ℕ → Type 0
-HasNoChunked stream = (body : ChunkedBody) (rest : List ℕ) → IsChunked body → IsSmallChunked body → stream ≢ print_chunked body ++ rest
+abbrev pub HasNoChunked : Limits → List ℕ → Type 0
+HasNoChunked limits stream = (body : ChunkedBody) (rest : List ℕ) → IsChunked body → IsSmallChunked limits body → stream ≢ print_chunked body ++ rest
 
 -- so many bytes and CRLF have gone from the front of what was told, and the bytes went behind the old ones
 pub record TakesChunk (size : ℕ) (bytes more : List ℕ) (old new : Option (List ℕ)) : Type 0 where
@@ -76,3 +76,14 @@ pub record TakesChunk (size : ℕ) (bytes more : List ℕ) (old new : Option (Li
 -- the stream doesn't begin with so many bytes and CRLF
 abbrev pub HasNoChunk : ℕ → List ℕ → Type 0
 HasNoChunk size stream = (piece rest : List ℕ) → length piece ≡ size → stream ≢ piece ++ 13 ∷ 10 ∷ rest
+
+-- the stream is such a body within the limits
+pub record IsWholeChunked (stream : List ℕ) : Type 0 where
+  pub body : ChunkedBody
+  pub valid : IsChunked body
+  pub small : IsSmallChunked the_limits body
+  pub is : stream ≡ print_chunked body
+
+-- the stream is so many bytes and CRLF
+abbrev pub IsWholeChunk : ℕ → List ℕ → Type 0
+IsWholeChunk size stream = (piece : List ℕ) × (length piece ≡ size) × (stream ≡ piece ++ 13 ∷ 10 ∷ [])

@@ -5,6 +5,7 @@ pub mod Chunks
 pub mod Connection
 pub mod Fields
 pub mod Framing
+pub mod Limits
 pub mod Methods
 pub mod ReadBack
 pub mod Refused

@@ -2,13 +2,13 @@
 use Rattle.std.specs.Prelude.{◌≡◌, ℕ, ◌≤◌, ◌==◌, ◌&&◌, not, List, length, map, codes, Option}
 use Rattle.std.specs.Option.{option_to_list}
 use Rattle.as4_flow.specs.Told.{before}
-use Rattle.httparse.specs.Grammar.{RequestHead, IsRequestHead, print_request, ReadsRequest}
+use Rattle.httparse.specs.Grammar.{RequestHead, IsRequestHead, print_request, ReadsRequest, HasNoRequest, MayBecomeRequest}
 use Rattle.httparse.specs.Spans.{name_and_value}
 use Rattle.as4_http.specs.Connection.{closes}
 use Rattle.as4_http.specs.Fields.{values_in}
 use Rattle.as4_http.specs.Framing.{FramesAs}
 use Rattle.as4_http.specs.Methods.{method_text}
-use Rattle.as4_http.specs.declared.limits.TheConstants.{MAX_HEAD, MAX_FIELDS}
+use Rattle.as4_http.specs.Limits.{Limits, the_limits}
 use Rattle.as4_http.specs.declared.framing.Framing.TheVariants.{Empty}
 use Rattle.as4_http.specs.declared.request_start.RequestStart.{RequestStart}
 
@@ -23,25 +23,31 @@ pub record SaysRequest (head : RequestHead) (start : RequestStart) : Type 0 wher
   pub kept : start.kept ≡ ((head.minor == 1) && not (closes (map name_and_value head.fields)))
 
 -- the head is within the limits
-pub record IsSmallRequest (head : RequestHead) : Type 0 where
-  pub bytes : length (print_request head) ≤ MAX_HEAD
-  pub fields : length head.fields ≤ MAX_FIELDS
+pub record IsSmallRequest (limits : Limits) (head : RequestHead) : Type 0 where
+  pub bytes : length (print_request head) ≤ limits.head
+  pub fields : length head.fields ≤ limits.fields
 
 -- the bytes are a head within the limits that says this, and then the rest
-pub record BeginsRequestHead (bytes rest : List ℕ) (start : RequestStart) : Type 0 where
+pub record BeginsRequestHead (limits : Limits) (bytes rest : List ℕ) (start : RequestStart) : Type 0 where
   pub head : RequestHead
   pub reads : ReadsRequest bytes head rest
-  pub small : IsSmallRequest head
+  pub small : IsSmallRequest limits head
   pub says : SaysRequest head start
 
 -- the bytes don't begin with such a head
-abbrev pub HasNoRequestHead : List ℕ → Type 0
-HasNoRequestHead bytes = (rest : List ℕ) (start : RequestStart) → ¬ (BeginsRequestHead bytes rest start)
+abbrev pub HasNoRequestHead : Limits → List ℕ → Type 0
+HasNoRequestHead limits bytes = (rest : List ℕ) (start : RequestStart) → ¬ (BeginsRequestHead limits bytes rest start)
+
+-- the bytes end inside a head: they have none, more bytes may make them one, and they are no longer than one may be
+pub record EndsInRequestHead (bytes : List ℕ) : Type 0 where
+  pub none : HasNoRequest bytes
+  pub may : MayBecomeRequest bytes
+  pub few : length bytes ≤ the_limits.head
 
 -- such a head has gone from the front of what was told, and nothing else
 pub record TakesRequestHead (old new : Option (List ℕ)) (start : RequestStart) : Type 0 where
   pub head : RequestHead
   pub valid : IsRequestHead head
-  pub small : IsSmallRequest head
+  pub small : IsSmallRequest the_limits head
   pub says : SaysRequest head start
   pub taken : old ≡ before (print_request head) new

@@ -2,11 +2,11 @@
 use Rattle.std.specs.Prelude.{◌≡◌, ℕ, ◌≤◌, ◌==◌, ◌||◌, List, if◌then◌else◌, length, map, codes, Option}
 use Rattle.std.specs.Option.{option_to_list}
 use Rattle.as4_flow.specs.Told.{before}
-use Rattle.httparse.specs.Grammar.{ResponseHead, IsResponseHead, print_response, ReadsResponse, status_code}
+use Rattle.httparse.specs.Grammar.{ResponseHead, IsResponseHead, print_response, ReadsResponse, HasNoResponse, MayBecomeResponse, status_code}
 use Rattle.httparse.specs.Spans.{name_and_value}
 use Rattle.as4_http.specs.Fields.{values_in}
 use Rattle.as4_http.specs.Framing.{FramesAs}
-use Rattle.as4_http.specs.declared.limits.TheConstants.{MAX_HEAD, MAX_FIELDS}
+use Rattle.as4_http.specs.Limits.{Limits, the_limits}
 use Rattle.as4_http.specs.declared.framing.Framing.{Framing}
 use Rattle.as4_http.specs.declared.framing.Framing.TheVariants.{Empty, ToEnd}
 use Rattle.as4_http.specs.declared.response_start.ResponseStart.{ResponseStart}
@@ -26,25 +26,31 @@ pub record SaysResponse (head : ResponseHead) (start : ResponseStart) : Type 0 w
   pub framing : start.framing ≡ framing_at start.status said
 
 -- the head is within the limits
-pub record IsSmallResponse (head : ResponseHead) : Type 0 where
-  pub bytes : length (print_response head) ≤ MAX_HEAD
-  pub fields : length head.fields ≤ MAX_FIELDS
+pub record IsSmallResponse (limits : Limits) (head : ResponseHead) : Type 0 where
+  pub bytes : length (print_response head) ≤ limits.head
+  pub fields : length head.fields ≤ limits.fields
 
 -- the bytes are a head within the limits that says this, and then the rest
-pub record BeginsResponseHead (bytes rest : List ℕ) (start : ResponseStart) : Type 0 where
+pub record BeginsResponseHead (limits : Limits) (bytes rest : List ℕ) (start : ResponseStart) : Type 0 where
   pub head : ResponseHead
   pub reads : ReadsResponse bytes head rest
-  pub small : IsSmallResponse head
+  pub small : IsSmallResponse limits head
   pub says : SaysResponse head start
 
 -- the bytes don't begin with such a head
-abbrev pub HasNoResponseHead : List ℕ → Type 0
-HasNoResponseHead bytes = (rest : List ℕ) (start : ResponseStart) → ¬ (BeginsResponseHead bytes rest start)
+abbrev pub HasNoResponseHead : Limits → List ℕ → Type 0
+HasNoResponseHead limits bytes = (rest : List ℕ) (start : ResponseStart) → ¬ (BeginsResponseHead limits bytes rest start)
+
+-- the bytes end inside a head: they have none, more bytes may make them one, and they are no longer than one may be
+pub record EndsInResponseHead (bytes : List ℕ) : Type 0 where
+  pub none : HasNoResponse bytes
+  pub may : MayBecomeResponse bytes
+  pub few : length bytes ≤ the_limits.head
 
 -- such a head has gone from the front of what was told, and nothing else
 pub record TakesResponseHead (old new : Option (List ℕ)) (start : ResponseStart) : Type 0 where
   pub head : ResponseHead
   pub valid : IsResponseHead head
-  pub small : IsSmallResponse head
+  pub small : IsSmallResponse the_limits head
   pub says : SaysResponse head start
   pub taken : old ≡ before (print_response head) new

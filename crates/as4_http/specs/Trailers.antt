@@ -2,6 +2,7 @@
 use Rattle.std.specs.Prelude.{◌≡◌, ◌≢◌, ℕ, ◌+◌, ◌<◌, ◌≤◌, Bool, true, false, List, [], ◌∷◌, ◌++◌, length, drop, Option, All}
 use Rattle.as4_flow.specs.Told.{before}
 use Rattle.httparse.specs.Grammar.{LineEnd, print_end, Field, print_field, IsField, print_section, ReadsSection}
+use Rattle.as4_http.specs.Limits.{Limits}
 use Rattle.as4_http.specs.declared.limits.TheConstants.{MAX_TRAILERS}
 
 -- no byte is an LF
@@ -14,10 +15,6 @@ pub record BeginsWithLine (bytes : List ℕ) (n : ℕ) : Type 0 where
   pub one : HasNoLf text
   pub count : length text + 1 ≡ n
   pub parts : bytes ≡ text ++ 10 ∷ drop n bytes
-
--- the bytes begin with no line of so many bytes or fewer
-abbrev pub HasNoLineWithin : ℕ → List ℕ → Type 0
-HasNoLineWithin most bytes = (n : ℕ) → BeginsWithLine bytes n → most < n
 
 -- the bytes are one line
 pub record IsLine (line : List ℕ) : Type 0 where
@@ -42,6 +39,21 @@ pub record TakesTrailers (old new : Option (List ℕ)) : Type 0 where
   pub small : length (print_section fields last) ≤ MAX_TRAILERS
   pub taken : old ≡ before (print_section fields last) new
 
--- the bytes don't begin with trailers within the limit
-abbrev pub HasNoTrailers : List ℕ → Type 0
-HasNoTrailers bytes = (fields : List Field) (last : LineEnd) (rest : List ℕ) → ReadsSection bytes fields last rest → MAX_TRAILERS < length (print_section fields last)
+-- the bytes begin with no trailers within the limit, of which so many bytes stand before them
+abbrev pub HasNoTrailers : ℕ → Limits → List ℕ → Type 0
+HasNoTrailers passed limits bytes = (fields : List Field) (last : LineEnd) (rest : List ℕ) → ReadsSection bytes fields last rest → limits.trailers < passed + length (print_section fields last)
+
+-- trailers that begin with these bytes have at least n more
+abbrev pub LeavesMissing : List ℕ → ℕ → Type 0
+LeavesMissing line n = (more : List ℕ) (fields : List Field) (last : LineEnd) (rest : List ℕ) → ReadsSection (line ++ more) fields last rest → length line + n ≤ length (print_section fields last)
+
+-- the bytes are trailers, and with those that stand before them they are within the limit
+pub record AreTrailers (passed : ℕ) (bytes : List ℕ) : Type 0 where
+  pub fields : List Field
+  pub last : LineEnd
+  pub reads : ReadsSection bytes fields last []
+  pub small : passed + length bytes ≤ MAX_TRAILERS
+
+-- n more bytes make these trailers
+abbrev pub MissesOnly : List ℕ → ℕ → Type 0
+MissesOnly line n = (more : List ℕ) × (fields : List Field) × (last : LineEnd) × (length more ≡ n) × ReadsSection (line ++ more) fields last []

@@ -1,9 +1,9 @@
 //! A body, as its head frames it (RFC 9112, section 6.3).
-ghost use Rattle.std.specs.Prelude.{◌≡◌, [], ◌≤◌, IfOk, OnOk, IsErrOf};
+ghost use Rattle.std.specs.Prelude.{◌≡◌, [], ◌≤◌, IfOk, OnOk, IfErr, IsErrOf};
 ghost use Rattle.as4_flow.specs.Faults.{Rose};
 ghost use Rattle.as4_flow.specs.Told.{Told, before};
-ghost use Rattle.as4_http.specs.Bodies.{TakesBody, HasNoBody, TakesRest, IsLong};
-ghost use Rattle.as4_http.specs.Refused.{OnRefused};
+ghost use Rattle.as4_http.specs.Bodies.{TakesBody, HasNoBody, IsBody, TakesRest, IsLong};
+ghost use Rattle.as4_http.specs.Refused.{Refuses, MayBecome};
 
 use crate::chunks::take_chunks;
 use crate::counted::take_bytes;
@@ -22,7 +22,7 @@ pub(crate) fn take_body<S: Source>(
 ) -> Result<Octets, HttpRefusal>
     ensures ok { IfOk result (λ body. TakesBody framing body
         (before intake.old (S.left source.old)) (before intake.new (S.left source.new))) }
-    ensures none { OnRefused result (Told (before intake.old (S.left source.old)) (HasNoBody framing)) }
+    ensures refused { IfErr result (Refuses (HasNoBody framing) (MayBecome (IsBody framing)) (before intake.old (S.left source.old)) (S.left source.new)) }
     ensures cut { IsErrOf result HttpRefusal.Cut → Told (S.left source.new) (λ bytes. bytes ≡ []) }
     ensures fault { IsErrOf result HttpRefusal.ReadFault → Rose (S.faults source.old) (S.faults source.new) }
     ensures quiet { ¬ IsErrOf result HttpRefusal.ReadFault → S.faults source.new ≡ S.faults source.old }
@@ -48,7 +48,7 @@ fn take_rest<S: Source>(
     requires { body.old ≡ [] }
     ensures ok { OnOk result (TakesRest body.new
         (before intake.old (S.left source.old)) (before intake.new (S.left source.new))) }
-    ensures none { OnRefused result (Told (before intake.old (S.left source.old)) IsLong) }
+    ensures refused { IfErr result (Refuses IsLong (λ _. ⊥) (before intake.old (S.left source.old)) (S.left source.new)) }
     ensures cut { IsErrOf result HttpRefusal.Cut → Told (S.left source.new) (λ bytes. bytes ≡ []) }
     ensures fault { IsErrOf result HttpRefusal.ReadFault → Rose (S.faults source.old) (S.faults source.new) }
     ensures quiet { ¬ IsErrOf result HttpRefusal.ReadFault → S.faults source.new ≡ S.faults source.old }

@@ -1,38 +1,45 @@
 //! The line before a chunk, and the CRLF behind it (RFC 9112, section 7.1).
-ghost use Rattle.std.specs.Prelude.{◌≡◌, ◌≤◌, [], ◌∷◌, IfOk, OnOk, IsErrOf};
+ghost use Rattle.std.specs.Prelude.{◌≡◌, ◌≢◌, ℕ, ◌+◌, ◌<◌, ◌≤◌, List, [], ◌∷◌, ◌++◌, length, IfOk, OnOk, IfErr, IsErrOf};
+ghost use Rattle.httparse.specs.Grammar.{HasNoChunkLine, MayBecomeChunkLine};
 ghost use Rattle.as4_flow.specs.Faults.{Rose};
 ghost use Rattle.as4_flow.specs.Told.{Told, before};
-ghost use Rattle.as4_http.specs.ChunkLines.{TakesLine, HasNoLine, HasNoCrlf};
-ghost use Rattle.as4_http.specs.Refused.{IsShortage, OnRefused};
+ghost use Rattle.as4_http.specs.ChunkLines.{TakesLine, HasNoLine, IsWholeLine, IsCrlf, HasNoCrlf, shortest_end};
+ghost use Rattle.as4_http.specs.Refused.{IsDenial, MayBecome, Refuses, Denies};
 
 use crate::intake::Intake;
-use crate::{HttpRefusal, MAX_CHUNK_LINE};
+use crate::{HttpRefusal, MAX_BODY, MAX_CHUNK_LINE};
 use as4_flow::Source;
 use httparse::{Status, parse_chunk_size};
 
-/// Takes the line before a chunk off the stream, and gives the size that it says. For `room` bytes there is room
-/// in the body.
+/// Takes the line before a chunk off the stream, and gives the size that it says. Behind the bytes of the body that
+/// have passed, the chunk leaves the body within its limit.
 pub(crate) fn take_line<S: Source>(
     intake: &mut Intake,
     source: &mut S,
-    room: usize,
-) -> Result<u64, HttpRefusal>
+    passed: usize,
+) -> Result<usize, HttpRefusal>
+    requires { passed ≤ MAX_BODY }
     ensures ok { IfOk result (TakesLine
         (before intake.old (S.left source.old)) (before intake.new (S.left source.new))) }
-    ensures none { OnRefused result (Told (before intake.old (S.left source.old)) HasNoLine) }
+    ensures within { IfOk result (λ size. passed + size ≤ MAX_BODY) }
+    ensures refused { IfErr result (Refuses (HasNoLine passed) (MayBecome (IsWholeLine passed)) (before intake.old (S.left source.old)) (S.left source.new)) }
     ensures cut { IsErrOf result HttpRefusal.Cut → Told (S.left source.new) (λ bytes. bytes ≡ []) }
     ensures fault { IsErrOf result HttpRefusal.ReadFault → Rose (S.faults source.old) (S.faults source.new) }
     ensures quiet { ¬ IsErrOf result HttpRefusal.ReadFault → S.faults source.new ≡ S.faults source.old }
     ensures counted { S.faults source.old ≤ S.faults source.new }
 {
+    let room = MAX_BODY - passed;
     'pieces: loop {
         match parse_chunk_size(intake.bytes()) {
             Ok(Status::Complete((len, _))) if len > MAX_CHUNK_LINE => {
                 return Err(HttpRefusal::TooLong);
             }
+            Ok(Status::Complete((_, size))) if size > room as u64 => {
+                return Err(HttpRefusal::TooLong);
+            }
             Ok(Status::Complete((len, size))) => {
                 intake.skip(len);
-                return Ok(size);
+                return Ok(size as usize);
             }
             Ok(Status::Partial) => {}
             Err(_) => return Err(HttpRefusal::Bad),
@@ -42,38 +49,63 @@ pub(crate) fn take_line<S: Source>(
         }
         match intake.fill(source) {
             Ok(_) => {}
-            Err(HttpRefusal::Cut) => return Err(unended_line(intake.bytes(), room)),
+            Err(HttpRefusal::Cut) => return Err(unended_line(intake.bytes(), passed)),
             Err(refusal) => return Err(refusal),
         }
     }
 }
 
-// What an unended line at the end of the source is: cut, where its shortest end leaves it within the limits.
-fn unended_line(line: &[u8], room: usize) -> HttpRefusal
-    ensures { IsShortage result }
+// What an unended line at the end of the source is: too long, where its shortest end doesn't leave it within its
+// limit, or says more bytes than a body has room for behind those that have passed.
+fn unended_line(line: &[u8], passed: usize) -> HttpRefusal
+    requires within { passed ≤ MAX_BODY }
+    requires none { HasNoChunkLine line.now }
+    requires may { MayBecomeChunkLine line.now }
+    requires short { length line.now ≤ MAX_CHUNK_LINE }
+    ensures denial { IsDenial result }
+    ensures denied { Denies (HasNoLine passed) line.now result }
+    ensures cut { result ≡ HttpRefusal.Cut → MayBecome (IsWholeLine passed) line.now }
 {
-    let mut ended = [0; MAX_CHUNK_LINE + 3];
-    let len = line.len().min(MAX_CHUNK_LINE);
-    ended[..len].copy_from_slice(&line[..len]);
-    let end: &[u8] = match line {
-        [] => b"0\r\n",
-        [.., b'\r'] => b"\n",
-        _ => b"\r\n",
-    };
-    ended[len..len + end.len()].copy_from_slice(end);
-    match parse_chunk_size(&ended[..len + end.len()]) {
-        Ok(Status::Complete((len, size))) if len <= MAX_CHUNK_LINE && size <= room as u64 => {
-            HttpRefusal::Cut
-        }
-        _ => HttpRefusal::TooLong,
+    let room = MAX_BODY - passed;
+    let mut room_for_line = [0; MAX_CHUNK_LINE + 3];
+    match parse_chunk_size(end_line(&mut room_for_line, line, shortest_end(line))) {
+        Ok(Status::Complete((len, _))) if len > MAX_CHUNK_LINE => HttpRefusal::TooLong,
+        Ok(Status::Complete((_, size))) if size > room as u64 => HttpRefusal::TooLong,
+        Ok(Status::Complete(_)) => HttpRefusal::Cut,
+        Ok(Status::Partial) => HttpRefusal::Cut,
+        Err(_) => HttpRefusal::Cut,
     }
+}
+
+// Writes a line and its end into the room, and gives them back.
+fn end_line<'b>(room: &'b mut [u8], line: &[u8], end: &[u8]) -> &'b [u8]
+    requires { length line.now + length end.now ≤ length room.old }
+    ensures { result.now ≡ line.now ++ end.now }
+{
+    let len = line.len() + end.len();
+    room[..line.len()].copy_from_slice(line);
+    room[line.len()..len].copy_from_slice(end);
+    &room[..len]
+}
+
+// The fewest bytes that end a line.
+fn shortest_end(line: &[u8]) -> &'static [u8]
+    ensures { result.now ≡ shortest_end line.now }
+{
+    if line.is_empty() {
+        return b"0\r\n";
+    }
+    if line[line.len() - 1] == b'\r' {
+        return b"\n";
+    }
+    b"\r\n"
 }
 
 /// Takes the CRLF behind a chunk off the stream.
 pub(crate) fn take_crlf<S: Source>(intake: &mut Intake, source: &mut S) -> Result<(), HttpRefusal>
     ensures ok { OnOk result
         (before intake.old (S.left source.old) ≡ before (13 ∷ 10 ∷ []) (before intake.new (S.left source.new))) }
-    ensures none { OnRefused result (Told (before intake.old (S.left source.old)) HasNoCrlf) }
+    ensures refused { IfErr result (Refuses (λ _. HasNoCrlf) (MayBecome IsCrlf) (before intake.old (S.left source.old)) (S.left source.new)) }
     ensures cut { IsErrOf result HttpRefusal.Cut → Told (S.left source.new) (λ bytes. bytes ≡ []) }
     ensures fault { IsErrOf result HttpRefusal.ReadFault → Rose (S.faults source.old) (S.faults source.new) }
     ensures quiet { ¬ IsErrOf result HttpRefusal.ReadFault → S.faults source.new ≡ S.faults source.old }

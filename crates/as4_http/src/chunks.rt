@@ -2,18 +2,18 @@
 //!
 //!     line   bytes   CRLF     for each chunk; the line says how many bytes there are
 //!     line   trailers         behind the last chunk; the line says 0
-ghost use Rattle.std.specs.Prelude.{◌≡◌, [], ◌≤◌, OnOk, IsErrOf};
+ghost use Rattle.std.specs.Prelude.{◌≡◌, [], ◌≤◌, OnOk, IfErr, IsErrOf};
 ghost use Rattle.as4_flow.specs.Faults.{Rose};
 ghost use Rattle.as4_flow.specs.Told.{Told, before};
-ghost use Rattle.as4_http.specs.Chunks.{TakesChunk, HasNoChunk, TakesChunked, HasNoChunked};
-ghost use Rattle.as4_http.specs.Refused.{OnRefused};
+ghost use Rattle.as4_http.specs.Chunks.{TakesChunk, HasNoChunk, TakesChunked, HasNoChunked, IsWholeChunk, IsWholeChunked};
+ghost use Rattle.as4_http.specs.Refused.{Refuses, MayBecome};
 
+use crate::HttpRefusal;
 use crate::chunk_line::{take_crlf, take_line};
 use crate::counted::take_bytes;
 use crate::gathered::Gathered;
 use crate::intake::Intake;
 use crate::trailers::take_trailers;
-use crate::{HttpRefusal, MAX_BODY};
 use as4_flow::Source;
 
 /// Takes a body in chunks off the stream, and joins its chunks.
@@ -25,22 +25,18 @@ pub(crate) fn take_chunks<S: Source>(
     requires { body.old ≡ [] }
     ensures ok { OnOk result (TakesChunked body.new
         (before intake.old (S.left source.old)) (before intake.new (S.left source.new))) }
-    ensures none { OnRefused result (Told (before intake.old (S.left source.old)) HasNoChunked) }
+    ensures refused { IfErr result (Refuses HasNoChunked (MayBecome IsWholeChunked) (before intake.old (S.left source.old)) (S.left source.new)) }
     ensures cut { IsErrOf result HttpRefusal.Cut → Told (S.left source.new) (λ bytes. bytes ≡ []) }
     ensures fault { IsErrOf result HttpRefusal.ReadFault → Rose (S.faults source.old) (S.faults source.new) }
     ensures quiet { ¬ IsErrOf result HttpRefusal.ReadFault → S.faults source.new ≡ S.faults source.old }
     ensures counted { S.faults source.old ≤ S.faults source.new }
 {
     'chunks: loop {
-        let room = MAX_BODY - body.len();
-        let size = take_line(intake, source, room)?;
+        let size = take_line(intake, source, body.len())?;
         if size == 0 {
             return take_trailers(intake, source);
         }
-        if size > room as u64 {
-            return Err(HttpRefusal::TooLong);
-        }
-        take_chunk(intake, source, body, size as usize)?;
+        take_chunk(intake, source, body, size)?;
     }
 }
 
@@ -53,7 +49,7 @@ fn take_chunk<S: Source>(
 ) -> Result<(), HttpRefusal>
     ensures ok { OnOk result (TakesChunk size body.old body.new
         (before intake.old (S.left source.old)) (before intake.new (S.left source.new))) }
-    ensures none { OnRefused result (Told (before intake.old (S.left source.old)) (HasNoChunk size)) }
+    ensures refused { IfErr result (Refuses (λ _. HasNoChunk size) (MayBecome (IsWholeChunk size)) (before intake.old (S.left source.old)) (S.left source.new)) }
     ensures cut { IsErrOf result HttpRefusal.Cut → Told (S.left source.new) (λ bytes. bytes ≡ []) }
     ensures fault { IsErrOf result HttpRefusal.ReadFault → Rose (S.faults source.old) (S.faults source.new) }
     ensures quiet { ¬ IsErrOf result HttpRefusal.ReadFault → S.faults source.new ≡ S.faults source.old }

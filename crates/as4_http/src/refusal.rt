@@ -4,11 +4,11 @@ use std::alloc::AllocError;
 /// Why no message was read.
 #[derive(Clone, Copy, Debug, PartialEq, Eq)]
 pub enum HttpRefusal {
-    /// The source has ended, and what came is the beginning of a message, or nothing.
+    /// The source has ended inside a head, or where more bytes make what came a message within the limits.
     Cut,
-    /// However the bytes went on, they would be no message.
+    /// However the bytes that were read go on, they are no message, whatever the limits.
     Bad,
-    /// A limit was passed.
+    /// However the bytes that were read go on, they are no message within the limits.
     TooLong,
     /// The source failed.
     ReadFault,

@@ -1,11 +1,12 @@
 //! The head of a request, read from a source.
-ghost use Rattle.std.specs.Prelude.{◌≡◌, [], ◌≤◌, ◌<◌, length, drop, IfOk, OnErr, IfErr, IsErrOf};
+ghost use Rattle.std.specs.Prelude.{◌≡◌, ◌≢◌, [], ◌≤◌, ◌<◌, length, drop, IfOk, OnErr, IfErr, IsErrOf};
 ghost use Rattle.as4_flow.specs.Faults.{Rose};
 ghost use Rattle.as4_flow.specs.Told.{Told, before};
 ghost use Rattle.httparse.specs.Grammar.{RequestHead};
 ghost use Rattle.httparse.specs.Spans.{IsRequestAt, IsRequestWithin, IsRequestOf};
-ghost use Rattle.as4_http.specs.Refused.{OnRefused};
-ghost use Rattle.as4_http.specs.RequestStarts.{SaysRequest, TakesRequestHead, BeginsRequestHead, HasNoRequestHead, IsSmallRequest};
+ghost use Rattle.as4_http.specs.Limits.{the_limits};
+ghost use Rattle.as4_http.specs.Refused.{Refuses, Denies};
+ghost use Rattle.as4_http.specs.RequestStarts.{SaysRequest, TakesRequestHead, BeginsRequestHead, HasNoRequestHead, EndsInRequestHead, IsSmallRequest};
 
 use crate::intake::Intake;
 use crate::request_start::{RequestStart, request_start};
@@ -21,7 +22,7 @@ pub(crate) fn read_request_head<S: Source>(
 ) -> Result<RequestStart, HttpRefusal>
     ensures ok { IfOk result (TakesRequestHead
         (before intake.old (S.left source.old)) (before intake.new (S.left source.new))) }
-    ensures none { OnRefused result (Told (before intake.old (S.left source.old)) HasNoRequestHead) }
+    ensures refused { IfErr result (Refuses HasNoRequestHead EndsInRequestHead (before intake.old (S.left source.old)) (S.left source.new)) }
     ensures cut { IsErrOf result HttpRefusal.Cut → Told (S.left source.new) (λ bytes. bytes ≡ []) }
     ensures fault { IsErrOf result HttpRefusal.ReadFault → Rose (S.faults source.old) (S.faults source.new) }
     ensures quiet { ¬ IsErrOf result HttpRefusal.ReadFault → S.faults source.new ≡ S.faults source.old }
@@ -50,8 +51,8 @@ fn take_head(
     requires within { IsRequestWithin intake.old headers.now spans.now }
     requires head { IsRequestOf intake.old headers.now spans.now }
     requires fields { length headers.now ≤ MAX_FIELDS }
-    ensures ok { IfOk result (BeginsRequestHead intake.old intake.new) }
-    ensures none { OnRefused result (HasNoRequestHead intake.old) }
+    ensures ok { IfOk result (BeginsRequestHead the_limits intake.old intake.new) }
+    ensures denied { IfErr result (Denies HasNoRequestHead intake.old) }
     ensures cause { ¬ IsErrOf result HttpRefusal.ReadFault × ¬ IsErrOf result HttpRefusal.Cut }
 {
     if spans.len > MAX_HEAD {
@@ -64,7 +65,8 @@ fn take_head(
 
 /// What an error of the parser says of the bytes.
 pub(crate) fn refusal_of(error: Error) -> HttpRefusal
-    ensures { ¬ (result ≡ HttpRefusal.ReadFault) × ¬ (result ≡ HttpRefusal.Cut) }
+    ensures too_long { error ≡ Error.TooManyHeaders → result ≡ HttpRefusal.TooLong }
+    ensures bad { error ≢ Error.TooManyHeaders → result ≡ HttpRefusal.Bad }
 {
     match error {
         Error::TooManyHeaders => HttpRefusal::TooLong,

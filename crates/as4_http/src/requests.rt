@@ -4,8 +4,8 @@ ghost use Rattle.as4_flow.specs.Faults.{Rose};
 ghost use Rattle.as4_flow.specs.Told.{Told, before};
 ghost use Rattle.as4_values.specs.Address.{has_address_form};
 ghost use Rattle.as4_http.specs.ReadBack.{IsMedia, IsWithinLimits, request_to};
-ghost use Rattle.as4_http.specs.Refused.{OnRefused};
-ghost use Rattle.as4_http.specs.Requests.{BeginsKept, BeginsRequest, HasNoRequest};
+ghost use Rattle.as4_http.specs.Refused.{OnRefused, Dooms};
+ghost use Rattle.as4_http.specs.Requests.{BeginsKept, BeginsRequest, HasNoRequest, IsNoRequest, IsCutRequest};
 ghost use Rattle.as4_http.specs.Written.{request_text};
 
 use crate::body::take_body;
@@ -22,8 +22,13 @@ impl Intake {
             Told (before r.1 (S.left source.new)) (BeginsRequest stream r.0))) }
         // Where the stream begins with a request, it isn't refused.
         ensures only { OnRefused result (Told (before self (S.left source.old)) HasNoRequest) }
+        // However the bytes go on that were read, they begin no request: whatever the limits, or within the limits.
+        ensures bad { IsErrOf result HttpRefusal.Bad → Dooms IsNoRequest (before self (S.left source.old)) (S.left source.new) }
+        ensures too_long { IsErrOf result HttpRefusal.TooLong → Dooms HasNoRequest (before self (S.left source.old)) (S.left source.new) }
 
+        // The source has ended, inside a head or where more bytes make a request within the limits.
         ensures cut { IsErrOf result HttpRefusal.Cut → Told (S.left source.new) (λ bytes. bytes ≡ []) }
+        ensures begun { IsErrOf result HttpRefusal.Cut → Told (before self (S.left source.old)) IsCutRequest }
         ensures fault { IsErrOf result HttpRefusal.ReadFault → Rose (S.faults source.old) (S.faults source.new) }
         ensures quiet { ¬ IsErrOf result HttpRefusal.ReadFault → S.faults source.new ≡ S.faults source.old }
         ensures counted { S.faults source.old ≤ S.faults source.new }
@@ -41,8 +46,11 @@ impl Intake {
         ensures found { IfOk result (λ r. Told (before self (S.left source.old)) (λ stream.
             Told (before r.2 (S.left source.new)) (BeginsKept stream r.0 r.1))) }
         ensures only { OnRefused result (Told (before self (S.left source.old)) HasNoRequest) }
+        ensures bad { IsErrOf result HttpRefusal.Bad → Dooms IsNoRequest (before self (S.left source.old)) (S.left source.new) }
+        ensures too_long { IsErrOf result HttpRefusal.TooLong → Dooms HasNoRequest (before self (S.left source.old)) (S.left source.new) }
 
         ensures cut { IsErrOf result HttpRefusal.Cut → Told (S.left source.new) (λ bytes. bytes ≡ []) }
+        ensures begun { IsErrOf result HttpRefusal.Cut → Told (before self (S.left source.old)) IsCutRequest }
         ensures fault { IsErrOf result HttpRefusal.ReadFault → Rose (S.faults source.old) (S.faults source.new) }
         ensures quiet { ¬ IsErrOf result HttpRefusal.ReadFault → S.faults source.new ≡ S.faults source.old }
         ensures counted { S.faults source.old ≤ S.faults source.new }

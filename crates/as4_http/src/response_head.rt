@@ -4,8 +4,9 @@ ghost use Rattle.as4_flow.specs.Faults.{Rose};
 ghost use Rattle.as4_flow.specs.Told.{Told, before};
 ghost use Rattle.httparse.specs.Grammar.{ResponseHead};
 ghost use Rattle.httparse.specs.Spans.{IsResponseAt, IsResponseWithin, IsResponseOf};
-ghost use Rattle.as4_http.specs.Refused.{OnRefused};
-ghost use Rattle.as4_http.specs.ResponseStarts.{SaysResponse, TakesResponseHead, BeginsResponseHead, HasNoResponseHead, IsSmallResponse};
+ghost use Rattle.as4_http.specs.Limits.{the_limits};
+ghost use Rattle.as4_http.specs.Refused.{Refuses, Denies};
+ghost use Rattle.as4_http.specs.ResponseStarts.{SaysResponse, TakesResponseHead, BeginsResponseHead, HasNoResponseHead, EndsInResponseHead, IsSmallResponse};
 
 use crate::intake::Intake;
 use crate::request_head::refusal_of;
@@ -22,7 +23,7 @@ pub(crate) fn read_response_head<S: Source>(
 ) -> Result<ResponseStart, HttpRefusal>
     ensures ok { IfOk result (TakesResponseHead
         (before intake.old (S.left source.old)) (before intake.new (S.left source.new))) }
-    ensures none { OnRefused result (Told (before intake.old (S.left source.old)) HasNoResponseHead) }
+    ensures refused { IfErr result (Refuses HasNoResponseHead EndsInResponseHead (before intake.old (S.left source.old)) (S.left source.new)) }
     ensures cut { IsErrOf result HttpRefusal.Cut → Told (S.left source.new) (λ bytes. bytes ≡ []) }
     ensures fault { IsErrOf result HttpRefusal.ReadFault → Rose (S.faults source.old) (S.faults source.new) }
     ensures quiet { ¬ IsErrOf result HttpRefusal.ReadFault → S.faults source.new ≡ S.faults source.old }
@@ -51,8 +52,8 @@ fn take_head(
     requires within { IsResponseWithin intake.old headers.now spans.now }
     requires head { IsResponseOf intake.old headers.now spans.now }
     requires fields { length headers.now ≤ MAX_FIELDS }
-    ensures ok { IfOk result (BeginsResponseHead intake.old intake.new) }
-    ensures none { OnRefused result (HasNoResponseHead intake.old) }
+    ensures ok { IfOk result (BeginsResponseHead the_limits intake.old intake.new) }
+    ensures denied { IfErr result (Denies HasNoResponseHead intake.old) }
     ensures cause { ¬ IsErrOf result HttpRefusal.ReadFault × ¬ IsErrOf result HttpRefusal.Cut }
 {
     if spans.len > MAX_HEAD {

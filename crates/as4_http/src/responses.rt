@@ -3,8 +3,8 @@ ghost use Rattle.std.specs.Prelude.{◌≡◌, [], ◌≤◌, ◌++◌, ℕ, Lis
 ghost use Rattle.as4_flow.specs.Faults.{Rose};
 ghost use Rattle.as4_flow.specs.Told.{Told, before};
 ghost use Rattle.as4_http.specs.ReadBack.{IsMedia, IsWithinLimits, response_with};
-ghost use Rattle.as4_http.specs.Refused.{OnRefused};
-ghost use Rattle.as4_http.specs.Responses.{BeginsResponse, HasNoResponse};
+ghost use Rattle.as4_http.specs.Refused.{OnRefused, Dooms};
+ghost use Rattle.as4_http.specs.Responses.{BeginsResponse, HasNoResponse, IsNoResponse, IsCutResponse};
 ghost use Rattle.as4_http.specs.Written.{is_status, response_text};
 
 use crate::body::take_body;
@@ -21,8 +21,13 @@ impl Intake {
             Told (before r.1 (S.left source.new)) (BeginsResponse stream r.0))) }
         // Where the stream begins with a response, it isn't refused.
         ensures only { OnRefused result (Told (before self (S.left source.old)) HasNoResponse) }
+        // However the bytes go on that were read, they begin no response: whatever the limits, or within the limits.
+        ensures bad { IsErrOf result HttpRefusal.Bad → Dooms IsNoResponse (before self (S.left source.old)) (S.left source.new) }
+        ensures too_long { IsErrOf result HttpRefusal.TooLong → Dooms HasNoResponse (before self (S.left source.old)) (S.left source.new) }
 
+        // The source has ended, inside a head or where more bytes make a response within the limits.
         ensures cut { IsErrOf result HttpRefusal.Cut → Told (S.left source.new) (λ bytes. bytes ≡ []) }
+        ensures begun { IsErrOf result HttpRefusal.Cut → Told (before self (S.left source.old)) IsCutResponse }
         ensures fault { IsErrOf result HttpRefusal.ReadFault → Rose (S.faults source.old) (S.faults source.new) }
         ensures quiet { ¬ IsErrOf result HttpRefusal.ReadFault → S.faults source.new ≡ S.faults source.old }
         ensures counted { S.faults source.old ≤ S.faults source.new }

@@ -3,8 +3,9 @@
 ghost use Rattle.std.specs.Prelude.{◌≡◌, [], ◌+◌, ◌<◌, ◌≤◌, length, take, IfOk, OnOk, OnErr, IfErr, IsErrOf, IfSome, IfNone};
 ghost use Rattle.as4_flow.specs.Faults.{Rose};
 ghost use Rattle.as4_flow.specs.Told.{Told, before};
-ghost use Rattle.as4_http.specs.Refused.{IsDenial, OnRefused};
-ghost use Rattle.as4_http.specs.Trailers.{HasNoLf, BeginsWithLine, HasNoLineWithin, IsLine, EndsTrailers, BeginsNoLine, TakesTrailers, HasNoTrailers};
+ghost use Rattle.httparse.specs.Grammar.{MayBecomeSection};
+ghost use Rattle.as4_http.specs.Refused.{IsDenial, MayBecome, Refuses, Denies};
+ghost use Rattle.as4_http.specs.Trailers.{HasNoLf, BeginsWithLine, IsLine, EndsTrailers, BeginsNoLine, TakesTrailers, HasNoTrailers, AreTrailers, LeavesMissing, MissesOnly};
 
 use crate::intake::Intake;
 use crate::{HttpRefusal, MAX_TRAILERS};
@@ -20,7 +21,7 @@ pub(crate) fn take_trailers<S: Source>(
 ) -> Result<(), HttpRefusal>
     ensures ok { OnOk result (TakesTrailers
         (before intake.old (S.left source.old)) (before intake.new (S.left source.new))) }
-    ensures none { OnRefused result (Told (before intake.old (S.left source.old)) HasNoTrailers) }
+    ensures refused { IfErr result (Refuses (HasNoTrailers 0) (MayBecome (AreTrailers 0)) (before intake.old (S.left source.old)) (S.left source.new)) }
     ensures cut { IsErrOf result HttpRefusal.Cut → Told (S.left source.new) (λ bytes. bytes ≡ []) }
     ensures fault { IsErrOf result HttpRefusal.ReadFault → Rose (S.faults source.old) (S.faults source.new) }
     ensures quiet { ¬ IsErrOf result HttpRefusal.ReadFault → S.faults source.new ≡ S.faults source.old }
@@ -28,7 +29,7 @@ pub(crate) fn take_trailers<S: Source>(
 {
     let mut passed = 0;
     'lines: loop {
-        let len = hold_line(intake, source, MAX_TRAILERS - passed)?;
+        let len = hold_line(intake, source, passed)?;
         let ended = ends_trailers(&intake.bytes()[..len])?;
         intake.skip(len);
         passed += len;
@@ -38,21 +39,24 @@ pub(crate) fn take_trailers<S: Source>(
     }
 }
 
-// Reads until the intake holds a whole line, and says how long it is with its LF: at most this long.
+// Reads until the intake holds a whole line, and says how long it is with its LF. Behind the bytes of the trailers
+// that have passed, the line leaves them within their limit.
 fn hold_line<S: Source>(
     intake: &mut Intake,
     source: &mut S,
-    most: usize,
+    passed: usize,
 ) -> Result<usize, HttpRefusal>
+    requires { passed ≤ MAX_TRAILERS }
     ensures ok { IfOk result (BeginsWithLine intake.new) }
-    ensures within { IfOk result (λ n. n ≤ most) }
+    ensures within { IfOk result (λ n. passed + n ≤ MAX_TRAILERS) }
     ensures whole { before intake.old (S.left source.old) ≡ before intake.new (S.left source.new) }
-    ensures none { OnRefused result (Told (before intake.old (S.left source.old)) (HasNoLineWithin most)) }
+    ensures refused { IfErr result (Refuses (HasNoTrailers passed) (MayBecome (AreTrailers passed)) (before intake.old (S.left source.old)) (S.left source.new)) }
     ensures cut { IsErrOf result HttpRefusal.Cut → Told (S.left source.new) (λ bytes. bytes ≡ []) }
     ensures fault { IsErrOf result HttpRefusal.ReadFault → Rose (S.faults source.old) (S.faults source.new) }
     ensures quiet { ¬ IsErrOf result HttpRefusal.ReadFault → S.faults source.new ≡ S.faults source.old }
     ensures counted { S.faults source.old ≤ S.faults source.new }
 {
+    let most = MAX_TRAILERS - passed;
     let mut scanned = 0;
     'pieces: loop {
         match line_in(intake.bytes(), scanned) {
@@ -66,7 +70,7 @@ fn hold_line<S: Source>(
         }
         match intake.fill(source) {
             Ok(_) => {}
-            Err(HttpRefusal::Cut) => return Err(unended_line(intake.bytes(), most)),
+            Err(HttpRefusal::Cut) => return Err(unended_line(intake.bytes(), passed)),
             Err(refusal) => return Err(refusal),
         }
     }
@@ -74,22 +78,38 @@ fn hold_line<S: Source>(
 
 // What unended trailers at the end of the source are, of which this is the last line: cut, where their shortest
 // end leaves them within the limit.
-fn unended_line(line: &[u8], most: usize) -> HttpRefusal
-    ensures { IsDenial result }
+fn unended_line(line: &[u8], passed: usize) -> HttpRefusal
+    requires within { passed ≤ MAX_TRAILERS }
+    requires none { HasNoLf line.now }
+    ensures denial { IsDenial result }
+    ensures denied { Denies (HasNoTrailers passed) line.now result }
+    ensures cut { result ≡ HttpRefusal.Cut → MayBecome (AreTrailers passed) line.now }
 {
     if parse_headers(line, &mut [EMPTY_HEADER_SPAN; 1]).is_err() {
         return HttpRefusal::Bad;
     }
-    let missing = match line {
-        [] | [b'\r'] => 1,
-        _ if memchr(b':', line).is_some() => 2,
-        _ => 3,
-    };
-    if line.len().saturating_add(missing) <= most {
-        HttpRefusal::Cut
-    } else {
-        HttpRefusal::TooLong
+    if line.len().saturating_add(missing(line)) > MAX_TRAILERS - passed {
+        return HttpRefusal::TooLong;
     }
+    HttpRefusal::Cut
+}
+
+// How many bytes are missing behind an unended line at least, with the empty line.
+fn missing(line: &[u8]) -> usize
+    requires { HasNoLf line.now }
+    ensures least { LeavesMissing line.now result }
+    ensures enough { MayBecomeSection line.now → MissesOnly line.now result }
+{
+    if line.is_empty() {
+        return 1;
+    }
+    if line == b"\r".as_slice() {
+        return 1;
+    }
+    if memchr(b':', line).is_some() {
+        return 2;
+    }
+    3
 }
 
 // How long the first line is with its LF, where the first `scanned` bytes have none.

@@ -1,13 +1,27 @@
-use Rattle.as4_http.proofs.BodyLemmas.{short_body, chunked_body}
-use Rattle.as4_http.proofs.RefusedLemmas.{refused_exit}
+use Rattle.std.proofs.Common.{◌≡◌, sym, ◌∙◌, arith}
+use Rattle.as4_http.specs.Came.{IsShorter}
+use Rattle.as4_http.specs.Refused.{MayBecome}
+use Rattle.as4_http.specs.Bodies.{HasNoBody, IsBody, IsLong}
+use Rattle.as4_http.specs.Chunks.{HasNoChunked, IsWholeChunked}
+use Rattle.as4_http.proofs.BodyLemmas.{short_body, chunked_body, chunked_may, rest_body}
+use Rattle.as4_http.proofs.RefusedLemmas.{refused_exit, refuses_as, stop_exit}
 use Rattle.as4_http.proofs.body.take_body.Goals as goal
 
-pub returns-in_err-take_bytes-in-Counted-2-clause-none :
-    goal.returns-in_err-take_bytes-in-Counted-2-clause-none
-returns-in_err-take_bytes-in-Counted-2-clause-none g c =
-    refused_exit c.from_residual.result c.in_err-take_bytes-in-Counted-2.field-0.0 c.from_residual.ensures.1 (short_body c.args.framing c.in-Counted-2.n _ c.in-Counted-2.is) c.in_err-take_bytes-in-Counted-2.ensures.none
+pub returns-in_err-take_bytes-in-Counted-2-clause-refused :
+    goal.returns-in_err-take_bytes-in-Counted-2-clause-refused
+returns-in_err-take_bytes-in-Counted-2-clause-refused g c =
+    let refusal = c.in_err-take_bytes-in-Counted-2.field-0.0 in
+    let same : c.in-Counted.n ≡ c.in-Counted-2.n = cc (sym c.in-Counted.is ∙ c.in-Counted-2.is) in
+    stop_exit (HasNoBody c.args.framing) (MayBecome (IsBody c.args.framing)) (IsShorter c.in-Counted-2.n) _ (g.S.Source.left c.take_bytes.new.source) c.from_residual.result refusal c.from_residual.ensures.1 c.in_err-take_bytes-in-Counted-2.ensures.stop
+    (short_body c.args.framing c.in-Counted-2.n c.in-Counted-2.is (omega (arith, same, c.if-n.false))) c.in_err-take_bytes-in-Counted-2.ensures.none
 
-pub returns-in_err-take_chunks-in-Chunked-clause-none :
-    goal.returns-in_err-take_chunks-in-Chunked-clause-none
-returns-in_err-take_chunks-in-Chunked-clause-none g c =
-    refused_exit c.from_residual-in_err-take_chunks-in-Chunked.result c.in_err-take_chunks-in-Chunked.field-0.0 c.from_residual-in_err-take_chunks-in-Chunked.ensures.1 (chunked_body c.args.framing _ c.in-Chunked.is) c.in_err-take_chunks-in-Chunked.ensures.none
+pub returns-in_err-take_chunks-in-Chunked-clause-refused :
+    goal.returns-in_err-take_chunks-in-Chunked-clause-refused
+returns-in_err-take_chunks-in-Chunked-clause-refused g c =
+    refused_exit c.from_residual-in_err-take_chunks-in-Chunked.result c.in_err-take_chunks-in-Chunked.field-0.0 c.from_residual-in_err-take_chunks-in-Chunked.ensures.1
+    (refuses_as HasNoChunked (HasNoBody c.args.framing) (MayBecome IsWholeChunked) (MayBecome (IsBody c.args.framing)) _ _ (chunked_body c.args.framing c.in-Chunked.is) (chunked_may c.args.framing c.in-Chunked.is)) c.in_err-take_chunks-in-Chunked.ensures.refused
+
+pub returns-in_err-take_rest-in-ToEnd-clause-refused : goal.returns-in_err-take_rest-in-ToEnd-clause-refused
+returns-in_err-take_rest-in-ToEnd-clause-refused g c =
+    refused_exit c.from_residual-in_err-take_rest-in-ToEnd.result c.in_err-take_rest-in-ToEnd.field-0.0 c.from_residual-in_err-take_rest-in-ToEnd.ensures.1
+    (refuses_as IsLong (HasNoBody c.args.framing) (λ _. ⊥) (MayBecome (IsBody c.args.framing)) _ _ (rest_body c.args.framing c.in-ToEnd.is) (λ stream none. absurd none)) c.in_err-take_rest-in-ToEnd.ensures.refused

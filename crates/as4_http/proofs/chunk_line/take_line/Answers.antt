@@ -1,19 +1,43 @@
-use Rattle.std.proofs.Common.{List, ℕ, subst, arith}
+use Rattle.std.proofs.Common.{◌≡◌, List, ℕ, sym, ◌∙◌, subst, ap, Err, arith}
+use Rattle.as4_flow.specs.Told.{before}
 use Rattle.httparse.specs.Grammar.{ChunkLine, HasNoChunkLine}
 use Rattle.httparse.specs.Spans.{IsChunkLineAt}
-use Rattle.as4_http.specs.ChunkLines.{HasNoLine}
-use Rattle.as4_http.proofs.ChunkLineLemmas.{line_long, line_yet}
-use Rattle.as4_http.proofs.StreamLemmas.{told_on}
+use Rattle.as4_http.specs.ChunkLines.{HasNoLine, IsWholeLine}
+use Rattle.as4_http.specs.Limits.{the_limits}
+use Rattle.as4_http.specs.declared.refusal.HttpRefusal.TheVariants.{Cut}
+use Rattle.as4_http.specs.Refused.{MayBecome, Denies}
+use Rattle.as4_http.proofs.ChunkLineLemmas.{line_long, line_over, line_yet, line_none}
+use Rattle.as4_http.proofs.RefusedLemmas.{denies_held}
+use Rattle.as4_http.proofs.StreamLemmas.{told_end}
 use Rattle.as4_http.proofs.chunk_line.take_line.Goals as goal
 
-pub returns-in-Ok-Complete-clause-none : goal.returns-in-Ok-Complete-clause-none
-returns-in-Ok-Complete-clause-none g c =
+pub returns-in-Ok-Complete-clause-refused : goal.returns-in-Ok-Complete-clause-refused
+returns-in-Ok-Complete-clause-refused g c =
     let found = rw c.in-Ok-Complete.field-0-is at c.in-Ok-Complete.ensures.complete in
     let at : (line : ChunkLine) × IsChunkLineAt c.pieces.intake c.in-Ok-Complete.len c.in-Ok-Complete.field-0-0-1 line = subst (λ (b : List ℕ). (line : ChunkLine) × IsChunkLineAt b c.in-Ok-Complete.len c.in-Ok-Complete.field-0-0-1 line) c.bytes.ensures found in
-    told_on HasNoLine _ (g.S.Source.left c.pieces.source) c.pieces.intake c.pieces.invariant.whole (line_long c.pieces.intake c.in-Ok-Complete.len c.in-Ok-Complete.field-0-0-1 at c.if-len-gt-MAX_CHUNK_LINE.true)
+    record { read = c.pieces.intake; taken = c.pieces.invariant.whole; doomed = line_long c.pieces.intake c.in-Ok-Complete.len c.in-Ok-Complete.field-0-0-1 at c.if-len-gt-MAX_CHUNK_LINE.true c.args.passed }
 
-pub returns-then-len-gt-MAX_CHUNK_LINE-2-clause-none : goal.returns-then-len-gt-MAX_CHUNK_LINE-2-clause-none
-returns-then-len-gt-MAX_CHUNK_LINE-2-clause-none g c =
+pub returns-in-Ok-Complete-2-clause-refused : goal.returns-in-Ok-Complete-2-clause-refused
+returns-in-Ok-Complete-2-clause-refused g c =
+    let found = rw c.in-Ok-Complete-2.field-0-is at c.in-Ok-Complete.ensures.complete in
+    let at : (line : ChunkLine) × IsChunkLineAt c.pieces.intake c.in-Ok-Complete-2.field-0-0-0 c.in-Ok-Complete-2.size line = subst (λ (b : List ℕ). (line : ChunkLine) × IsChunkLineAt b c.in-Ok-Complete-2.field-0-0-0 c.in-Ok-Complete-2.size line) c.bytes.ensures found in
+    record { read = c.pieces.intake; taken = c.pieces.invariant.whole; doomed = line_over c.pieces.intake c.in-Ok-Complete-2.field-0-0-0 c.in-Ok-Complete-2.size c.args.passed at (omega (arith, c.if-size-room.true)) }
+
+pub returns-then-len-gt-MAX_CHUNK_LINE-2-clause-refused : goal.returns-then-len-gt-MAX_CHUNK_LINE-2-clause-refused
+returns-then-len-gt-MAX_CHUNK_LINE-2-clause-refused g c =
     let partial = rw c.in-Ok-Partial.field-0-is at c.in-Ok-Partial.ensures.partial in
     let none : HasNoChunkLine c.pieces.intake = subst (λ (b : List ℕ). HasNoChunkLine b) c.bytes.ensures partial in
-    told_on HasNoLine _ (g.S.Source.left c.pieces.source) c.pieces.intake c.pieces.invariant.whole (line_yet c.pieces.intake none (omega arith))
+    record { read = c.pieces.intake; taken = c.pieces.invariant.whole; doomed = line_yet c.pieces.intake none (omega arith) c.args.passed }
+
+pub returns-in-Err-Cut-clause-refused : goal.returns-in-Err-Cut-clause-refused
+returns-in-Err-Cut-clause-refused g c =
+    let held = c.pieces.intake in
+    let partial = rw c.in-Ok-Partial.field-0-is at c.in-Ok-Partial.ensures.partial in
+    let none : HasNoChunkLine held = subst (λ (b : List ℕ). HasNoChunkLine b) c.bytes.ensures partial in
+    let same = c.in-Err-Cut.ensures.same in
+    let taken = c.pieces.invariant.whole ∙ ap (λ t. before held t) (sym same.1) in
+    let end = c.in-Err-Cut.ensures.cut (ap Err c.in-Err-Cut.field-0-is) in
+    let cut_line : c.unended_line.result ≡ Cut → MayBecome (IsWholeLine c.args.passed) held = λ cut. subst (MayBecome (IsWholeLine c.args.passed)) (c.bytes-in-Err-Cut.ensures ∙ same.0) (c.unended_line.ensures.cut cut) in
+    denies_held (HasNoLine c.args.passed) (MayBecome (IsWholeLine c.args.passed)) _ (g.S.Source.left c.fill.new.source) held taken c.unended_line.result
+    (λ cut. told_end (λ stream. HasNoLine c.args.passed the_limits stream × MayBecome (IsWholeLine c.args.passed) stream) _ (g.S.Source.left c.pieces.source) held c.pieces.invariant.whole end (line_none held c.args.passed none, cut_line cut))
+    (subst (λ (b : List ℕ). Denies (HasNoLine c.args.passed) b c.unended_line.result) (c.bytes-in-Err-Cut.ensures ∙ same.0) c.unended_line.ensures.denied)

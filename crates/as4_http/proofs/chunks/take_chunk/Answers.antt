@@ -1,11 +1,16 @@
-use Rattle.as4_http.specs.ChunkLines.{HasNoCrlf}
-use Rattle.as4_http.specs.Chunks.{HasNoChunk}
-use Rattle.as4_http.proofs.ChunkedLemmas.{chunk_none}
-use Rattle.as4_http.proofs.RefusedLemmas.{refused_weaker}
-use Rattle.as4_http.proofs.StreamLemmas.{told_behind}
+use Rattle.as4_http.specs.Came.{IsShorter}
+use Rattle.as4_http.specs.ChunkLines.{IsCrlf, HasNoCrlf}
+use Rattle.as4_http.specs.Chunks.{HasNoChunk, IsWholeChunk}
+use Rattle.as4_http.specs.Refused.{MayBecome}
+use Rattle.as4_http.proofs.ChunkedLemmas.{chunk_none, chunk_shorter, crlf_may}
+use Rattle.as4_http.proofs.RefusedLemmas.{refused_weaker, refuses_behind, stop_exit}
 use Rattle.as4_http.proofs.chunks.take_chunk.Goals as goal
 
-pub returns-clause-none : goal.returns-clause-none
-returns-clause-none g c =
+pub returns-in_err-take_bytes-clause-refused : goal.returns-in_err-take_bytes-clause-refused
+returns-in_err-take_bytes-clause-refused g c =
+    stop_exit (λ _. HasNoChunk c.args.size) (MayBecome (IsWholeChunk c.args.size)) (IsShorter c.args.size) _ (g.S.Source.left c.take_bytes.new.source) c.from_residual.result c.in_err-take_bytes.field-0.0 c.from_residual.ensures.1 c.in_err-take_bytes.ensures.stop (chunk_shorter c.args.size) c.in_err-take_bytes.ensures.none
+
+pub returns-clause-refused : goal.returns-clause-refused
+returns-clause-refused g c =
     let came = c.in_ok-take_bytes.ensures.ok in
-    refused_weaker c.take_crlf.result (told_behind HasNoCrlf (HasNoChunk c.args.size) _ _ came.piece came.taken (λ rest. chunk_none c.args.size came.piece rest came.count)) c.take_crlf.ensures.none
+    refused_weaker c.take_crlf.result (refuses_behind (λ _. HasNoCrlf) (λ _. HasNoChunk c.args.size) (MayBecome IsCrlf) (MayBecome (IsWholeChunk c.args.size)) _ _ _ came.piece came.taken (λ _ rest. chunk_none c.args.size came.piece rest came.count) (crlf_may c.args.size came.piece came.count)) c.take_crlf.ensures.refused

@@ -3,6 +3,7 @@ use Rattle.std.specs.Prelude.{All}
 use Rattle.std.specs.List.{flat_map}
 use Rattle.as4_flow.specs.Told.{before}
 use Rattle.as4_http.specs.Chunks.{Chunk, print_chunk, IsChunk, IsShortChunk, joined}
+use Rattle.as4_http.specs.Limits.{the_limits}
 use Rattle.as4_http.specs.declared.limits.TheConstants.{MAX_BODY}
 use Rattle.as4_http.proofs.chunks.take_chunks.Given as goal
 
@@ -10,7 +11,7 @@ abbrev pub invariant-chunks : goal.invariant-chunks
 invariant-chunks g l = record {
   chunks : List Chunk;
   valid : All IsChunk chunks;
-  short : All IsShortChunk chunks;
+  short : All (IsShortChunk the_limits) chunks;
   joins : l.body ≡ joined chunks;
   within : length l.body ≤ MAX_BODY;
   taken : before l.fn.intake (g.S.Source.left l.fn.source) ≡ before (flat_map print_chunk chunks) (before l.intake (g.S.Source.left l.source));

@@ -1,14 +1,18 @@
-use Rattle.as4_http.proofs.RefusedLemmas.{refused_exit}
-use Rattle.as4_http.proofs.RequestHeadLemmas.{none_long, none_says, begins}
+use Rattle.as4_http.specs.Limits.{the_limits}
+use Rattle.as4_http.specs.RequestStarts.{HasNoRequestHead}
+use Rattle.as4_http.proofs.RefusedLemmas.{refused_exit, refusal_weaker, denies_any}
+use Rattle.as4_http.proofs.RequestHeadLemmas.{none_long, none_says, none_on, begins}
 use Rattle.as4_http.proofs.request_head.take_head.Goals as goal
 
-pub returns-then-spans-gt-MAX_HEAD-clause-none : goal.returns-then-spans-gt-MAX_HEAD-clause-none
-returns-then-spans-gt-MAX_HEAD-clause-none c =
-    none_long c.args.intake.now c.args.headers.now c.args.spans.now c.requires.head c.if-spans-gt-MAX_HEAD.true
+pub returns-then-spans-gt-MAX_HEAD-clause-denied : goal.returns-then-spans-gt-MAX_HEAD-clause-denied
+returns-then-spans-gt-MAX_HEAD-clause-denied c =
+    none_on the_limits c.args.intake.now c.args.headers.now c.args.spans.now c.requires.head (none_long c.args.intake.now c.args.headers.now c.args.spans.now c.requires.head c.if-spans-gt-MAX_HEAD.true)
 
-pub returns-in_err-start-clause-none : goal.returns-in_err-start-clause-none
-returns-in_err-start-clause-none c =
-    refused_exit c.from_residual.result c.in_err-start.field-0.0 c.from_residual.ensures.1 (none_says c.bytes.result.now c.args.intake.now c.args.headers.now c.args.spans.now c.requires.head c.bytes.ensures) c.in_err-start.ensures.none
+pub returns-in_err-start-clause-denied : goal.returns-in_err-start-clause-denied
+returns-in_err-start-clause-denied c =
+    refused_exit c.from_residual.result c.in_err-start.field-0.0 c.from_residual.ensures.1
+    (λ refusal none. denies_any HasNoRequestHead c.args.intake.now refusal (refusal_weaker refusal (λ says more limits. none_on limits c.args.intake.now c.args.headers.now c.args.spans.now c.requires.head (none_says limits c.bytes.result.now c.args.intake.now c.args.headers.now c.args.spans.now c.requires.head c.bytes.ensures says) more) none))
+    c.in_err-start.ensures.none
 
 pub returns-clause-ok : goal.returns-clause-ok
 returns-clause-ok c =

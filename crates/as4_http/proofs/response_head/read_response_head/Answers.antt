@@ -1,20 +1,26 @@
-use Rattle.std.proofs.Common.{List, ℕ, subst, arith}
-use Rattle.httparse.specs.Grammar.{HasNoResponse}
-use Rattle.httparse.specs.Spans.{IsResponseOf}
-use Rattle.as4_http.specs.ResponseStarts.{HasNoResponseHead}
-use Rattle.as4_http.proofs.RefusedLemmas.{refused_weaker}
-use Rattle.as4_http.proofs.ResponseHeadLemmas.{none_on, none_yet}
-use Rattle.as4_http.proofs.StreamLemmas.{told_on}
+use Rattle.std.proofs.Common.{List, ℕ, subst, ap, Err, arith}
+use Rattle.httparse.specs.Grammar.{HasNoResponse, MayBecomeResponse}
+use Rattle.as4_http.specs.ResponseStarts.{HasNoResponseHead, EndsInResponseHead}
+use Rattle.as4_http.proofs.RefusedLemmas.{held_refused, end_exit}
+use Rattle.as4_http.proofs.ResponseHeadLemmas.{none_yet, none_begun}
 use Rattle.as4_http.proofs.response_head.read_response_head.Goals as goal
 
-pub returns-in-Ok-Complete-clause-none : goal.returns-in-Ok-Complete-clause-none
-returns-in-Ok-Complete-clause-none g c =
-    let of = rw c.in-Ok-Complete.field-0-is at c.in-Ok-Complete.ensures.complete in
-    let held : IsResponseOf c.pieces.intake c.parse_response.new.headers c.in-Ok-Complete.spans = subst (λ (b : List ℕ). IsResponseOf b c.parse_response.new.headers c.in-Ok-Complete.spans) c.bytes.ensures of in
-    refused_weaker c.take_head.result (λ none. told_on HasNoResponseHead _ (g.S.Source.left c.pieces.source) c.pieces.intake c.pieces.invariant.whole (none_on c.pieces.intake c.parse_response.new.headers c.in-Ok-Complete.spans held none)) c.take_head.ensures.none
+pub returns-in-Ok-Complete-clause-refused : goal.returns-in-Ok-Complete-clause-refused
+returns-in-Ok-Complete-clause-refused g c =
+    held_refused HasNoResponseHead EndsInResponseHead _ (g.S.Source.left c.pieces.source) c.pieces.intake c.take_head.result c.pieces.invariant.whole c.take_head.ensures.cause.1 c.take_head.ensures.denied
 
-pub returns-then-len-gt-MAX_HEAD-clause-none : goal.returns-then-len-gt-MAX_HEAD-clause-none
-returns-then-len-gt-MAX_HEAD-clause-none g c =
+pub returns-then-len-gt-MAX_HEAD-clause-refused : goal.returns-then-len-gt-MAX_HEAD-clause-refused
+returns-then-len-gt-MAX_HEAD-clause-refused g c =
     let partial = rw c.in-Ok-Partial.field-0-is at c.in-Ok-Partial.ensures.partial in
     let none : HasNoResponse c.pieces.intake = subst (λ (b : List ℕ). HasNoResponse b) c.bytes.ensures partial in
-    told_on HasNoResponseHead _ (g.S.Source.left c.pieces.source) c.pieces.intake c.pieces.invariant.whole (none_yet c.pieces.intake none (omega arith))
+    record { read = c.pieces.intake; taken = c.pieces.invariant.whole; doomed = none_yet c.pieces.intake none (omega arith) }
+
+pub returns-in_err-fill-clause-refused : goal.returns-in_err-fill-clause-refused
+returns-in_err-fill-clause-refused g c =
+    let held = c.pieces.intake in
+    let partial = rw c.in-Ok-Partial.field-0-is at c.in-Ok-Partial.ensures.partial in
+    let unfinished = rw c.in-Ok-Partial.field-0-is at c.in-Ok-Partial.ensures.unfinished in
+    let none : HasNoResponse held = subst (λ (b : List ℕ). HasNoResponse b) c.bytes.ensures partial in
+    let may : MayBecomeResponse held = subst (λ (b : List ℕ). MayBecomeResponse b) c.bytes.ensures unfinished in
+    end_exit HasNoResponseHead EndsInResponseHead _ (g.S.Source.left c.pieces.source) (g.S.Source.left c.fill.new.source) held c.from_residual.result c.in_err-fill.field-0.0 c.from_residual.ensures.1 c.in_err-fill.ensures.stop c.pieces.invariant.whole (λ cut. c.in_err-fill.ensures.cut (ap Err cut))
+    (none_begun held none, record { none = none; may = may; few = omega arith })

@@ -1,34 +1,37 @@
-use Rattle.std.proofs.Common.{◌≡◌, ℕ, ◌+◌, ◌-◌, Bool, Option, refl, ◌≤◌, List, ◌++◌, ◌∷◌, [], length, take, true, false, sym, ◌∙◌, ap, subst, arith}
+use Rattle.std.proofs.Common.{◌≡◌, ℕ, ◌+◌, Bool, Option, refl, ◌≤◌, List, ◌++◌, ◌∷◌, [], length, take, true, false, sym, ◌∙◌, ap, subst, arith}
 use Rattle.std.specs.List.{flat_map}
 use Rattle.std.proofs.lemmas.List.Elements.{All-push}
 use Rattle.as4_flow.specs.Told.{before}
 use Rattle.httparse.specs.Grammar.{print_field, IsField}
-use Rattle.as4_http.specs.declared.limits.TheConstants.{MAX_TRAILERS}
-use Rattle.as4_http.specs.Trailers.{HasNoLineWithin, IsLine, EndsTrailers, BeginsNoLine, TakesTrailers, HasNoTrailers}
+use Rattle.as4_http.specs.Limits.{Limits}
+use Rattle.as4_http.specs.Refused.{MayBecome}
+use Rattle.as4_http.specs.Trailers.{AreTrailers, IsLine, EndsTrailers, BeginsNoLine, TakesTrailers, HasNoTrailers}
 use Rattle.as4_http.proofs.LineLemmas.{line_cut, line_within}
-use Rattle.as4_http.proofs.RefusedLemmas.{refused_exit, refused_any}
-use Rattle.as4_http.proofs.StreamLemmas.{told_two, told_behind}
-use Rattle.as4_http.proofs.TrailerLemmas.{none_behind, none_with, takes_all, passes_on, passes_count}
+use Rattle.as4_http.proofs.RefusedLemmas.{refused_exit, refuses_behind, bad_exit, may_behind}
+use Rattle.as4_http.proofs.StreamLemmas.{dooms_behind}
+use Rattle.as4_http.proofs.TrailerLemmas.{none_behind, none_with, whole_behind, takes_all, passes_on, passes_count}
 use Rattle.as4_http.proofs.trailers.take_trailers.Goals as goal
 
-pub returns-in_err-len-clause-none : goal.returns-in_err-len-clause-none
-returns-in_err-len-clause-none g c =
+pub returns-in_err-len-clause-refused : goal.returns-in_err-len-clause-refused
+returns-in_err-len-clause-refused g c =
     refused_exit c.from_residual.result c.in_err-len.field-0.0 c.from_residual.ensures.1
-    (told_behind (HasNoLineWithin (MAX_TRAILERS - c.lines.passed)) HasNoTrailers _ _ (flat_map print_field c.lines.invariant.fields) c.lines.invariant.taken
-    (λ rest none. none_behind c.lines.invariant.fields rest c.lines.invariant.valid (subst (λ (n : ℕ). HasNoLineWithin (MAX_TRAILERS - n) rest) (sym c.lines.invariant.count) none)))
-    c.in_err-len.ensures.none
+    (refuses_behind (HasNoTrailers c.lines.passed) (HasNoTrailers 0) (MayBecome (AreTrailers c.lines.passed)) (MayBecome (AreTrailers 0)) _ _ _ (flat_map print_field c.lines.invariant.fields) c.lines.invariant.taken
+    (λ limits rest none. none_behind c.lines.invariant.fields limits rest c.lines.invariant.valid (subst (λ (n : ℕ). HasNoTrailers n limits rest) (sym c.lines.invariant.count) none))
+    (may_behind (AreTrailers c.lines.passed) (AreTrailers 0) (flat_map print_field c.lines.invariant.fields) (whole_behind c.lines.invariant.fields c.lines.passed c.lines.invariant.valid c.lines.invariant.count)))
+    c.in_err-len.ensures.refused
 
 pub ends_trailers-requires : goal.ends_trailers-requires
 ends_trailers-requires g c =
     subst (λ (b : List ℕ). IsLine (take c.in_ok-len.len b)) (sym c.bytes.ensures) (line_cut c.hold_line.new.intake c.in_ok-len.len c.in_ok-len.ensures.ok)
 
-pub returns-in_err-ended-clause-none : goal.returns-in_err-ended-clause-none
-returns-in_err-ended-clause-none g c =
+pub returns-in_err-ended-clause-refused : goal.returns-in_err-ended-clause-refused
+returns-in_err-ended-clause-refused g c =
     let held = c.hold_line.new.intake in
     let none : BeginsNoLine (take c.in_ok-len.len held) = subst (λ (b : List ℕ). BeginsNoLine (take c.in_ok-len.len b)) c.bytes.ensures c.in_err-ended.ensures.none in
-    refused_any c.from_residual-in_err-ended.result
-    (told_two HasNoTrailers _ _ (g.S.Source.left c.hold_line.new.source) (flat_map print_field c.lines.invariant.fields) held c.lines.invariant.taken c.hold_line.ensures.whole
-    (none_with c.lines.invariant.fields held c.in_ok-len.len c.lines.invariant.valid none))
+    bad_exit (HasNoTrailers 0) (MayBecome (AreTrailers 0)) _ (g.S.Source.left c.hold_line.new.source) c.from_residual-in_err-ended.result c.in_err-ended.field-0.0 c.from_residual-in_err-ended.ensures.1 c.in_err-ended.ensures.bad
+    (dooms_behind (λ bytes. (limits : Limits) → HasNoTrailers (length (flat_map print_field c.lines.invariant.fields)) limits bytes) (λ bytes. (limits : Limits) → HasNoTrailers 0 limits bytes) _ _ _ (flat_map print_field c.lines.invariant.fields) c.lines.invariant.taken
+    (λ rest none limits. none_behind c.lines.invariant.fields limits rest c.lines.invariant.valid (none limits))
+    (record { read = held; taken = c.hold_line.ensures.whole; doomed = λ more limits. none_with limits held c.in_ok-len.len (length (flat_map print_field c.lines.invariant.fields)) none more }))
 
 pub returns-then-ended-clause-ok : goal.returns-then-ended-clause-ok
 returns-then-ended-clause-ok g c =
@@ -39,7 +42,7 @@ returns-then-ended-clause-ok g c =
     let so_far : before c.args.intake.now (g.S.Source.left c.args.source.now) ≡ before (flat_map print_field passed) (before held left) = c.lines.invariant.taken ∙ ap (λ (t : Option (List ℕ)). before (flat_map print_field passed) t) c.hold_line.ensures.whole in
     let within : c.in_ok-len.len ≤ length held = line_within held c.in_ok-len.len c.in_ok-len.ensures.ok in
     subst (λ (l : List ℕ). TakesTrailers (before c.args.intake.now (g.S.Source.left c.args.source.now)) (before l left)) (sym c.skip.ensures)
-    (takes_all passed ends.0 (take c.in_ok-len.len held) held _ left c.in_ok-len.len c.lines.invariant.valid so_far refl ends.1 (omega (arith, c.in_ok-len.ensures.within, c.lines.invariant.count)) within (omega (arith, c.lines.invariant.count, c.lines.invariant.within)))
+    (takes_all passed ends.0 (take c.in_ok-len.len held) held _ left c.in_ok-len.len c.lines.invariant.valid so_far refl ends.1 (omega (arith, c.in_ok-len.ensures.within, c.lines.invariant.count)) within)
 
 pub lines-preserved : goal.lines-preserved
 lines-preserved g c =

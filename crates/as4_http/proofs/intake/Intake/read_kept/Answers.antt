@@ -1,14 +1,60 @@
-use Rattle.as4_http.proofs.RefusedLemmas.{refused_exit}
-use Rattle.as4_http.proofs.RequestLemmas.{no_head, no_body, request_begins}
+use Rattle.std.proofs.Common.{inl}
+use Rattle.as4_http.specs.Refused.{MayBecome, Refuses}
+use Rattle.as4_http.specs.Bodies.{HasNoBody, IsBody}
+use Rattle.as4_http.specs.RequestStarts.{HasNoRequestHead, EndsInRequestHead}
+use Rattle.as4_http.specs.Requests.{HasNoRequestWithin, IsCutRequest}
+use Rattle.as4_http.specs.declared.refusal.HttpRefusal.TheVariants.{Bad, TooLong}
+use Rattle.as4_http.proofs.RefusedLemmas.{refused_exit, refuses_as, refuses_behind, refused_told, refused_cut, refused_as}
+use Rattle.as4_http.proofs.RequestLemmas.{no_head, no_body, cut_body, request_begins}
 use Rattle.as4_http.proofs.intake.Intake.read_kept.Goals as goal
 
 pub returns-in_err-start-clause-only : goal.returns-in_err-start-clause-only
 returns-in_err-start-clause-only g c =
-    refused_exit c.from_residual.result c.in_err-start.field-0.0 c.from_residual.ensures.1 (no_head _) c.in_err-start.ensures.none
+    refused_told HasNoRequestWithin IsCutRequest _ _ c.from_residual.result
+    (refused_exit c.from_residual.result c.in_err-start.field-0.0 c.from_residual.ensures.1 (refuses_as HasNoRequestHead HasNoRequestWithin EndsInRequestHead IsCutRequest _ _ no_head (λ stream. inl)) c.in_err-start.ensures.refused)
+
+pub returns-in_err-start-clause-begun : goal.returns-in_err-start-clause-begun
+returns-in_err-start-clause-begun g c =
+    refused_cut HasNoRequestWithin IsCutRequest _ _ c.from_residual.result
+    (refused_exit c.from_residual.result c.in_err-start.field-0.0 c.from_residual.ensures.1 (refuses_as HasNoRequestHead HasNoRequestWithin EndsInRequestHead IsCutRequest _ _ no_head (λ stream. inl)) c.in_err-start.ensures.refused)
+
+pub returns-in_err-start-clause-bad : goal.returns-in_err-start-clause-bad
+returns-in_err-start-clause-bad g c =
+    refused_as (Refuses HasNoRequestWithin IsCutRequest _ _) c.from_residual.result Bad
+    (refused_exit c.from_residual.result c.in_err-start.field-0.0 c.from_residual.ensures.1 (refuses_as HasNoRequestHead HasNoRequestWithin EndsInRequestHead IsCutRequest _ _ no_head (λ stream. inl)) c.in_err-start.ensures.refused)
+
+pub returns-in_err-start-clause-too_long : goal.returns-in_err-start-clause-too_long
+returns-in_err-start-clause-too_long g c =
+    refused_as (Refuses HasNoRequestWithin IsCutRequest _ _) c.from_residual.result TooLong
+    (refused_exit c.from_residual.result c.in_err-start.field-0.0 c.from_residual.ensures.1 (refuses_as HasNoRequestHead HasNoRequestWithin EndsInRequestHead IsCutRequest _ _ no_head (λ stream. inl)) c.in_err-start.ensures.refused)
 
 pub returns-in_err-body-clause-only : goal.returns-in_err-body-clause-only
 returns-in_err-body-clause-only g c =
-    refused_exit c.from_residual-in_err-body.result c.in_err-body.field-0.0 c.from_residual-in_err-body.ensures.1 (no_body c.in_ok-start.start _ _ c.in_ok-start.ensures.ok) c.in_err-body.ensures.none
+    let start = c.in_ok-start.start in
+    let head = c.in_ok-start.ensures.ok in
+    refused_told HasNoRequestWithin IsCutRequest _ _ c.from_residual-in_err-body.result
+    (refused_exit c.from_residual-in_err-body.result c.in_err-body.field-0.0 c.from_residual-in_err-body.ensures.1 (refuses_behind (HasNoBody start.framing) HasNoRequestWithin (MayBecome (IsBody start.framing)) IsCutRequest _ _ _ _ head.taken (λ limits behind. no_body start head.head limits behind head.valid head.says) (cut_body start head.head head.valid head.small head.says)) c.in_err-body.ensures.refused)
+
+pub returns-in_err-body-clause-begun : goal.returns-in_err-body-clause-begun
+returns-in_err-body-clause-begun g c =
+    let start = c.in_ok-start.start in
+    let head = c.in_ok-start.ensures.ok in
+    refused_cut HasNoRequestWithin IsCutRequest _ _ c.from_residual-in_err-body.result
+    (refused_exit c.from_residual-in_err-body.result c.in_err-body.field-0.0 c.from_residual-in_err-body.ensures.1 (refuses_behind (HasNoBody start.framing) HasNoRequestWithin (MayBecome (IsBody start.framing)) IsCutRequest _ _ _ _ head.taken (λ limits behind. no_body start head.head limits behind head.valid head.says) (cut_body start head.head head.valid head.small head.says)) c.in_err-body.ensures.refused)
+
+pub returns-in_err-body-clause-bad : goal.returns-in_err-body-clause-bad
+returns-in_err-body-clause-bad g c =
+    let start = c.in_ok-start.start in
+    let head = c.in_ok-start.ensures.ok in
+    refused_as (Refuses HasNoRequestWithin IsCutRequest _ _) c.from_residual-in_err-body.result Bad
+    (refused_exit c.from_residual-in_err-body.result c.in_err-body.field-0.0 c.from_residual-in_err-body.ensures.1 (refuses_behind (HasNoBody start.framing) HasNoRequestWithin (MayBecome (IsBody start.framing)) IsCutRequest _ _ _ _ head.taken (λ limits behind. no_body start head.head limits behind head.valid head.says) (cut_body start head.head head.valid head.small head.says)) c.in_err-body.ensures.refused)
+
+pub returns-in_err-body-clause-too_long : goal.returns-in_err-body-clause-too_long
+returns-in_err-body-clause-too_long g c =
+    let start = c.in_ok-start.start in
+    let head = c.in_ok-start.ensures.ok in
+    refused_as (Refuses HasNoRequestWithin IsCutRequest _ _) c.from_residual-in_err-body.result TooLong
+    (refused_exit c.from_residual-in_err-body.result c.in_err-body.field-0.0 c.from_residual-in_err-body.ensures.1 (refuses_behind (HasNoBody start.framing) HasNoRequestWithin (MayBecome (IsBody start.framing)) IsCutRequest _ _ _ _ head.taken (λ limits behind. no_body start head.head limits behind head.valid head.says) (cut_body start head.head head.valid head.small head.says)) c.in_err-body.ensures.refused)
 
 pub returns-clause-found : goal.returns-clause-found
 returns-clause-found g c =
