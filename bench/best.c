@@ -1,5 +1,6 @@
 // Runs two programs in turn, RUNS times each, as `PROGRAM answer 0 1` with INPUT as the standard input and a file as
-// the standard output, and prints for each its best time in microseconds and its highest peak memory in KiB.
+// the standard output, and prints for each its best time in microseconds and its highest peak memory in KiB. Both files
+// are open before the time begins: to empty one may take longer than a program runs.
 //
 //     best RUNS INPUT OUTPUT PROGRAM OUTPUT PROGRAM
 #define _GNU_SOURCE
@@ -10,6 +11,7 @@
 #include <sys/resource.h>
 #include <sys/wait.h>
 #include <time.h>
+#include <unistd.h>
 
 extern char **environ;
 
@@ -19,11 +21,21 @@ static double now(void) {
     return t.tv_sec * 1e6 + t.tv_nsec / 1e3;
 }
 
+static int opened(const char *path, int flags) {
+    int file = open(path, flags | O_CLOEXEC, 0644);
+    if (file < 0) {
+        fprintf(stderr, "%s doesn't open\n", path);
+        exit(2);
+    }
+    return file;
+}
+
 static double run(const char *input, const char *output, char *program, long *memory) {
+    int in = opened(input, O_RDONLY), out = opened(output, O_WRONLY | O_CREAT | O_TRUNC);
     posix_spawn_file_actions_t files;
     posix_spawn_file_actions_init(&files);
-    posix_spawn_file_actions_addopen(&files, 0, input, O_RDONLY, 0);
-    posix_spawn_file_actions_addopen(&files, 1, output, O_WRONLY | O_CREAT | O_TRUNC, 0644);
+    posix_spawn_file_actions_adddup2(&files, in, 0);
+    posix_spawn_file_actions_adddup2(&files, out, 1);
     char *words[] = {program, "answer", "0", "1", NULL};
     pid_t child;
     int status;
@@ -35,6 +47,8 @@ static double run(const char *input, const char *output, char *program, long *me
     }
     double time = now() - start;
     posix_spawn_file_actions_destroy(&files);
+    close(in);
+    close(out);
     if (!WIFEXITED(status) || WEXITSTATUS(status) != 0) {
         fprintf(stderr, "%s ends with %d\n", program, WIFEXITED(status) ? WEXITSTATUS(status) : -1);
         exit(2);
