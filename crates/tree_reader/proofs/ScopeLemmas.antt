@@ -1,6 +1,6 @@
 -- Declarations and attributes, one after another; and the nearest declaration.
-use Rattle.std.proofs.Common.{◌≡◌, ℕ, ◌+◌, ◌<◌, List, [], ◌∷◌, ◌++◌, map, Option, Some, None, length, get_or, drop, refl, ap, ◌∙◌, inl, inr}
-use Rattle.std.proofs.lemmas.List.{drop_more, reverse-append}
+use Rattle.std.proofs.Common.{◌≡◌, ℕ, ◌+◌, ◌<◌, List, [], ◌∷◌, ◌++◌, map, Option, Some, None, length, get_or, take, drop, refl, ap, ◌∙◌, inl, inr}
+use Rattle.std.proofs.lemmas.List.{take_more, drop_more, reverse-append}
 use Rattle.std.specs.Str.{bytes_eq}
 use Rattle.tree_reader.specs.Steps.{◌>>=◌, with_front, gathered}
 use Rattle.tree_reader.specs.Scopes.{Binding, Begun, found, scope_of}
@@ -39,11 +39,12 @@ found-append (b ∷ xs) ys prefix =
       | inr other ↦ rw other (found-append xs ys prefix)
     ]
 
-pub found_last : (around others : List Open) (innermost : Open) (prefix : List ℕ) → around ≡ others ++ innermost ∷ []
-    → found (scope_of (stack_of around)) prefix ≡ or_else (found innermost.declared prefix) (found (scope_of (stack_of others)) prefix)
-found_last around others innermost prefix is =
-    ap (λ (os : List Open). found (scope_of (stack_of os)) prefix) is
-    ∙ (ap (λ (os : List Begun). found (scope_of os) prefix) (stack_push others innermost)
-    ∙ found-append innermost.declared (scope_of (stack_of others)) prefix)
+-- what the element at this place declares comes before what those round it do
+pub found_at : (around : List Open) (at : ℕ) (o : Open) (prefix : List ℕ) → at < length around
+    → found (scope_of (stack_of (take (at + 1) around))) prefix ≡ or_else (found (get_or around at o).declared prefix) (found (scope_of (stack_of (take at around))) prefix)
+found_at around at o prefix within =
+    ap (λ (os : List Open). found (scope_of (stack_of os)) prefix) (take_more around at o within)
+    ∙ (ap (λ (os : List Begun). found (scope_of os) prefix) (stack_push (take at around) (get_or around at o))
+    ∙ found-append (get_or around at o).declared (scope_of (stack_of (take at around))) prefix)
 
 pub ruleset found_either = (found-append)

@@ -26,6 +26,11 @@ abbrev pub opened : Bool → Begun → List Begun → State
 opened true o os = placed (element_of o) os
 opened false o os = within false (o ∷ os)
 
+-- the innermost element, which is complete, in those round it
+abbrev pub completed : List Begun → Result State Fault
+completed [] = Err markup
+completed (o ∷ os) = Ok (placed (element_of o) os)
+
 abbrev pub begins : ℕ → Bool → List Begun → Option Begun → Result State Fault
 begins levels closed os None = Err markup
 begins levels closed os (Some o) = if nat_lt (length os) levels then Ok (opened closed o os) else Err too_deep

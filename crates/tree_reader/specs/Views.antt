@@ -1,6 +1,7 @@
 -- What the code's values stand for.
 use Rattle.std.specs.Borrow.{Bor}
-use Rattle.std.specs.Prelude.{◌≡◌, ℕ, ◌<◌, ◌≤◌, ◌++◌, length, drop, List, Bool, Option, Some, None, Result, Ok, Err, map, reverse}
+use Rattle.std.specs.Option.{option_map}
+use Rattle.std.specs.Prelude.{◌≡◌, ℕ, ◌∷◌, ◌<◌, ◌≤◌, ◌++◌, length, drop, List, Bool, Option, Some, None, Result, Ok, Err, map, reverse}
 use Rattle.as4_envelope.specs.declared.tree.Element.{Element}
 use Rattle.tree_reader.specs.Steps.{with_front}
 use Rattle.tree_reader.specs.Decoded.{Piece, meant_behind}
@@ -58,6 +59,11 @@ Finds view (Err stop) answer = Misses stop answer
 abbrev pub Adds : {X A : Type 0} → Result X Stop → Option (List A) → List A → List A → Type 0
 Adds (Ok x) answer old new = with_front old answer ≡ Some new
 Adds (Err stop) answer old new = Misses stop answer
+
+-- what is found is opened inside what was open
+abbrev pub Opens : {X : Type 0} → Result X Stop → Option Begun → List Begun → List Begun → Type 0
+Opens (Ok x) answer old new = option_map (λ o. o ∷ old) answer ≡ Some new
+Opens (Err stop) answer old new = Misses stop answer
 
 -- a piece is added; the rest is what stands behind it
 abbrev pub AddsPiece : Result (Bor (List ℕ)) Stop → Option Piece → List ℕ → List ℕ → List ℕ → Type 0

@@ -56,6 +56,7 @@ impl<'a> Declarations<'a> {
     }
 
     /// What the first of them with this prefix binds it to.
+    #[inline(always)]
     pub(crate) fn found(&self, prefix: &'a [u8]) -> Option<&TreeBytes>
         ensures { option_map (λ x. x.now) result ≡ found self.now prefix.now }
     {
@@ -82,7 +83,8 @@ fn index_of<'a>(
     Ok(index)
 }
 
-/// The same as `found_in`, by the index.
+/// The same as `found_in`, by the index. It stands apart, so that what `found` inlines stays small.
+#[inline(never)]
 fn found_by<'s, 'a>(
     index: &BTreeMap<&'a [u8], usize>,
     declared: &'s [Declared<'a>],

@@ -5,7 +5,7 @@ ghost use Rattle.std.specs.List.{list_all};
 ghost use Rattle.as4_values.specs.Texts.{is_blank, is_xml};
 ghost use Rattle.xml_items.specs.Raw.{item_of, written_of};
 ghost use Rattle.xml_items.specs.Items.{run, start, finish, comment, declaration};
-ghost use Rattle.tree_reader.specs.Reading.{step, placed, unchanged, later};
+ghost use Rattle.tree_reader.specs.Reading.{step, placed, completed, unchanged, later};
 ghost use Rattle.tree_reader.specs.Scopes.{element_of};
 ghost use Rattle.tree_reader.specs.Views.{Makes, begun_of, stack_of, state_of};
 
@@ -123,15 +123,13 @@ fn read_start<'a>(
     if reading.root.is_some() {
         return Err(Stop::Markup);
     }
-    let open = resolve(alloc, reading.open.as_slice(), name, attributes)?;
-    if reading.open.len() >= MAX_DEPTH {
-        drop(open);
+    resolve(alloc, &mut reading.open, name, attributes)?;
+    if reading.open.len() > MAX_DEPTH {
         return Err(Stop::TooDeep);
     }
     if closed {
-        return place(reading, element_of(open));
+        return close(reading);
     }
-    reading.open.push(open)?;
     Ok(())
 }
 
@@ -142,13 +140,23 @@ fn read_end(reading: &mut Reading<'_>, name: &[u8]) -> Result<(), Stop>
     if reading.root.is_some() {
         return Err(Stop::Markup);
     }
-    let Some(open) = reading.open.pop() else {
+    let Some(open) = reading.open.last() else {
         return Err(Stop::Markup);
     };
     if name != open.name {
-        drop(open);
         return Err(Stop::Markup);
     }
+    close(reading)
+}
+
+/// Puts the innermost element, which is complete, into those round it.
+fn close(reading: &mut Reading<'_>) -> Result<(), Stop>
+    requires { reading.old.root ≡ None }
+    ensures { Makes result (completed (stack_of reading.old.open.items)) (later (state_of reading.new)) }
+{
+    let Some(open) = reading.open.pop() else {
+        return Err(Stop::Markup);
+    };
     place(reading, element_of(open))
 }
 

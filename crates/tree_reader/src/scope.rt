@@ -5,7 +5,7 @@ ghost use Rattle.std.specs.Option.{option_map};
 ghost use Rattle.xml_items.specs.Raw.{written_of};
 ghost use Rattle.tree_reader.specs.Scopes.{may_bind, bound, declared_by, found, element_space, attribute_space, attribute_by, scope_of, resolve, binds_default, binds_prefix};
 ghost use Rattle.tree_reader.specs.Steps.{gathered};
-ghost use Rattle.tree_reader.specs.Views.{Finds, Adds, begun_of, stack_of, scope_in};
+ghost use Rattle.tree_reader.specs.Views.{Finds, Adds, Opens, stack_of, scope_in};
 ghost use Rattle.tree_reader.specs.Declarations.{binding_of};
 
 use crate::apart::{names_differ, written_differ};
@@ -37,15 +37,15 @@ pub(crate) struct Open<'a> {
     pub children: Vec<Element>,
 }
 
-/// The element that a start tag begins inside the elements of `around`, the innermost of which is the last.
-#[tactic(auto, unfolding(crate::specs::Scopes::resolve))]
+/// Opens the element that a start tag begins inside those of `around`, the innermost of which is the last.
+#[tactic(auto, unfolding(crate::specs::Scopes::resolve), using(crate::proofs::ScopeLemmas::stack_push))]
 pub(crate) fn resolve<'a>(
     alloc: Global,
-    around: &[Open<'a>],
+    around: &mut Vec<Open<'a>>,
     name: &'a [u8],
     attributes: &[RawAttribute<'a>],
-) -> Result<Open<'a>, Stop>
-    ensures { Finds begun_of result (resolve (scope_of (stack_of around.now)) name.now (map written_of attributes.now)) }
+) -> Result<(), Stop>
+    ensures { Opens result (resolve (scope_of (stack_of around.old.items)) name.now (map written_of attributes.now)) (stack_of around.old.items) (stack_of around.new.items) }
 {
     if !written_differ(alloc, attributes)? {
         return Err(Stop::Markup);
@@ -54,9 +54,10 @@ pub(crate) fn resolve<'a>(
     let Some(written) = qualified(name) else {
         return Err(Stop::Markup);
     };
+    let outer = around.as_slice();
     let scope = Scope {
         declared: &declared,
-        around,
+        around: outer,
     };
     let space = element_space(alloc, scope, written.prefix)?;
     let local = TreeBytes::copied(alloc, written.local)?;
@@ -64,7 +65,8 @@ pub(crate) fn resolve<'a>(
     if !names_differ(alloc, pairs.as_slice())? {
         return Err(Stop::Markup);
     }
-    Ok(Open {
+    around.reserve(1)?;
+    around.push_reserved(Open {
         name,
         declared,
         space,
@@ -72,7 +74,8 @@ pub(crate) fn resolve<'a>(
         attributes: pairs,
         text: TreeBytes::new(),
         children: Vec::new(alloc),
-    })
+    });
+    Ok(())
 }
 
 /// What a tag declares, and the elements round it.
@@ -209,11 +212,12 @@ fn push_attribute<'a>(
     let space = attribute_space(alloc, scope, written.prefix)?;
     let local = TreeBytes::copied(alloc, written.local)?;
     let value = value_meant(alloc, attribute.value)?;
-    out.push(Attribute {
+    out.reserve(1)?;
+    out.push_reserved(Attribute {
         space,
         local,
         value,
-    })?;
+    });
     Ok(())
 }
 
@@ -268,13 +272,15 @@ fn found<'s, 'a>(scope: Scope<'s, 'a>, prefix: &'a [u8]) -> Option<&'s TreeBytes
 }
 
 /// What the nearest declaration in the elements binds the prefix to.
-#[tactic(auto, using(crate::proofs::ScopeLemmas::found_last))]
 fn found_around<'s, 'a>(around: &'s [Open<'a>], prefix: &'a [u8]) -> Option<&'s TreeBytes>
     ensures { option_map (λ x. x.now) result ≡ found (scope_of (stack_of around.now)) prefix.now }
 {
-    let (innermost, others) = around.split_last()?;
-    match innermost.declared.found(prefix) {
-        Some(space) => Some(space),
-        None => found_around(others, prefix),
+    let mut at = around.len();
+    while at > 0 {
+        at -= 1;
+        if let Some(space) = around[at].declared.found(prefix) {
+            return Some(space);
+        }
     }
+    None
 }
