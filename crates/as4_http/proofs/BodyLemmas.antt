@@ -1,15 +1,18 @@
 -- Lemmas on bodies.
-use Rattle.std.proofs.Common.{◌≡◌, ℕ, ◌-◌, ◌≤◌, replicate, List, [], ◌++◌, length, Option, None, Some, refl, sym, ◌∙◌, ap, subst, arith, append-nil, length-append}
+use Rattle.std.proofs.Common.{◌≡◌, ℕ, ◌-◌, ◌≤◌, replicate, List, [], ◌++◌, length, Option, None, Some, refl, sym, ◌∙◌, ◌<◌, ap, subst, arith, append-nil, length-append}
 use Rattle.std.proofs.lemmas.List.{length-replicate}
 use Rattle.as4_flow.specs.Told.{before}
 use Rattle.as4_http.specs.Bodies.{BeginsChunked, BeginsBody, HasNoBody, IsBody, IsLong, TakesBody}
 use Rattle.as4_http.specs.Came.{IsShorter}
 use Rattle.as4_http.specs.Chunks.{print_chunked, joined, HasNoChunked, IsWholeChunked}
-use Rattle.as4_http.specs.Refused.{MayBecome}
+use Rattle.as4_http.specs.Passed.{Shows, PassesBody}
+use Rattle.as4_http.specs.Refused.{MayBecome, Refuses}
 use Rattle.as4_http.specs.Limits.{Limits, the_limits}
 use Rattle.as4_http.specs.declared.framing.Framing.{Framing}
 use Rattle.as4_http.specs.declared.framing.Framing.TheVariants.{Empty, Counted, Chunked, ToEnd}
 use Rattle.as4_http.specs.declared.limits.TheConstants.{MAX_BODY}
+use Rattle.as4_http.specs.declared.refusal.HttpRefusal.{HttpRefusal}
+use Rattle.as4_http.specs.declared.refusal.HttpRefusal.TheVariants.{TooLong}
 use Rattle.as4_http.proofs.ChunkedLemmas.{same_front, chunked_text_unique}
 
 -- fewer bytes than the head says may become a body
@@ -42,6 +45,15 @@ not_rest limits stream long bytes rest begins = omega (arith, long, begins.0, ap
 
 pub rest_body : (framing : Framing) → framing ≡ ToEnd → (limits : Limits) (stream : List ℕ) → IsLong limits stream → HasNoBody framing limits stream
 rest_body framing is limits stream long = subst (λ (f : Framing). HasNoBody f limits stream) (sym is) (not_rest limits stream long)
+
+-- where they were read, the body passes the limit
+pub rest_shows : (framing : Framing) (told left : Option (List ℕ)) (refusal : HttpRefusal) → framing ≡ ToEnd → refusal ≡ TooLong → Refuses IsLong (λ _. ⊥) told left refusal → Shows (PassesBody framing) told left
+rest_shows framing told left refusal is long fact =
+    let doomed : Refuses IsLong (λ _. ⊥) told left TooLong = subst (Refuses IsLong (λ _. ⊥) told left) long fact in record {
+      read = doomed.read;
+      taken = doomed.taken;
+      holds = subst (λ (f : Framing). PassesBody f doomed.read) (sym is) (subst (λ (l : List ℕ). MAX_BODY < length l) (append-nil doomed.read) (doomed.doomed []));
+    }
 
 -- ---- a stream begins with one body at most
 

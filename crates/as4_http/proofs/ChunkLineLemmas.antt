@@ -8,13 +8,15 @@ use Rattle.std.proofs.lemmas.Bool.{cases_lt, eqb-false}
 use Rattle.std.proofs.lemmas.Bool.Decides.{nat_tests}
 use Rattle.std.proofs.lemmas.List.Elements.{All-head, All-tail}
 use Rattle.std.proofs.lemmas.Str.Parse.{digits_value-take-le}
-use Rattle.httparse.specs.Grammar.{ChunkLine, IsChunkLine, print_chunk_line, print_extension, ReadsChunkLine, HasNoChunkLine, chunk_size, AllPass, is_ows}
+use Rattle.httparse.specs.Grammar.{ChunkLine, IsChunkLine, print_chunk_line, print_extension, ReadsChunkLine, HasNoChunkLine, MayBecomeChunkLine, chunk_size, AllPass, is_ows}
 use Rattle.httparse.specs.Spans.{IsChunkLineAt}
 use Rattle.httparse.proofs.ChunkLemmas.{chunk_line_unique}
 use Rattle.httparse.proofs.PieceLemmas.{front-append}
 use Rattle.as4_http.specs.ChunkLines.{HasNoLine, shortest_end}
 use Rattle.as4_http.specs.Limits.{the_limits}
+use Rattle.as4_http.specs.Passed.{GoesOver, IsLongLine, IsLargeChunk}
 use Rattle.as4_http.specs.declared.limits.TheConstants.{MAX_CHUNK_LINE, MAX_BODY}
+use Rattle.as4_http.proofs.PassedLemmas.{begun_over}
 use Rattle.as4_http.proofs.StreamLemmas.{front_is}
 
 pub ReadsChunkLine-append : (buf : List ℕ) (line : ChunkLine) (rest more : List ℕ) → ReadsChunkLine buf line rest → ReadsChunkLine (buf ++ more) line (rest ++ more)
@@ -36,6 +38,18 @@ pub line_over : (held : List ℕ) (len size passed : ℕ) → (line : ChunkLine)
 line_over held len size passed at over more rest other begins =
     let same : at.0 ≡ begins.line = (chunk_line_unique (held ++ more) at.0 begins.line _ rest (ReadsChunkLine-append held at.0 _ more at.1.reads) begins.reads).0 in
     omega (arith, at.1.size_is, ap chunk_size same, begins.says, over)
+
+-- a whole line that is over a limit
+pub line_passes : (IsOver : ChunkLine → Type 0) (held : List ℕ) (len size : ℕ) (at : (line : ChunkLine) × IsChunkLineAt held len size line) → IsOver at.0 → GoesOver ReadsChunkLine IsOver held
+line_passes IsOver held len size at over =
+    let text = print_chunk_line at.0 in
+    let valid = at.1.reads.0 in record {
+      front = text;
+      rest = drop len held;
+      parts = at.1.reads.1;
+      right = ([], at.0, (valid, refl));
+      over = λ more other behind begins. subst IsOver (chunk_line_unique (text ++ more) at.0 other more behind (valid, refl) begins).0 over;
+    }
 
 -- ---- an unended line
 
@@ -146,20 +160,41 @@ least_size (b ∷ bytes) more rest behind l least ended reads =
     ∙ ap (λ (t : List ℕ). take (length least.digits) t) (sym (digits_are (b ∷ bytes ++ more) rest l reads)) in
     omega (arith, ap (digits_value 16) digits, digits_value-take-le 16 l.digits (length least.digits) (omega arith))
 
+-- more bytes than a line has, and no line yet
+pub line_passes_yet : (held : List ℕ) → HasNoChunkLine held → MayBecomeChunkLine held → MAX_CHUNK_LINE < length held → GoesOver ReadsChunkLine IsLongLine held
+line_passes_yet held none may long =
+    begun_over ReadsChunkLine IsLongLine held may (λ more l rest reads. omega (arith, line_goes_on held more rest l none reads, long))
+
 -- where the line with its shortest end is too long, so is each that begins so
+ended_longer : (line ended end : List ℕ) (len size : ℕ) → HasNoChunkLine line → ended ≡ line ++ end → end ≡ shortest_end line → (l : ChunkLine) × IsChunkLineAt ended len size l → MAX_CHUNK_LINE < len → (more : List ℕ) (l : ChunkLine) (rest : List ℕ) → ReadsChunkLine (line ++ more) l rest → IsLongLine l
+ended_longer line ended end len size none is shortest_is at long more l rest reads =
+    let count : length ended ≡ length line + length (shortest_end line) = ap length is ∙ length-append line end ∙ ap (λ (e : List ℕ). length line + length e) shortest_is in
+    let least = shortest line more rest l none reads in
+    let within : len ≤ length ended = omega (arith, at.1.len_is, ap length at.1.reads.1, length-append (print_chunk_line at.0) (drop len ended)) in
+    omega (arith, count, least, within, long)
+
 pub ended_long : (line ended end : List ℕ) (len size passed : ℕ) → HasNoChunkLine line → ended ≡ line ++ end → end ≡ shortest_end line → (l : ChunkLine) × IsChunkLineAt ended len size l → MAX_CHUNK_LINE < len → (more : List ℕ) → HasNoLine passed the_limits (line ++ more)
 ended_long line ended end len size passed none is shortest_is at long more rest other begins =
-    let count : length ended ≡ length line + length (shortest_end line) = ap length is ∙ length-append line end ∙ ap (λ (e : List ℕ). length line + length e) shortest_is in
-    let least = shortest line more rest begins.line none begins.reads in
-    let within : len ≤ length ended = omega (arith, at.1.len_is, ap length at.1.reads.1, length-append (print_chunk_line at.0) (drop len ended)) in
-    omega (arith, count, least, within, long, begins.short)
+    omega (arith, ended_longer line ended end len size none is shortest_is at long more begins.line rest begins.reads, begins.short)
+
+pub ended_passes : (line ended end : List ℕ) (len size : ℕ) → HasNoChunkLine line → MayBecomeChunkLine line → ended ≡ line ++ end → end ≡ shortest_end line → (l : ChunkLine) × IsChunkLineAt ended len size l → MAX_CHUNK_LINE < len → GoesOver ReadsChunkLine IsLongLine line
+ended_passes line ended end len size none may is shortest_is at long =
+    begun_over ReadsChunkLine IsLongLine line may (ended_longer line ended end len size none is shortest_is at long)
 
 -- where it says more than there is room for, so does each that begins so
+ended_larger : (line ended end : List ℕ) (len size passed : ℕ) → ended ≡ line ++ end → end ≡ shortest_end line → (l : ChunkLine) × IsChunkLineAt ended len size l → MAX_BODY < passed + size → (more : List ℕ) (l : ChunkLine) (rest : List ℕ) → ReadsChunkLine (line ++ more) l rest → IsLargeChunk passed l
+ended_larger line ended end len size passed is shortest_is at over more l rest reads =
+    let same : ended ≡ line ++ shortest_end line = is ∙ ap (λ (e : List ℕ). line ++ e) shortest_is in
+    let least = least_size line more rest (drop len ended) l at.0 (subst (λ (b : List ℕ). ReadsChunkLine b at.0 (drop len ended)) same at.1.reads) reads in
+    omega (arith, least, at.1.size_is, over)
+
 pub ended_over : (line ended end : List ℕ) (len size passed : ℕ) → ended ≡ line ++ end → end ≡ shortest_end line → (l : ChunkLine) × IsChunkLineAt ended len size l → MAX_BODY < passed + size → (more : List ℕ) → HasNoLine passed the_limits (line ++ more)
 ended_over line ended end len size passed is shortest_is at over more rest other begins =
-    let same : ended ≡ line ++ shortest_end line = is ∙ ap (λ (e : List ℕ). line ++ e) shortest_is in
-    let least = least_size line more rest (drop len ended) begins.line at.0 (subst (λ (b : List ℕ). ReadsChunkLine b at.0 (drop len ended)) same at.1.reads) begins.reads in
-    omega (arith, least, at.1.size_is, begins.says, over)
+    omega (arith, ended_larger line ended end len size passed is shortest_is at over more begins.line rest begins.reads, begins.says)
+
+pub ended_passes_body : (line ended end : List ℕ) (len size passed : ℕ) → MayBecomeChunkLine line → ended ≡ line ++ end → end ≡ shortest_end line → (l : ChunkLine) × IsChunkLineAt ended len size l → MAX_BODY < passed + size → GoesOver ReadsChunkLine (IsLargeChunk passed) line
+ended_passes_body line ended end len size passed may is shortest_is at over =
+    begun_over ReadsChunkLine (IsLargeChunk passed) line may (ended_larger line ended end len size passed is shortest_is at over)
 
 -- bytes without a line
 pub line_none : (line : List ℕ) (passed : ℕ) → HasNoChunkLine line → HasNoLine passed the_limits line

@@ -13,8 +13,10 @@ use Rattle.httparse.proofs.GrammarLemmas.{section_unique}
 use Rattle.as4_http.specs.Came.{IsShorter}
 use Rattle.as4_http.specs.ChunkLines.{IsShortLine, HasNoLine, IsWholeLine, IsCrlf, TakesLine, HasNoCrlf}
 use Rattle.as4_http.proofs.LineEndLemmas.{zero_line, zero_valid}
+use Rattle.as4_http.proofs.PassedLemmas.{shows_behind}
 use Rattle.as4_http.proofs.RefusedLemmas.{refuses_behind, may_behind}
 use Rattle.as4_http.specs.Limits.{Limits, the_limits}
+use Rattle.as4_http.specs.Passed.{Shows, GoesOver, ReadsTrailers, IsLongTrailers, PassesNext, long_trailers, PassesChunked}
 use Rattle.as4_http.specs.Refused.{MayBecome, Refuses}
 use Rattle.as4_http.specs.declared.refusal.HttpRefusal.{HttpRefusal}
 use Rattle.as4_http.specs.Chunks.{Chunk, print_chunk, IsChunk, IsShortChunk, ChunkedBody, print_end_of_chunks, print_chunked, joined, IsChunked, IsSmallChunked, HasNoChunk, HasNoChunked, IsWholeChunk, IsWholeChunked, TakesChunked}
@@ -172,6 +174,25 @@ pub record Passed (chunks : List Chunk) : Type 0 where
 -- what a loop knows of the chunks that have passed
 pub passed_of : (chunks : List Chunk) (bytes : List ℕ) → All IsChunk chunks → All (IsShortChunk the_limits) chunks → bytes ≡ joined chunks → length bytes ≤ MAX_BODY → Passed chunks
 passed_of chunks bytes valid short joins within = record { valid = valid; short = short; within = omega (arith, within, ap length joins) }
+
+-- behind chunks that have passed, a limit is passed
+pub chunks_show : (chunks : List Chunk) (n : ℕ) (told now left : Option (List ℕ)) → Passed chunks → n ≡ length (joined chunks) → told ≡ before (flat_map print_chunk chunks) now → Shows (PassesNext n) now left → Shows PassesChunked told left
+chunks_show chunks n told now left passed count is =
+    shows_behind (PassesNext n) PassesChunked told now left (flat_map print_chunk chunks) is (λ rest passes. record {
+      chunks = chunks;
+      valid = passed.valid;
+      short = passed.short;
+      within = passed.within;
+      behind = rest;
+      parts = refl;
+      passes = subst (λ (k : ℕ). PassesNext k rest) count passes;
+    })
+
+-- the same in the trailers, behind the line that says 0
+pub last_shows : (chunks : List Chunk) (last : ChunkLine) (told now mid left : Option (List ℕ)) → Passed chunks → IsChunkLine last → chunk_size last ≡ 0 → told ≡ before (flat_map print_chunk chunks) now → now ≡ before (print_chunk_line last) mid → Shows (GoesOver ReadsTrailers (IsLongTrailers 0)) mid left → Shows PassesChunked told left
+last_shows chunks last told now mid left passed valid empty is taken shows =
+    chunks_show chunks (length (joined chunks)) told now left passed refl is
+    (shows_behind (GoesOver ReadsTrailers (IsLongTrailers 0)) (PassesNext (length (joined chunks))) now mid left (print_chunk_line last) taken (λ rest over. long_trailers last rest (valid, refl) empty over) shows)
 
 -- bytes that may be the CR
 pub crlf_begun : (held : List ℕ) → length held < 2 → (length held ≡ 1 → get_or held 0 0 ≡ 13) → HasNoCrlf held × MayBecome IsCrlf held

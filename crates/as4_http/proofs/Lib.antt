@@ -9,6 +9,7 @@ pub mod GatheredLemmas
 pub mod LengthLemmas
 pub mod LineEndLemmas
 pub mod LineLemmas
+pub mod PassedLemmas
 pub mod ReadBackLemmas
 pub mod RefusedLemmas
 pub mod RequestHeadLemmas

@@ -1,7 +1,7 @@
 -- Lemmas on lines: bytes without an LF, and an LF behind them.
 use Rattle.std.proofs.Common.{◌≡◌, ◌≢◌, ℕ, suc, ◌+◌, ◌<◌, ◌≤◌, None, Some, List, [], ◌∷◌, ◌++◌, length, take, drop, get_or, refl, sym, ◌∙◌, ap, subst, arith, append_assoc, length-append, eq-eqb}
 use Rattle.std.proofs.lemmas.Bool.{eqb-true, false≢true}
-use Rattle.std.proofs.lemmas.List.{get_or-take, get_or_default, length-take, length-take-le, take-append-drop, take_at, drop_at, drop-drop}
+use Rattle.std.proofs.lemmas.List.{get_or-take, get_or_default, length-take, length-take-le, take-append-drop, take-append-le, take_at, drop_at, drop-drop}
 use Rattle.std.proofs.Math.Seq.{drop-cons}
 use Rattle.std.proofs.lemmas.List.Elements.{All-nil, All-cons, All-head, All-tail, All-append}
 use Rattle.std.specs.Prelude.{All, Option, is_some, true, false}
@@ -68,14 +68,6 @@ no_line [] (t ∷ text) rest none is = let clash : ◌≡◌ {A = List ℕ} [] (
 no_line (b ∷ bytes) [] rest none is = let lf : b ≡ 10 = cc in no_lf_head b bytes none lf
 no_line (b ∷ bytes) (t ∷ text) rest none is = let others : bytes ≡ text ++ 10 ∷ rest = cc in no_line bytes text rest (no_lf_tail b bytes none) others
 
--- a line that begins the bytes begins all that go on so, and no other does
-pub same_line : (bytes more : List ℕ) (n m : ℕ) → BeginsWithLine bytes n → BeginsWithLine (bytes ++ more) m → n ≡ m
-same_line bytes more n m one other =
-    let whole : one.text ++ 10 ∷ (drop n bytes ++ more) ≡ other.text ++ 10 ∷ drop m (bytes ++ more) =
-    sym (append_assoc one.text (10 ∷ drop n bytes) more) ∙ ap (λ (l : List ℕ). l ++ more) (sym one.parts) ∙ other.parts in
-    let same = first_line one.text other.text (drop n bytes ++ more) (drop m (bytes ++ more)) one.one other.one whole in
-    omega (arith, ap length same.0, one.count, other.count)
-
 -- what ends in a byte isn't shorter than bytes that don't have it
 pub longer_than : (byte : ℕ) (bytes text more rest : List ℕ) → All (λ b. b ≢ byte) bytes → bytes ++ more ≡ text ++ byte ∷ rest → length bytes < length text + 1
 longer_than byte [] text more rest none is = omega arith
@@ -122,6 +114,15 @@ line_found bytes rest scanned at is within none found =
 
 pub line_missing : (bytes rest : List ℕ) (scanned : ℕ) → rest ≡ drop scanned bytes → HasNoLf (take scanned bytes) → IsFirstByte (is_byte 10) rest None → HasNoLf bytes
 line_missing bytes rest scanned is none found = subst HasNoLf (sym (whole_is bytes rest scanned is)) (no_lf_append (take scanned bytes) rest none (no_lf_nowhere rest found))
+
+-- no LF stands before the end of the first line
+pub no_lf_within : (bytes : List ℕ) (n most : ℕ) → BeginsWithLine bytes n → most < n → HasNoLf (take most bytes)
+no_lf_within bytes n most line short =
+    let front : take most bytes ≡ take most line.text = ap (λ (l : List ℕ). take most l) line.parts ∙ take-append-le most line.text (10 ∷ drop n bytes) (omega (arith, line.count)) in
+    subst HasNoLf (sym front) (no_lf_front (take most line.text) (drop most line.text) (subst HasNoLf (sym (take-append-drop most line.text)) line.one))
+
+pub no_lf_take : (bytes : List ℕ) (most : ℕ) → HasNoLf bytes → HasNoLf (take most bytes)
+no_lf_take bytes most none = no_lf_front (take most bytes) (drop most bytes) (subst HasNoLf (sym (take-append-drop most bytes)) none)
 
 -- the line at the front, cut off
 pub line_cut : (bytes : List ℕ) (n : ℕ) → BeginsWithLine bytes n → IsLine (take n bytes)

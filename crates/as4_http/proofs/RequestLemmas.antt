@@ -6,6 +6,7 @@ use Rattle.httparse.proofs.GrammarLemmas.{request_unique}
 use Rattle.as4_http.specs.Bodies.{BeginsBody, HasNoBody, IsBody, TakesBody}
 use Rattle.as4_http.specs.Limits.{Limits, the_limits}
 use Rattle.as4_http.specs.Methods.{method_text}
+use Rattle.as4_http.specs.Passed.{PassesBody, PassesRequest, long_body}
 use Rattle.as4_http.specs.Refused.{MayBecome}
 use Rattle.as4_http.specs.RequestStarts.{IsSmallRequest, SaysRequest, HasNoRequestHead, TakesRequestHead}
 use Rattle.as4_http.specs.Requests.{BeginsKept, BeginsRequest, HasNoRequestWithin, IsCutRequest, start_of}
@@ -71,6 +72,10 @@ cut_body start head valid small says behind may = inr (
     (start.kept, record { head = head; framing = start.framing; behind = behind ++ may.0; reads = (valid, append_assoc (print_request head) behind may.0); small = small; says = says; body = may.1.1 }),
   ),
 )
+
+-- a head, and a body behind it that passes a limit
+pub body_passes : (start : RequestStart) (head : RequestHead) → IsRequestHead head → IsSmallRequest the_limits head → SaysRequest head start → (behind : List ℕ) → PassesBody start.framing behind → PassesRequest (print_request head ++ behind)
+body_passes start head valid small says behind body = long_body start.framing behind (start, record { head = head; reads = (valid, refl); small = small; says = says }, refl) body
 
 -- a head and a body that have gone are a request, and what is left is the rest
 pub request_begins : (start : RequestStart) (bytes : List ℕ) (old mid new : Option (List ℕ)) → TakesRequestHead old mid start → TakesBody start.framing bytes mid new → Told old (λ stream. Told new (BeginsKept stream (record { method = start.method; target = start.target; media = start.media; body = bytes }) start.kept))

@@ -5,6 +5,7 @@ use Rattle.httparse.specs.Grammar.{ResponseHead, IsResponseHead, print_response}
 use Rattle.httparse.proofs.GrammarLemmas.{response_unique}
 use Rattle.as4_http.specs.Bodies.{BeginsBody, HasNoBody, IsBody, TakesBody}
 use Rattle.as4_http.specs.Limits.{Limits, the_limits}
+use Rattle.as4_http.specs.Passed.{PassesBody, PassesResponse, long_body}
 use Rattle.as4_http.specs.Refused.{MayBecome}
 use Rattle.as4_http.specs.ResponseStarts.{IsSmallResponse, SaysResponse, HasNoResponseHead, TakesResponseHead, framing_at}
 use Rattle.as4_http.specs.Responses.{BeginsResponse, HasNoResponseWithin, IsCutResponse, start_of}
@@ -57,6 +58,10 @@ cut_body start head valid small says behind may = inr (
     record { head = head; framing = start.framing; behind = behind ++ may.0; reads = (valid, append_assoc (print_response head) behind may.0); small = small; says = says; body = may.1.1 },
   ),
 )
+
+-- a head, and a body behind it that passes a limit
+pub body_passes : (start : ResponseStart) (head : ResponseHead) → IsResponseHead head → IsSmallResponse the_limits head → SaysResponse head start → (behind : List ℕ) → PassesBody start.framing behind → PassesResponse (print_response head ++ behind)
+body_passes start head valid small says behind body = long_body start.framing behind (start, record { head = head; reads = (valid, refl); small = small; says = says }, refl) body
 
 -- a head and a body that have gone are a response, and what is left is the rest
 pub response_begins : (start : ResponseStart) (bytes : List ℕ) (old mid new : Option (List ℕ)) → TakesResponseHead old mid start → TakesBody start.framing bytes mid new → Told old (λ stream. Told new (BeginsResponse stream (record { status = start.status; media = start.media; body = bytes })))

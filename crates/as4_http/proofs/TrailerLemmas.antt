@@ -1,6 +1,6 @@
 -- Lemmas on trailers, whose lines come one by one.
 use Rattle.std.proofs.Common.{◌≡◌, ◌≢◌, ℕ, ◌+◌, ◌<◌, ◌≤◌, true, false, Result, Ok, Err, List, [], ◌∷◌, ◌++◌, length, take, drop, Option, ◌⊎◌, inl, inr, refl, sym, ◌∙◌, ap, subst, arith, append_assoc, append-nil, length-append}
-use Rattle.std.specs.Prelude.{All, IsTrue, is_err}
+use Rattle.std.specs.Prelude.{All, IsTrue, is_ok}
 use Rattle.std.specs.List.{flat_map}
 use Rattle.std.proofs.lemmas.Bool.{false≢true, or_parts, eqb-false}
 use Rattle.std.proofs.lemmas.List.{append_cancel_right, take-append-drop, flat_map_more, length-take-le}
@@ -20,7 +20,10 @@ use Rattle.httparse.proofs.PieceLemmas.{token_is_no_newline, colon_ends_token, S
 use Rattle.as4_http.specs.declared.limits.TheConstants.{MAX_TRAILERS}
 use Rattle.as4_http.proofs.SplitLemmas.{split, all_front}
 use Rattle.as4_http.specs.Limits.{Limits}
-use Rattle.as4_http.specs.Refused.{MayBecome}
+use Rattle.as4_http.specs.Passed.{Shows, GoesOver, ReadsTrailers, IsLongTrailers}
+use Rattle.as4_http.specs.Refused.{MayBecome, Refuses}
+use Rattle.as4_http.specs.declared.refusal.HttpRefusal.{HttpRefusal}
+use Rattle.as4_http.specs.declared.refusal.HttpRefusal.TheVariants.{Bad, TooLong}
 use Rattle.as4_http.specs.Trailers.{HasNoLf, BeginsWithLine, IsLine, AreTrailers, BeginsNoLine, TakesTrailers, HasNoTrailers, LeavesMissing, MissesOnly}
 use Rattle.as4_http.proofs.LineLemmas.{no_lf_none, no_lf_more, no_lf_append, no_lf_front, first_line, no_line, line_longer, line_from, longer_than}
 
@@ -153,12 +156,6 @@ none_with limits held n passed none more gs last rest reads =
     let parts : held ++ more ≡ take n held ++ (drop n held ++ more) = ap (λ (l : List ℕ). l ++ more) (sym (take-append-drop n held)) ∙ append_assoc (take n held) (drop n held) more in
     absurd (none (drop n held ++ more) gs last rest (reads.0, sym parts ∙ reads.1))
 
--- a line that leaves no room for trailers within the limit
-pub none_within : (limits : Limits) (held more : List ℕ) (n passed : ℕ) → ((m : ℕ) → BeginsWithLine (held ++ more) m → n ≤ m) → limits.trailers < passed + n → HasNoTrailers passed limits (held ++ more)
-none_within limits held more n passed least over gs last rest reads =
-    let first = section_starts (held ++ more) rest gs last reads in
-    omega (arith, least first.0 first.1, first.2, over)
-
 -- the empty line behind the lines that have passed
 pub takes_all : (passed : List Field) (end : LineEnd) (line held : List ℕ) (start left : Option (List ℕ)) (n : ℕ) → All IsField passed → start ≡ before (flat_map print_field passed) (before held left) → line ≡ take n held → line ≡ print_end end → length (flat_map print_field passed) + n ≤ MAX_TRAILERS → n ≤ length held → TakesTrailers start (before (drop n held) left)
 takes_all passed end line held start left n valid so_far line_is empty few within =
@@ -206,10 +203,10 @@ pub none_ended : (limits : Limits) (line : List ℕ) (passed : ℕ) → HasNoLf 
 none_ended limits line passed none gs last rest reads = absurd (unended line rest gs last none reads)
 
 -- where the parser takes them, they may become trailers
-pub unended_may : (line : List ℕ) (headers : List HeaderSpan) (r : Result (Parsed (ℕ × ℕ)) Error) → is_err r ≡ false → HasNoLf line → IfComplete r (IsSectionOf line 0 headers) → OnPartial r (MayBecomeSection line) → MayBecomeSection line
+pub unended_may : (line : List ℕ) (headers : List HeaderSpan) (r : Result (Parsed (ℕ × ℕ)) Error) → is_ok r ≡ true → HasNoLf line → IfComplete r (IsSectionOf line 0 headers) → OnPartial r (MayBecomeSection line) → MayBecomeSection line
 unended_may line headers (Ok (Complete x)) taken none complete may = absurd (unended line _ complete.0 complete.1 none complete.2.reads)
 unended_may line headers (Ok Partial) taken none complete may = may
-unended_may line headers (Err e) taken none complete may = absurd (false≢true (sym taken))
+unended_may line headers (Err e) taken none complete may = absurd (false≢true taken)
 
 -- the parser finds no second field line in it
 unended_exceeds : (line : List ℕ) → HasNoLf line → SectionExceeds 1 line → ⊥
@@ -235,9 +232,9 @@ unended_err line Token none never over = never (λ is. cc)
 unended_err line Version none never over = never (λ is. cc)
 
 -- where the parser refuses it, it begins no trailers
-pub unended_bad : (line : List ℕ) (passed : ℕ) (r : Result (Parsed (ℕ × ℕ)) Error) → is_err r ≡ true → HasNoLf line → OnInvalid r (NeverHasSection line) → OnTooManyHeaders r (SectionExceeds 1 line) → (more : List ℕ) (limits : Limits) → HasNoTrailers passed limits (line ++ more)
-unended_bad line passed (Ok found) err none never over = absurd (false≢true err)
-unended_bad line passed (Err error) err none never over = λ more limits gs last rest reads. absurd (unended_err line error none never over more gs last rest reads)
+pub unended_never : (line : List ℕ) (r : Result (Parsed (ℕ × ℕ)) Error) → is_ok r ≡ false → HasNoLf line → OnInvalid r (NeverHasSection line) → OnTooManyHeaders r (SectionExceeds 1 line) → NeverHasSection line
+unended_never line (Ok found) refused none never over = absurd (false≢true (sym refused))
+unended_never line (Err error) refused none never over = unended_err line error none never over
 
 -- at least an LF is missing
 pub missing_one : (line : List ℕ) → HasNoLf line → LeavesMissing line 1
@@ -273,6 +270,78 @@ missing_three line none some other colon more [] last rest reads = absurd (not_e
 missing_three line none some other colon more (g ∷ hs) last rest reads =
     let parts : line ++ more ≡ g.name ++ 58 ∷ ((g.raw ++ cr_of g.end) ++ 10 ∷ (print_section hs last ++ rest)) = reads.1 ∙ section_first g hs last rest ∙ append_assoc g.name (58 ∷ (g.raw ++ cr_of g.end)) (10 ∷ (print_section hs last ++ rest)) in
     omega (arith, longer_than 58 line g.name more _ colon parts, length-append g.name (58 ∷ (g.raw ++ cr_of g.end)), field_long g hs last, end_long last)
+
+-- ---- trailers that are over their limit
+
+-- a right beginning, where each that begins so is over
+pub trailers_over : (held line rest : List ℕ) (passed : ℕ) → held ≡ line ++ rest → MayBecomeSection line → ((more : List ℕ) (fields : List Field) (last : LineEnd) (behind : List ℕ) → ReadsSection (line ++ more) fields last behind → MAX_TRAILERS < passed + length (print_section fields last)) → GoesOver ReadsTrailers (IsLongTrailers passed) held
+trailers_over held line rest passed parts may over = record {
+  front = line;
+  rest = rest;
+  parts = parts;
+  right = (may.0, (may.1, may.2), may.3);
+  over = λ more trailers behind reads. over more trailers.0 trailers.1 behind reads;
+}
+
+-- bytes without an LF, as many as the limit leaves
+pub endless_over : (line : List ℕ) (passed : ℕ) → HasNoLf line → MAX_TRAILERS ≤ passed + length line → (more : List ℕ) (fields : List Field) (last : LineEnd) (behind : List ℕ) → ReadsSection (line ++ more) fields last behind → MAX_TRAILERS < passed + length (print_section fields last)
+endless_over line passed none full more fields last behind reads =
+    let first = section_starts (line ++ more) behind fields last reads in
+    omega (arith, line_longer line more first.0 none first.1, first.2, full)
+
+-- what is refused where the first bytes have none, as many as the limit leaves
+pub endless_refuses : (refusal : HttpRefusal) (told left : Option (List ℕ)) (bytes held : List ℕ) (n passed : ℕ) → (refusal ≡ Bad) ⊎ (refusal ≡ TooLong) → (refusal ≡ Bad → NeverHasSection (take n bytes)) → bytes ≡ held → told ≡ before held left → HasNoLf (take n held) → MAX_TRAILERS ≤ passed + length (take n held) → Refuses (HasNoTrailers passed) (MayBecome (AreTrailers passed)) told left refusal
+endless_refuses refusal told left bytes held n passed either never same is none full =
+    elim either [
+      | inl bad ↦ subst (Refuses (HasNoTrailers passed) (MayBecome (AreTrailers passed)) told left) (sym bad) (record {
+        read = held;
+        taken = is;
+        doomed = λ more limits fields last behind reads. absurd (subst (λ (b : List ℕ). NeverHasSection (take n b)) same (never bad) (drop n held ++ more) fields last behind (on more fields last behind reads));
+      })
+      | inr long ↦ subst (Refuses (HasNoTrailers passed) (MayBecome (AreTrailers passed)) told left) (sym long) (record {
+        read = held;
+        taken = is;
+        doomed = λ more fields last behind reads. endless_over (take n held) passed none full (drop n held ++ more) fields last behind (on more fields last behind reads);
+      })
+    ]
+  where
+    on : (more : List ℕ) (fields : List Field) (last : LineEnd) (behind : List ℕ) → ReadsSection (held ++ more) fields last behind → ReadsSection (take n held ++ (drop n held ++ more)) fields last behind
+    on more fields last behind reads = (reads.0, sym (append_assoc (take n held) (drop n held) more) ∙ ap (λ (l : List ℕ). l ++ more) (take-append-drop n held) ∙ reads.1)
+
+-- where they are a right beginning, the limit is passed
+pub endless_shows : (told left : Option (List ℕ)) (bytes held : List ℕ) (n passed : ℕ) → MayBecomeSection (take n bytes) → bytes ≡ held → told ≡ before held left → HasNoLf (take n held) → MAX_TRAILERS ≤ passed + length (take n held) → Shows (GoesOver ReadsTrailers (IsLongTrailers passed)) told left
+endless_shows told left bytes held n passed may same is none full = record {
+  read = held;
+  taken = is;
+  holds = trailers_over held (take n held) (drop n held) passed (sym (take-append-drop n held)) (subst (λ (b : List ℕ). MayBecomeSection (take n b)) same may) (endless_over (take n held) passed none full);
+}
+
+-- behind field lines that have passed
+pub over_behind : (passed : List Field) (n : ℕ) → All IsField passed → length (flat_map print_field passed) ≡ n → (rest : List ℕ) → GoesOver ReadsTrailers (IsLongTrailers n) rest → GoesOver ReadsTrailers (IsLongTrailers 0) (flat_map print_field passed ++ rest)
+over_behind passed n valid count rest over = record {
+  front = lines ++ over.front;
+  rest = over.rest;
+  parts = ap (λ (l : List ℕ). lines ++ l) over.parts ∙ sym (append_assoc lines over.front over.rest);
+  right = (
+    over.right.0,
+    (passed ++ over.right.1.0, over.right.1.1),
+    (
+      All-append IsField passed over.right.1.0 valid over.right.2.0,
+      append_assoc lines over.front over.right.0 ∙ ap (λ (l : List ℕ). lines ++ l) over.right.2.1 ∙ sym (append_assoc lines (print_section over.right.1.0 over.right.1.1) []) ∙ ap (λ (l : List ℕ). l ++ []) (sym (section_more passed over.right.1.0 over.right.1.1)),
+    ),
+  );
+  over = λ more trailers behind reads. longer more trailers.0 trailers.1 behind reads;
+}
+  where
+    lines : List ℕ
+    lines = flat_map print_field passed
+
+    longer : (more : List ℕ) (fields : List Field) (last : LineEnd) (behind : List ℕ) → ReadsSection ((lines ++ over.front) ++ more) fields last behind → MAX_TRAILERS < 0 + length (print_section fields last)
+    longer more fields last behind reads =
+        let skipped = Section_skip passed fields last ((lines ++ over.front) ++ more) (over.front ++ more) behind (valid, append_assoc lines over.front more) reads in
+        let long : length (print_section fields last) ≡ length lines + length (print_section skipped.0 last) =
+        ap length (ap (λ (l : List Field). print_section l last) skipped.1 ∙ section_more passed skipped.0 last) ∙ length-append lines (print_section skipped.0 last) in
+        omega (arith, over.over more (skipped.0, last) behind skipped.2, long, count)
 
 -- trailers behind field lines that have passed
 pub whole_behind : (passed : List Field) (n : ℕ) → All IsField passed → length (flat_map print_field passed) ≡ n → (rest : List ℕ) → AreTrailers n rest → MayBecome (AreTrailers 0) (flat_map print_field passed ++ rest)

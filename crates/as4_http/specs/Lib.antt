@@ -7,6 +7,7 @@ pub mod Fields
 pub mod Framing
 pub mod Limits
 pub mod Methods
+pub mod Passed
 pub mod ReadBack
 pub mod Refused
 pub mod Requests

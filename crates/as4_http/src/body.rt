@@ -3,6 +3,7 @@ ghost use Rattle.std.specs.Prelude.{◌≡◌, [], ◌≤◌, IfOk, OnOk, IfErr,
 ghost use Rattle.as4_flow.specs.Faults.{Rose};
 ghost use Rattle.as4_flow.specs.Told.{Told, before};
 ghost use Rattle.as4_http.specs.Bodies.{TakesBody, HasNoBody, IsBody, TakesRest, IsLong};
+ghost use Rattle.as4_http.specs.Passed.{PassesBody, Shows};
 ghost use Rattle.as4_http.specs.Refused.{Refuses, MayBecome};
 
 use crate::chunks::take_chunks;
@@ -23,6 +24,7 @@ pub(crate) fn take_body<S: Source>(
     ensures ok { IfOk result (λ body. TakesBody framing body
         (before intake.old (S.left source.old)) (before intake.new (S.left source.new))) }
     ensures refused { IfErr result (Refuses (HasNoBody framing) (MayBecome (IsBody framing)) (before intake.old (S.left source.old)) (S.left source.new)) }
+    ensures passed { IsErrOf result HttpRefusal.TooLong → Shows (PassesBody framing) (before intake.old (S.left source.old)) (S.left source.new) }
     ensures cut { IsErrOf result HttpRefusal.Cut → Told (S.left source.new) (λ bytes. bytes ≡ []) }
     ensures fault { IsErrOf result HttpRefusal.ReadFault → Rose (S.faults source.old) (S.faults source.new) }
     ensures quiet { ¬ IsErrOf result HttpRefusal.ReadFault → S.faults source.new ≡ S.faults source.old }

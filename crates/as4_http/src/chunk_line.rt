@@ -4,6 +4,7 @@ ghost use Rattle.httparse.specs.Grammar.{HasNoChunkLine, MayBecomeChunkLine};
 ghost use Rattle.as4_flow.specs.Faults.{Rose};
 ghost use Rattle.as4_flow.specs.Told.{Told, before};
 ghost use Rattle.as4_http.specs.ChunkLines.{TakesLine, HasNoLine, IsWholeLine, IsCrlf, HasNoCrlf, shortest_end};
+ghost use Rattle.as4_http.specs.Passed.{PassesNext, Shows};
 ghost use Rattle.as4_http.specs.Refused.{IsDenial, MayBecome, Refuses, Denies};
 
 use crate::intake::Intake;
@@ -23,6 +24,7 @@ pub(crate) fn take_line<S: Source>(
         (before intake.old (S.left source.old)) (before intake.new (S.left source.new))) }
     ensures within { IfOk result (λ size. passed + size ≤ MAX_BODY) }
     ensures refused { IfErr result (Refuses (HasNoLine passed) (MayBecome (IsWholeLine passed)) (before intake.old (S.left source.old)) (S.left source.new)) }
+    ensures passed { IsErrOf result HttpRefusal.TooLong → Shows (PassesNext passed) (before intake.old (S.left source.old)) (S.left source.new) }
     ensures cut { IsErrOf result HttpRefusal.Cut → Told (S.left source.new) (λ bytes. bytes ≡ []) }
     ensures fault { IsErrOf result HttpRefusal.ReadFault → Rose (S.faults source.old) (S.faults source.new) }
     ensures quiet { ¬ IsErrOf result HttpRefusal.ReadFault → S.faults source.new ≡ S.faults source.old }
@@ -65,6 +67,7 @@ fn unended_line(line: &[u8], passed: usize) -> HttpRefusal
     ensures denial { IsDenial result }
     ensures denied { Denies (HasNoLine passed) line.now result }
     ensures cut { result ≡ HttpRefusal.Cut → MayBecome (IsWholeLine passed) line.now }
+    ensures passed { result ≡ HttpRefusal.TooLong → PassesNext passed line.now }
 {
     let room = MAX_BODY - passed;
     let mut room_for_line = [0; MAX_CHUNK_LINE + 3];
@@ -106,6 +109,7 @@ pub(crate) fn take_crlf<S: Source>(intake: &mut Intake, source: &mut S) -> Resul
     ensures ok { OnOk result
         (before intake.old (S.left source.old) ≡ before (13 ∷ 10 ∷ []) (before intake.new (S.left source.new))) }
     ensures refused { IfErr result (Refuses (λ _. HasNoCrlf) (MayBecome IsCrlf) (before intake.old (S.left source.old)) (S.left source.new)) }
+    ensures within { ¬ IsErrOf result HttpRefusal.TooLong }
     ensures cut { IsErrOf result HttpRefusal.Cut → Told (S.left source.new) (λ bytes. bytes ≡ []) }
     ensures fault { IsErrOf result HttpRefusal.ReadFault → Rose (S.faults source.old) (S.faults source.new) }
     ensures quiet { ¬ IsErrOf result HttpRefusal.ReadFault → S.faults source.new ≡ S.faults source.old }

@@ -6,6 +6,7 @@ ghost use Rattle.std.specs.Prelude.{◌≡◌, [], ◌≤◌, OnOk, IfErr, IsErr
 ghost use Rattle.as4_flow.specs.Faults.{Rose};
 ghost use Rattle.as4_flow.specs.Told.{Told, before};
 ghost use Rattle.as4_http.specs.Chunks.{TakesChunk, HasNoChunk, TakesChunked, HasNoChunked, IsWholeChunk, IsWholeChunked};
+ghost use Rattle.as4_http.specs.Passed.{PassesChunked, Shows};
 ghost use Rattle.as4_http.specs.Refused.{Refuses, MayBecome};
 
 use crate::HttpRefusal;
@@ -26,6 +27,7 @@ pub(crate) fn take_chunks<S: Source>(
     ensures ok { OnOk result (TakesChunked body.new
         (before intake.old (S.left source.old)) (before intake.new (S.left source.new))) }
     ensures refused { IfErr result (Refuses HasNoChunked (MayBecome IsWholeChunked) (before intake.old (S.left source.old)) (S.left source.new)) }
+    ensures passed { IsErrOf result HttpRefusal.TooLong → Shows PassesChunked (before intake.old (S.left source.old)) (S.left source.new) }
     ensures cut { IsErrOf result HttpRefusal.Cut → Told (S.left source.new) (λ bytes. bytes ≡ []) }
     ensures fault { IsErrOf result HttpRefusal.ReadFault → Rose (S.faults source.old) (S.faults source.new) }
     ensures quiet { ¬ IsErrOf result HttpRefusal.ReadFault → S.faults source.new ≡ S.faults source.old }
@@ -50,6 +52,7 @@ fn take_chunk<S: Source>(
     ensures ok { OnOk result (TakesChunk size body.old body.new
         (before intake.old (S.left source.old)) (before intake.new (S.left source.new))) }
     ensures refused { IfErr result (Refuses (λ _. HasNoChunk size) (MayBecome (IsWholeChunk size)) (before intake.old (S.left source.old)) (S.left source.new)) }
+    ensures within { ¬ IsErrOf result HttpRefusal.TooLong }
     ensures cut { IsErrOf result HttpRefusal.Cut → Told (S.left source.new) (λ bytes. bytes ≡ []) }
     ensures fault { IsErrOf result HttpRefusal.ReadFault → Rose (S.faults source.old) (S.faults source.new) }
     ensures quiet { ¬ IsErrOf result HttpRefusal.ReadFault → S.faults source.new ≡ S.faults source.old }

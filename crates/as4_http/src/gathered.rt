@@ -3,8 +3,8 @@
 //!     bytes | room for more
 //!     0     len             room.len()
 //!
-//! The room grows by half of what is there, and is written with zeros once only: a piece of one byte costs
-//! no more than a byte of a large piece.
+//! The memory of the room grows by half of what is there. The room is written with zeros a piece at a time, and once
+//! only: a piece of one byte costs no more than a byte of a large piece.
 ghost use Rattle.std.specs.Prelude.{◌≡◌, [], ◌+◌, ◌++◌, ◌<◌, ◌≤◌, length, take, drop, IfOk, OnOk, IfErr, OnErr, IsErrOf};
 ghost use Rattle.as4_flow.specs.Faults.{Rose};
 ghost use Rattle.as4_flow.specs.Got.{IfGave, OnNothing, UnlessFailed};
@@ -129,11 +129,13 @@ fn make_room(room: &mut Vec<u8>, len: usize, most: usize) -> Result<(), AllocErr
     ensures within { len ≤ length room.new.items }
     ensures ok { OnOk result (len < length room.new.items) }
 {
-    if room.len() - len < most.min(PIECE) {
-        let step = (len / 2).max(2 * PIECE).min(most);
+    let piece = most.min(PIECE);
+    if room.capacity() - len < piece {
         room.truncate(len);
-        room.reserve_exact(step)?;
-        room.resize(len.saturating_add(step), 0)?;
+        room.reserve_exact((len / 2).max(2 * PIECE).min(most))?;
+    }
+    if room.len() - len < piece {
+        room.resize(len.saturating_add(piece), 0)?;
     }
     Ok(())
 }

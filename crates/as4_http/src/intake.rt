@@ -82,6 +82,7 @@ impl Intake {
         // What it holds moves to the front, so that each byte is moved at most once for each message or chunk.
         self.came.drop_front(self.start);
         self.start = 0;
-        self.came.fill(source, PIECE)
+        // Two pieces, so that memory is taken seldom where small ones come.
+        self.came.fill(source, 2 * PIECE)
     }
 }

@@ -8,7 +8,7 @@ pub enum HttpRefusal {
     Cut,
     /// However the bytes that were read go on, they are no message, whatever the limits.
     Bad,
-    /// However the bytes that were read go on, they are no message within the limits.
+    /// The bytes that were read pass a limit. However they go on, they are no message within the limits.
     TooLong,
     /// The source failed.
     ReadFault,

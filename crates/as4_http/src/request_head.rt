@@ -2,9 +2,10 @@
 ghost use Rattle.std.specs.Prelude.{◌≡◌, ◌≢◌, [], ◌≤◌, ◌<◌, length, drop, IfOk, OnErr, IfErr, IsErrOf};
 ghost use Rattle.as4_flow.specs.Faults.{Rose};
 ghost use Rattle.as4_flow.specs.Told.{Told, before};
-ghost use Rattle.httparse.specs.Grammar.{RequestHead};
+ghost use Rattle.httparse.specs.Grammar.{RequestHead, MayBecomeRequest};
 ghost use Rattle.httparse.specs.Spans.{IsRequestAt, IsRequestWithin, IsRequestOf};
 ghost use Rattle.as4_http.specs.Limits.{the_limits};
+ghost use Rattle.as4_http.specs.Passed.{IsLongHead, PassesRequest, Shows};
 ghost use Rattle.as4_http.specs.Refused.{Refuses, Denies};
 ghost use Rattle.as4_http.specs.RequestStarts.{SaysRequest, TakesRequestHead, BeginsRequestHead, HasNoRequestHead, EndsInRequestHead, IsSmallRequest};
 
@@ -23,6 +24,7 @@ pub(crate) fn read_request_head<S: Source>(
     ensures ok { IfOk result (TakesRequestHead
         (before intake.old (S.left source.old)) (before intake.new (S.left source.new))) }
     ensures refused { IfErr result (Refuses HasNoRequestHead EndsInRequestHead (before intake.old (S.left source.old)) (S.left source.new)) }
+    ensures passed { IsErrOf result HttpRefusal.TooLong → Shows PassesRequest (before intake.old (S.left source.old)) (S.left source.new) }
     ensures cut { IsErrOf result HttpRefusal.Cut → Told (S.left source.new) (λ bytes. bytes ≡ []) }
     ensures fault { IsErrOf result HttpRefusal.ReadFault → Rose (S.faults source.old) (S.faults source.new) }
     ensures quiet { ¬ IsErrOf result HttpRefusal.ReadFault → S.faults source.new ≡ S.faults source.old }
@@ -53,6 +55,7 @@ fn take_head(
     requires fields { length headers.now ≤ MAX_FIELDS }
     ensures ok { IfOk result (BeginsRequestHead the_limits intake.old intake.new) }
     ensures denied { IfErr result (Denies HasNoRequestHead intake.old) }
+    ensures passed { IsErrOf result HttpRefusal.TooLong → IsLongHead MayBecomeRequest intake.old }
     ensures cause { ¬ IsErrOf result HttpRefusal.ReadFault × ¬ IsErrOf result HttpRefusal.Cut }
 {
     if spans.len > MAX_HEAD {

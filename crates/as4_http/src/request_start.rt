@@ -36,7 +36,7 @@ pub(crate) fn request_start(
     requires within { IsRequestWithin buf.now headers.now spans.now }
     ensures ok { IfOk result (λ start. (head : RequestHead) → IsRequestAt buf.now headers.now spans.now head → SaysRequest head start) }
     ensures none { OnRefused result ((head : RequestHead) (start : RequestStart) → IsRequestAt buf.now headers.now spans.now head → ¬ SaysRequest head start) }
-    ensures cause { ¬ IsErrOf result HttpRefusal.ReadFault × ¬ IsErrOf result HttpRefusal.Cut }
+    ensures cause { ¬ IsErrOf result HttpRefusal.ReadFault × ¬ IsErrOf result HttpRefusal.Cut × ¬ IsErrOf result HttpRefusal.TooLong }
 {
     let fields = &headers[..spans.headers];
     let method = method_of(spans.method.of(buf))?;

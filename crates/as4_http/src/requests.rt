@@ -3,6 +3,7 @@ ghost use Rattle.std.specs.Prelude.{◌≡◌, ◌<◌, ◌≤◌, ◌⊎◌, �
 ghost use Rattle.as4_flow.specs.Faults.{Rose};
 ghost use Rattle.as4_flow.specs.Told.{Told, before};
 ghost use Rattle.as4_values.specs.Address.{has_address_form};
+ghost use Rattle.as4_http.specs.Passed.{PassesRequest, Shows};
 ghost use Rattle.as4_http.specs.ReadBack.{IsMedia, IsWithinLimits, request_to};
 ghost use Rattle.as4_http.specs.Refused.{OnRefused, Dooms};
 ghost use Rattle.as4_http.specs.Requests.{BeginsKept, BeginsRequest, HasNoRequest, IsNoRequest, IsCutRequest};
@@ -25,6 +26,8 @@ impl Intake {
         // However the bytes go on that were read, they begin no request: whatever the limits, or within the limits.
         ensures bad { IsErrOf result HttpRefusal.Bad → Dooms IsNoRequest (before self (S.left source.old)) (S.left source.new) }
         ensures too_long { IsErrOf result HttpRefusal.TooLong → Dooms HasNoRequest (before self (S.left source.old)) (S.left source.new) }
+        // Where they pass a limit, what stands before it is right.
+        ensures passed { IsErrOf result HttpRefusal.TooLong → Shows PassesRequest (before self (S.left source.old)) (S.left source.new) }
 
         // The source has ended, inside a head or where more bytes make a request within the limits.
         ensures cut { IsErrOf result HttpRefusal.Cut → Told (S.left source.new) (λ bytes. bytes ≡ []) }
@@ -48,6 +51,7 @@ impl Intake {
         ensures only { OnRefused result (Told (before self (S.left source.old)) HasNoRequest) }
         ensures bad { IsErrOf result HttpRefusal.Bad → Dooms IsNoRequest (before self (S.left source.old)) (S.left source.new) }
         ensures too_long { IsErrOf result HttpRefusal.TooLong → Dooms HasNoRequest (before self (S.left source.old)) (S.left source.new) }
+        ensures passed { IsErrOf result HttpRefusal.TooLong → Shows PassesRequest (before self (S.left source.old)) (S.left source.new) }
 
         ensures cut { IsErrOf result HttpRefusal.Cut → Told (S.left source.new) (λ bytes. bytes ≡ []) }
         ensures begun { IsErrOf result HttpRefusal.Cut → Told (before self (S.left source.old)) IsCutRequest }

@@ -2,9 +2,10 @@
 ghost use Rattle.std.specs.Prelude.{◌≡◌, [], ◌≤◌, ◌<◌, length, drop, IfOk, OnErr, IfErr, IsErrOf};
 ghost use Rattle.as4_flow.specs.Faults.{Rose};
 ghost use Rattle.as4_flow.specs.Told.{Told, before};
-ghost use Rattle.httparse.specs.Grammar.{ResponseHead};
+ghost use Rattle.httparse.specs.Grammar.{ResponseHead, MayBecomeResponse};
 ghost use Rattle.httparse.specs.Spans.{IsResponseAt, IsResponseWithin, IsResponseOf};
 ghost use Rattle.as4_http.specs.Limits.{the_limits};
+ghost use Rattle.as4_http.specs.Passed.{IsLongHead, PassesResponse, Shows};
 ghost use Rattle.as4_http.specs.Refused.{Refuses, Denies};
 ghost use Rattle.as4_http.specs.ResponseStarts.{SaysResponse, TakesResponseHead, BeginsResponseHead, HasNoResponseHead, EndsInResponseHead, IsSmallResponse};
 
@@ -24,6 +25,7 @@ pub(crate) fn read_response_head<S: Source>(
     ensures ok { IfOk result (TakesResponseHead
         (before intake.old (S.left source.old)) (before intake.new (S.left source.new))) }
     ensures refused { IfErr result (Refuses HasNoResponseHead EndsInResponseHead (before intake.old (S.left source.old)) (S.left source.new)) }
+    ensures passed { IsErrOf result HttpRefusal.TooLong → Shows PassesResponse (before intake.old (S.left source.old)) (S.left source.new) }
     ensures cut { IsErrOf result HttpRefusal.Cut → Told (S.left source.new) (λ bytes. bytes ≡ []) }
     ensures fault { IsErrOf result HttpRefusal.ReadFault → Rose (S.faults source.old) (S.faults source.new) }
     ensures quiet { ¬ IsErrOf result HttpRefusal.ReadFault → S.faults source.new ≡ S.faults source.old }
@@ -54,6 +56,7 @@ fn take_head(
     requires fields { length headers.now ≤ MAX_FIELDS }
     ensures ok { IfOk result (BeginsResponseHead the_limits intake.old intake.new) }
     ensures denied { IfErr result (Denies HasNoResponseHead intake.old) }
+    ensures passed { IsErrOf result HttpRefusal.TooLong → IsLongHead MayBecomeResponse intake.old }
     ensures cause { ¬ IsErrOf result HttpRefusal.ReadFault × ¬ IsErrOf result HttpRefusal.Cut }
 {
     if spans.len > MAX_HEAD {

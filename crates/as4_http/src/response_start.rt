@@ -35,7 +35,7 @@ pub(crate) fn response_start(
     requires within { IsResponseWithin buf.now headers.now spans.now }
     ensures ok { IfOk result (λ start. (head : ResponseHead) → IsResponseAt buf.now headers.now spans.now head → SaysResponse head start) }
     ensures none { OnRefused result ((head : ResponseHead) (start : ResponseStart) → IsResponseAt buf.now headers.now spans.now head → ¬ SaysResponse head start) }
-    ensures cause { ¬ IsErrOf result HttpRefusal.ReadFault × ¬ IsErrOf result HttpRefusal.Cut }
+    ensures cause { ¬ IsErrOf result HttpRefusal.ReadFault × ¬ IsErrOf result HttpRefusal.Cut × ¬ IsErrOf result HttpRefusal.TooLong }
 {
     let fields = &headers[..spans.headers];
     if spans.code < LEAST_STATUS {

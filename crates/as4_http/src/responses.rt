@@ -2,6 +2,7 @@
 ghost use Rattle.std.specs.Prelude.{◌≡◌, [], ◌≤◌, ◌++◌, ℕ, List, Option, IsTrue, codes, IfSome, IfOk, IsErrOf};
 ghost use Rattle.as4_flow.specs.Faults.{Rose};
 ghost use Rattle.as4_flow.specs.Told.{Told, before};
+ghost use Rattle.as4_http.specs.Passed.{PassesResponse, Shows};
 ghost use Rattle.as4_http.specs.ReadBack.{IsMedia, IsWithinLimits, response_with};
 ghost use Rattle.as4_http.specs.Refused.{OnRefused, Dooms};
 ghost use Rattle.as4_http.specs.Responses.{BeginsResponse, HasNoResponse, IsNoResponse, IsCutResponse};
@@ -24,6 +25,8 @@ impl Intake {
         // However the bytes go on that were read, they begin no response: whatever the limits, or within the limits.
         ensures bad { IsErrOf result HttpRefusal.Bad → Dooms IsNoResponse (before self (S.left source.old)) (S.left source.new) }
         ensures too_long { IsErrOf result HttpRefusal.TooLong → Dooms HasNoResponse (before self (S.left source.old)) (S.left source.new) }
+        // Where they pass a limit, what stands before it is right.
+        ensures passed { IsErrOf result HttpRefusal.TooLong → Shows PassesResponse (before self (S.left source.old)) (S.left source.new) }
 
         // The source has ended, inside a head or where more bytes make a response within the limits.
         ensures cut { IsErrOf result HttpRefusal.Cut → Told (S.left source.new) (λ bytes. bytes ≡ []) }

@@ -1,9 +1,10 @@
 //! The trailers behind the last chunk (RFC 9112, section 7.1.2): field lines, which are skipped one by one, and
 //! the empty line behind them. No memory is taken for them.
-ghost use Rattle.std.specs.Prelude.{◌≡◌, [], ◌+◌, ◌<◌, ◌≤◌, length, take, IfOk, OnOk, OnErr, IfErr, IsErrOf, IfSome, IfNone};
+ghost use Rattle.std.specs.Prelude.{◌≡◌, [], ◌+◌, ◌<◌, ◌≤◌, ◌⊎◌, true, false, length, take, IfOk, OnOk, OnErr, IfErr, IsErrOf, IfSome, IfNone};
 ghost use Rattle.as4_flow.specs.Faults.{Rose};
 ghost use Rattle.as4_flow.specs.Told.{Told, before};
-ghost use Rattle.httparse.specs.Grammar.{MayBecomeSection};
+ghost use Rattle.httparse.specs.Grammar.{MayBecomeSection, NeverHasSection};
+ghost use Rattle.as4_http.specs.Passed.{GoesOver, IsLongTrailers, ReadsTrailers, Shows};
 ghost use Rattle.as4_http.specs.Refused.{IsDenial, MayBecome, Refuses, Denies};
 ghost use Rattle.as4_http.specs.Trailers.{HasNoLf, BeginsWithLine, IsLine, EndsTrailers, BeginsNoLine, TakesTrailers, HasNoTrailers, AreTrailers, LeavesMissing, MissesOnly};
 
@@ -22,6 +23,7 @@ pub(crate) fn take_trailers<S: Source>(
     ensures ok { OnOk result (TakesTrailers
         (before intake.old (S.left source.old)) (before intake.new (S.left source.new))) }
     ensures refused { IfErr result (Refuses (HasNoTrailers 0) (MayBecome (AreTrailers 0)) (before intake.old (S.left source.old)) (S.left source.new)) }
+    ensures passed { IsErrOf result HttpRefusal.TooLong → Shows (GoesOver ReadsTrailers (IsLongTrailers 0)) (before intake.old (S.left source.old)) (S.left source.new) }
     ensures cut { IsErrOf result HttpRefusal.Cut → Told (S.left source.new) (λ bytes. bytes ≡ []) }
     ensures fault { IsErrOf result HttpRefusal.ReadFault → Rose (S.faults source.old) (S.faults source.new) }
     ensures quiet { ¬ IsErrOf result HttpRefusal.ReadFault → S.faults source.new ≡ S.faults source.old }
@@ -51,6 +53,7 @@ fn hold_line<S: Source>(
     ensures within { IfOk result (λ n. passed + n ≤ MAX_TRAILERS) }
     ensures whole { before intake.old (S.left source.old) ≡ before intake.new (S.left source.new) }
     ensures refused { IfErr result (Refuses (HasNoTrailers passed) (MayBecome (AreTrailers passed)) (before intake.old (S.left source.old)) (S.left source.new)) }
+    ensures passed { IsErrOf result HttpRefusal.TooLong → Shows (GoesOver ReadsTrailers (IsLongTrailers passed)) (before intake.old (S.left source.old)) (S.left source.new) }
     ensures cut { IsErrOf result HttpRefusal.Cut → Told (S.left source.new) (λ bytes. bytes ≡ []) }
     ensures fault { IsErrOf result HttpRefusal.ReadFault → Rose (S.faults source.old) (S.faults source.new) }
     ensures quiet { ¬ IsErrOf result HttpRefusal.ReadFault → S.faults source.new ≡ S.faults source.old }
@@ -61,12 +64,12 @@ fn hold_line<S: Source>(
     'pieces: loop {
         match line_in(intake.bytes(), scanned) {
             Some(len) if len <= most => return Ok(len),
-            Some(_) => return Err(HttpRefusal::TooLong),
+            Some(_) => return Err(endless(&intake.bytes()[..most])),
             None => {}
         }
         scanned = intake.len();
         if scanned >= most {
-            return Err(HttpRefusal::TooLong);
+            return Err(endless(&intake.bytes()[..most]));
         }
         match intake.fill(source) {
             Ok(_) => {}
@@ -84,14 +87,38 @@ fn unended_line(line: &[u8], passed: usize) -> HttpRefusal
     ensures denial { IsDenial result }
     ensures denied { Denies (HasNoTrailers passed) line.now result }
     ensures cut { result ≡ HttpRefusal.Cut → MayBecome (AreTrailers passed) line.now }
+    ensures passed { result ≡ HttpRefusal.TooLong → GoesOver ReadsTrailers (IsLongTrailers passed) line.now }
 {
-    if parse_headers(line, &mut [EMPTY_HEADER_SPAN; 1]).is_err() {
+    if !may_end(line) {
         return HttpRefusal::Bad;
     }
     if line.len().saturating_add(missing(line)) > MAX_TRAILERS - passed {
         return HttpRefusal::TooLong;
     }
     HttpRefusal::Cut
+}
+
+// What trailers are that go on past their limit, of which this is the last line as far as the limit.
+fn endless(line: &[u8]) -> HttpRefusal
+    requires { HasNoLf line.now }
+    ensures either { (result ≡ HttpRefusal.Bad) ⊎ (result ≡ HttpRefusal.TooLong) }
+    ensures bad { result ≡ HttpRefusal.Bad → NeverHasSection line.now }
+    ensures too_long { result ≡ HttpRefusal.TooLong → MayBecomeSection line.now }
+{
+    if may_end(line) {
+        HttpRefusal::TooLong
+    } else {
+        HttpRefusal::Bad
+    }
+}
+
+// Whether more bytes make trailers of an unended line.
+fn may_end(line: &[u8]) -> bool
+    requires { HasNoLf line.now }
+    ensures may { result ≡ true → MayBecomeSection line.now }
+    ensures never { result ≡ false → NeverHasSection line.now }
+{
+    parse_headers(line, &mut [EMPTY_HEADER_SPAN; 1]).is_ok()
 }
 
 // How many bytes are missing behind an unended line at least, with the empty line.

@@ -1,7 +1,7 @@
 //! Streams at the limits and past them, and streams that come in single bytes.
 use crate::reading::requests_of;
 use as4_flow::MemorySource;
-use as4_http::{HttpRefusal, Intake, MAX_BODY, MAX_CHUNK_LINE, MAX_FIELDS, MAX_HEAD};
+use as4_http::{HttpRefusal, Intake, MAX_BODY, MAX_CHUNK_LINE, MAX_FIELDS, MAX_HEAD, MAX_TRAILERS};
 use std::alloc::{AllocError, Global};
 use std::test::Fail;
 
@@ -43,7 +43,7 @@ const LAST: &[u8] = b"GET /a HTTP/1.1\r\nTransfer-Encoding: chunked\r\n\r\n0\r\n
 
 /// A front, a byte or two that come so many times, an end, and the first byte of what is read: `G` where it is the
 /// request, and else the refusal.
-const ROWS: [(&[u8], &[u8], usize, &[u8], u8); 22] = [
+const ROWS: [(&[u8], &[u8], usize, &[u8], u8); 28] = [
     (b"", b"\n", MAX_HEAD - 18, b"GET / HTTP/1.1\r\n\r\n", b'G'),
     (b"", b"\n", MAX_HEAD - 17, b"GET / HTTP/1.1\r\n\r\n", b'T'),
     (b"GET /", b"a", MAX_HEAD - 5, b"", b'C'),
@@ -96,6 +96,12 @@ const ROWS: [(&[u8], &[u8], usize, &[u8], u8); 22] = [
     (LAST, b"a:\n", 21_844, b"a", b'C'),
     (LAST, b"a:\n", 21_844, b"aa", b'T'),
     (LAST, b"a:\n", 21_844, b"a:b", b'T'),
+    (LAST, b"a:\n", 21_844, b"a b:\n", b'B'),
+    (LAST, b"a:\n", 21_845, b"\x01:\n", b'B'),
+    (LAST, b"a", MAX_TRAILERS, b":\n\n", b'T'),
+    (LAST, b" ", MAX_TRAILERS, b":\n\n", b'B'),
+    (CHUNKS, b"0", MAX_CHUNK_LINE, b"\r\n\r\n", b'B'),
+    (CHUNKS, b";", MAX_CHUNK_LINE, b"\r\n\r\n", b'B'),
 ];
 
 /// The first row of which something else is read.

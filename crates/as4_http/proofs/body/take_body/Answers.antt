@@ -3,7 +3,8 @@ use Rattle.as4_http.specs.Came.{IsShorter}
 use Rattle.as4_http.specs.Refused.{MayBecome}
 use Rattle.as4_http.specs.Bodies.{HasNoBody, IsBody, IsLong}
 use Rattle.as4_http.specs.Chunks.{HasNoChunked, IsWholeChunked}
-use Rattle.as4_http.proofs.BodyLemmas.{short_body, chunked_body, chunked_may, rest_body}
+use Rattle.as4_http.proofs.BodyLemmas.{short_body, chunked_body, chunked_may, rest_body, rest_shows}
+use Rattle.as4_http.proofs.PassedLemmas.{too_long_exit}
 use Rattle.as4_http.proofs.RefusedLemmas.{refused_exit, refuses_as, stop_exit}
 use Rattle.as4_http.proofs.body.take_body.Goals as goal
 
@@ -25,3 +26,8 @@ pub returns-in_err-take_rest-in-ToEnd-clause-refused : goal.returns-in_err-take_
 returns-in_err-take_rest-in-ToEnd-clause-refused g c =
     refused_exit c.from_residual-in_err-take_rest-in-ToEnd.result c.in_err-take_rest-in-ToEnd.field-0.0 c.from_residual-in_err-take_rest-in-ToEnd.ensures.1
     (refuses_as IsLong (HasNoBody c.args.framing) (λ _. ⊥) (MayBecome (IsBody c.args.framing)) _ _ (rest_body c.args.framing c.in-ToEnd.is) (λ stream none. absurd none)) c.in_err-take_rest-in-ToEnd.ensures.refused
+
+pub returns-in_err-take_rest-in-ToEnd-clause-passed : goal.returns-in_err-take_rest-in-ToEnd-clause-passed
+returns-in_err-take_rest-in-ToEnd-clause-passed g c =
+    too_long_exit c.from_residual-in_err-take_rest-in-ToEnd.result c.in_err-take_rest-in-ToEnd.field-0.0 c.from_residual-in_err-take_rest-in-ToEnd.ensures.1
+    (λ is. rest_shows c.args.framing _ _ c.in_err-take_rest-in-ToEnd.field-0.0 c.in-ToEnd.is is c.in_err-take_rest-in-ToEnd.ensures.refused)

@@ -1,12 +1,13 @@
 use Rattle.std.proofs.Common.{◌≡◌, List, ℕ, sym, ◌∙◌, subst, ap, Err, arith}
 use Rattle.as4_flow.specs.Told.{before}
-use Rattle.httparse.specs.Grammar.{ChunkLine, HasNoChunkLine}
+use Rattle.httparse.specs.Grammar.{ChunkLine, HasNoChunkLine, MayBecomeChunkLine}
 use Rattle.httparse.specs.Spans.{IsChunkLineAt}
 use Rattle.as4_http.specs.ChunkLines.{HasNoLine, IsWholeLine}
 use Rattle.as4_http.specs.Limits.{the_limits}
+use Rattle.as4_http.specs.Passed.{IsLongLine, IsLargeChunk, long_line, large_chunk}
 use Rattle.as4_http.specs.declared.refusal.HttpRefusal.TheVariants.{Cut}
 use Rattle.as4_http.specs.Refused.{MayBecome, Denies}
-use Rattle.as4_http.proofs.ChunkLineLemmas.{line_long, line_over, line_yet, line_none}
+use Rattle.as4_http.proofs.ChunkLineLemmas.{line_long, line_over, line_yet, line_none, line_passes, line_passes_yet}
 use Rattle.as4_http.proofs.RefusedLemmas.{denies_held}
 use Rattle.as4_http.proofs.StreamLemmas.{told_end}
 use Rattle.as4_http.proofs.chunk_line.take_line.Goals as goal
@@ -41,3 +42,23 @@ returns-in-Err-Cut-clause-refused g c =
     denies_held (HasNoLine c.args.passed) (MayBecome (IsWholeLine c.args.passed)) _ (g.S.Source.left c.fill.new.source) held taken c.unended_line.result
     (λ cut. told_end (λ stream. HasNoLine c.args.passed the_limits stream × MayBecome (IsWholeLine c.args.passed) stream) _ (g.S.Source.left c.pieces.source) held c.pieces.invariant.whole end (line_none held c.args.passed none, cut_line cut))
     (subst (λ (b : List ℕ). Denies (HasNoLine c.args.passed) b c.unended_line.result) (c.bytes-in-Err-Cut.ensures ∙ same.0) c.unended_line.ensures.denied)
+
+pub returns-in-Ok-Complete-clause-passed : goal.returns-in-Ok-Complete-clause-passed
+returns-in-Ok-Complete-clause-passed g c =
+    let found = rw c.in-Ok-Complete.field-0-is at c.in-Ok-Complete.ensures.complete in
+    let at : (line : ChunkLine) × IsChunkLineAt c.pieces.intake c.in-Ok-Complete.len c.in-Ok-Complete.field-0-0-1 line = subst (λ (b : List ℕ). (line : ChunkLine) × IsChunkLineAt b c.in-Ok-Complete.len c.in-Ok-Complete.field-0-0-1 line) c.bytes.ensures found in
+    λ is. record { read = c.pieces.intake; taken = c.pieces.invariant.whole; holds = long_line (line_passes IsLongLine c.pieces.intake c.in-Ok-Complete.len c.in-Ok-Complete.field-0-0-1 at (omega (arith, at.1.len_is, c.if-len-gt-MAX_CHUNK_LINE.true))) }
+
+pub returns-in-Ok-Complete-2-clause-passed : goal.returns-in-Ok-Complete-2-clause-passed
+returns-in-Ok-Complete-2-clause-passed g c =
+    let found = rw c.in-Ok-Complete-2.field-0-is at c.in-Ok-Complete.ensures.complete in
+    let at : (line : ChunkLine) × IsChunkLineAt c.pieces.intake c.in-Ok-Complete-2.field-0-0-0 c.in-Ok-Complete-2.size line = subst (λ (b : List ℕ). (line : ChunkLine) × IsChunkLineAt b c.in-Ok-Complete-2.field-0-0-0 c.in-Ok-Complete-2.size line) c.bytes.ensures found in
+    λ is. record { read = c.pieces.intake; taken = c.pieces.invariant.whole; holds = large_chunk (line_passes (IsLargeChunk c.args.passed) c.pieces.intake c.in-Ok-Complete-2.field-0-0-0 c.in-Ok-Complete-2.size at (omega (arith, at.1.size_is, c.if-size-room.true))) }
+
+pub returns-then-len-gt-MAX_CHUNK_LINE-2-clause-passed : goal.returns-then-len-gt-MAX_CHUNK_LINE-2-clause-passed
+returns-then-len-gt-MAX_CHUNK_LINE-2-clause-passed g c =
+    let partial = rw c.in-Ok-Partial.field-0-is at c.in-Ok-Partial.ensures.partial in
+    let unfinished = rw c.in-Ok-Partial.field-0-is at c.in-Ok-Partial.ensures.unfinished in
+    let none : HasNoChunkLine c.pieces.intake = subst (λ (b : List ℕ). HasNoChunkLine b) c.bytes.ensures partial in
+    let may : MayBecomeChunkLine c.pieces.intake = subst (λ (b : List ℕ). MayBecomeChunkLine b) c.bytes.ensures unfinished in
+    λ is. record { read = c.pieces.intake; taken = c.pieces.invariant.whole; holds = long_line (line_passes_yet c.pieces.intake none may (omega arith)) }

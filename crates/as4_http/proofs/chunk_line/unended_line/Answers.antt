@@ -1,5 +1,6 @@
 use Rattle.std.proofs.Common.{arith}
-use Rattle.as4_http.proofs.ChunkLineLemmas.{ended_long, ended_over}
+use Rattle.as4_http.specs.Passed.{long_line, large_chunk}
+use Rattle.as4_http.proofs.ChunkLineLemmas.{ended_long, ended_passes, ended_over, ended_passes_body}
 use Rattle.as4_http.proofs.LineEndLemmas.{may_whole, ended_line, ended_never}
 use Rattle.as4_http.proofs.chunk_line.unended_line.Goals as goal
 
@@ -26,3 +27,13 @@ returns-in-Ok-Partial-clause-cut c =
 pub returns-in-Err-clause-cut : goal.returns-in-Err-clause-cut
 returns-in-Err-clause-cut c =
     absurd (ended_never c.args.line.now c.end_line.result.now c.shortest_end.result.now c.requires.none c.requires.may c.end_line.ensures c.shortest_end.ensures c.in-Err.ensures.invalid)
+
+pub returns-in-Ok-Complete-clause-passed : goal.returns-in-Ok-Complete-clause-passed
+returns-in-Ok-Complete-clause-passed c =
+    let found = rw c.in-Ok-Complete.field-0-is at c.in-Ok-Complete.ensures.complete in
+    λ is. long_line (ended_passes c.args.line.now c.end_line.result.now c.shortest_end.result.now c.in-Ok-Complete.len c.in-Ok-Complete.field-0-0-1 c.requires.none c.requires.may c.end_line.ensures c.shortest_end.ensures found c.if-len-gt-MAX_CHUNK_LINE.true)
+
+pub returns-in-Ok-Complete-2-clause-passed : goal.returns-in-Ok-Complete-2-clause-passed
+returns-in-Ok-Complete-2-clause-passed c =
+    let found = rw c.in-Ok-Complete.field-0-is at c.in-Ok-Complete.ensures.complete in
+    λ is. large_chunk (ended_passes_body c.args.line.now c.end_line.result.now c.shortest_end.result.now c.in-Ok-Complete.len c.in-Ok-Complete.field-0-0-1 c.args.passed c.requires.may c.end_line.ensures c.shortest_end.ensures found (omega (arith, c.if-size-room.true)))

@@ -1,4 +1,4 @@
-use Rattle.std.proofs.Common.{◌≡◌, ℕ, ◌++◌, ◌∷◌, [], sym, ◌∙◌, ap, subst, arith, length, length-append}
+use Rattle.std.proofs.Common.{◌≡◌, ℕ, ◌++◌, ◌∷◌, [], Err, sym, ◌∙◌, ap, subst, arith, length, length-append}
 use Rattle.std.proofs.lemmas.List.Elements.{All-push}
 use Rattle.std.proofs.lemmas.Result.{on_ok_weaker}
 use Rattle.std.specs.List.{flat_map}
@@ -9,7 +9,8 @@ use Rattle.as4_http.specs.Chunks.{IsChunk, IsShortChunk, HasNoChunk, IsWholeChun
 use Rattle.as4_http.specs.Limits.{the_limits}
 use Rattle.as4_http.specs.Refused.{MayBecome}
 use Rattle.as4_http.specs.Trailers.{AreTrailers, HasNoTrailers}
-use Rattle.as4_http.proofs.ChunkedLemmas.{refuses_line, refuses_next, passed_of, chunk_may, trailers_may, goes_to_trailers, goes_to_chunk, chunked, made, chunk_taken, chunk_joined}
+use Rattle.as4_http.proofs.ChunkedLemmas.{chunks_show, last_shows, refuses_line, refuses_next, passed_of, chunk_may, trailers_may, goes_to_trailers, goes_to_chunk, chunked, made, chunk_taken, chunk_joined}
+use Rattle.as4_http.proofs.PassedLemmas.{too_long_exit}
 use Rattle.as4_http.proofs.RefusedLemmas.{refused_exit, refused_weaker, may_behind_two}
 use Rattle.as4_http.proofs.chunks.take_chunks.Goals as goal
 
@@ -22,6 +23,18 @@ returns-in_err-size-clause-refused g c =
     refused_exit c.from_residual.result c.in_err-size.field-0.0 c.from_residual.ensures.1
     (refuses_line c.chunks.invariant.chunks _ _ _ _ passed (passed_of c.chunks.invariant.chunks c.chunks.body c.chunks.invariant.valid c.chunks.invariant.short c.chunks.invariant.joins c.chunks.invariant.within) c.chunks.invariant.taken)
     c.in_err-size.ensures.refused
+
+pub returns-in_err-size-clause-passed : goal.returns-in_err-size-clause-passed
+returns-in_err-size-clause-passed g c =
+    let passed : _ ≡ length (joined c.chunks.invariant.chunks) = c.len.ensures ∙ ap length c.chunks.invariant.joins in
+    too_long_exit c.from_residual.result c.in_err-size.field-0.0 c.from_residual.ensures.1
+    (λ is. chunks_show c.chunks.invariant.chunks c.len.result _ _ _ (passed_of c.chunks.invariant.chunks c.chunks.body c.chunks.invariant.valid c.chunks.invariant.short c.chunks.invariant.joins c.chunks.invariant.within) passed c.chunks.invariant.taken (c.in_err-size.ensures.passed (ap Err is)))
+
+pub returns-then-size-eq0-clause-passed : goal.returns-then-size-eq0-clause-passed
+returns-then-size-eq0-clause-passed g c =
+    let line = c.in_ok-size.ensures.ok in
+    let zero : _ ≡ 0 = sym line.says ∙ c.if-size-eq0.true in
+    λ is. last_shows c.chunks.invariant.chunks line.line _ _ _ _ (passed_of c.chunks.invariant.chunks c.chunks.body c.chunks.invariant.valid c.chunks.invariant.short c.chunks.invariant.joins c.chunks.invariant.within) line.valid zero c.chunks.invariant.taken line.taken (c.take_trailers.ensures.passed is)
 
 pub returns-then-size-eq0-clause-ok : goal.returns-then-size-eq0-clause-ok
 returns-then-size-eq0-clause-ok g c =

@@ -1,27 +1,61 @@
-use Rattle.std.proofs.Common.{◌≡◌, List, ℕ, ◌+◌, refl, sym, ◌∙◌, subst, ap, Err, arith}
+use Rattle.std.proofs.Common.{◌≡◌, List, ℕ, ◌+◌, ◌-◌, ◌≤◌, length, take, refl, sym, ◌∙◌, subst, ap, Err, arith}
+use Rattle.std.proofs.lemmas.List.{length-take-le}
 use Rattle.as4_http.specs.Limits.{the_limits}
 use Rattle.as4_flow.specs.Told.{before}
+use Rattle.as4_http.specs.declared.limits.TheConstants.{MAX_TRAILERS}
 use Rattle.as4_http.specs.declared.refusal.HttpRefusal.TheVariants.{Cut}
 use Rattle.as4_http.specs.Refused.{MayBecome, Denies}
 use Rattle.as4_http.specs.Trailers.{HasNoLf, BeginsWithLine, AreTrailers, HasNoTrailers}
-use Rattle.as4_http.proofs.LineLemmas.{no_lf_none, same_line, line_longer}
+use Rattle.as4_http.proofs.LineLemmas.{no_lf_none, no_lf_take, no_lf_within, line_within}
 use Rattle.as4_http.proofs.RefusedLemmas.{denies_held}
 use Rattle.as4_http.proofs.StreamLemmas.{told_end}
-use Rattle.as4_http.proofs.TrailerLemmas.{none_within, none_ended}
+use Rattle.as4_http.proofs.TrailerLemmas.{none_ended, endless_refuses, endless_shows}
 use Rattle.as4_http.proofs.trailers.hold_line.Goals as goal
 
 pub pieces-init : goal.pieces-init
 pieces-init g c = record { within = omega arith; none = no_lf_none; whole = refl; quiet = refl }
 
+-- as many bytes as the limit leaves
+full : (held : List ℕ) (passed n : ℕ) → passed ≤ MAX_TRAILERS → n ≡ MAX_TRAILERS - passed → n ≤ length held → MAX_TRAILERS ≤ passed + length (take n held)
+full held passed n within most enough = omega (arith, length-take-le n held enough)
+
+pub endless-requires : goal.endless-requires
+endless-requires g c =
+    let line : BeginsWithLine c.pieces.intake c.in-Some.len = subst (λ (b : List ℕ). BeginsWithLine b c.in-Some.len) c.bytes.ensures c.in-Some.ensures.some in
+    subst (λ (b : List ℕ). HasNoLf (take (MAX_TRAILERS - c.args.passed) b)) (sym c.bytes-in-Some-2.ensures) (no_lf_within c.pieces.intake c.in-Some.len (MAX_TRAILERS - c.args.passed) line c.if-len-most.false)
+
 pub returns-in-Some-2-clause-refused : goal.returns-in-Some-2-clause-refused
 returns-in-Some-2-clause-refused g c =
-    let line : BeginsWithLine c.pieces.intake c.in-Some.len = subst (λ (b : List ℕ). BeginsWithLine b c.in-Some.len) c.bytes.ensures c.in-Some.ensures.some in
-    record { read = c.pieces.intake; taken = c.pieces.invariant.whole; doomed = λ more. none_within the_limits c.pieces.intake more c.in-Some.len c.args.passed (λ m other. omega (arith, same_line c.pieces.intake more c.in-Some.len m line other)) (omega (arith, c.if-len-most.false)) }
+    let held = c.pieces.intake in
+    let most = MAX_TRAILERS - c.args.passed in
+    let line : BeginsWithLine held c.in-Some.len = subst (λ (b : List ℕ). BeginsWithLine b c.in-Some.len) c.bytes.ensures c.in-Some.ensures.some in
+    endless_refuses c.endless.result _ (g.S.Source.left c.pieces.source) c.bytes-in-Some-2.result.now held most c.args.passed c.endless.ensures.either c.endless.ensures.bad c.bytes-in-Some-2.ensures c.pieces.invariant.whole (no_lf_within held c.in-Some.len most line c.if-len-most.false) (full held c.args.passed most c.requires refl (omega (arith, c.if-len-most.false, line_within held c.in-Some.len line)))
+
+pub returns-in-Some-2-clause-passed : goal.returns-in-Some-2-clause-passed
+returns-in-Some-2-clause-passed g c =
+    let held = c.pieces.intake in
+    let most = MAX_TRAILERS - c.args.passed in
+    let line : BeginsWithLine held c.in-Some.len = subst (λ (b : List ℕ). BeginsWithLine b c.in-Some.len) c.bytes.ensures c.in-Some.ensures.some in
+    λ is. endless_shows _ (g.S.Source.left c.pieces.source) c.bytes-in-Some-2.result.now held most c.args.passed (c.endless.ensures.too_long (cc)) c.bytes-in-Some-2.ensures c.pieces.invariant.whole (no_lf_within held c.in-Some.len most line c.if-len-most.false) (full held c.args.passed most c.requires refl (omega (arith, c.if-len-most.false, line_within held c.in-Some.len line)))
+
+pub endless-requires-then-scanned-most : goal.endless-requires-then-scanned-most
+endless-requires-then-scanned-most g c =
+    let none : HasNoLf c.pieces.intake = subst (λ (b : List ℕ). HasNoLf b) c.bytes.ensures c.in-None.ensures.none in
+    subst (λ (b : List ℕ). HasNoLf (take (MAX_TRAILERS - c.args.passed) b)) (sym c.bytes-then-scanned-most.ensures) (no_lf_take c.pieces.intake (MAX_TRAILERS - c.args.passed) none)
 
 pub returns-then-scanned-most-clause-refused : goal.returns-then-scanned-most-clause-refused
 returns-then-scanned-most-clause-refused g c =
-    let none : HasNoLf c.pieces.intake = subst (λ (b : List ℕ). HasNoLf b) c.bytes.ensures c.in-None.ensures.none in
-    record { read = c.pieces.intake; taken = c.pieces.invariant.whole; doomed = λ more. none_within the_limits c.pieces.intake more (c.len-scanned.result + 1) c.args.passed (λ m line. omega (arith, line_longer c.pieces.intake more m none line, c.len-scanned.ensures)) (omega (arith, c.if-scanned-most.true)) }
+    let held = c.pieces.intake in
+    let most = MAX_TRAILERS - c.args.passed in
+    let none : HasNoLf held = subst (λ (b : List ℕ). HasNoLf b) c.bytes.ensures c.in-None.ensures.none in
+    endless_refuses c.endless-then-scanned-most.result _ (g.S.Source.left c.pieces.source) c.bytes-then-scanned-most.result.now held most c.args.passed c.endless-then-scanned-most.ensures.either c.endless-then-scanned-most.ensures.bad c.bytes-then-scanned-most.ensures c.pieces.invariant.whole (no_lf_take held most none) (full held c.args.passed most c.requires refl (omega (arith, c.if-scanned-most.true, c.len-scanned.ensures)))
+
+pub returns-then-scanned-most-clause-passed : goal.returns-then-scanned-most-clause-passed
+returns-then-scanned-most-clause-passed g c =
+    let held = c.pieces.intake in
+    let most = MAX_TRAILERS - c.args.passed in
+    let none : HasNoLf held = subst (λ (b : List ℕ). HasNoLf b) c.bytes.ensures c.in-None.ensures.none in
+    λ is. endless_shows _ (g.S.Source.left c.pieces.source) c.bytes-then-scanned-most.result.now held most c.args.passed (c.endless-then-scanned-most.ensures.too_long (cc)) c.bytes-then-scanned-most.ensures c.pieces.invariant.whole (no_lf_take held most none) (full held c.args.passed most c.requires refl (omega (arith, c.if-scanned-most.true, c.len-scanned.ensures)))
 
 pub returns-in-Err-Cut-clause-refused : goal.returns-in-Err-Cut-clause-refused
 returns-in-Err-Cut-clause-refused g c =

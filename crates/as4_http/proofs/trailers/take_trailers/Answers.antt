@@ -1,15 +1,17 @@
-use Rattle.std.proofs.Common.{◌≡◌, ℕ, ◌+◌, Bool, Option, refl, ◌≤◌, List, ◌++◌, ◌∷◌, [], length, take, true, false, sym, ◌∙◌, ap, subst, arith}
+use Rattle.std.proofs.Common.{◌≡◌, ℕ, ◌+◌, Bool, Err, Option, refl, ◌≤◌, List, ◌++◌, ◌∷◌, [], length, take, true, false, sym, ◌∙◌, ap, subst, arith}
 use Rattle.std.specs.List.{flat_map}
 use Rattle.std.proofs.lemmas.List.Elements.{All-push}
 use Rattle.as4_flow.specs.Told.{before}
 use Rattle.httparse.specs.Grammar.{print_field, IsField}
 use Rattle.as4_http.specs.Limits.{Limits}
+use Rattle.as4_http.specs.Passed.{GoesOver, ReadsTrailers, IsLongTrailers}
 use Rattle.as4_http.specs.Refused.{MayBecome}
 use Rattle.as4_http.specs.Trailers.{AreTrailers, IsLine, EndsTrailers, BeginsNoLine, TakesTrailers, HasNoTrailers}
 use Rattle.as4_http.proofs.LineLemmas.{line_cut, line_within}
+use Rattle.as4_http.proofs.PassedLemmas.{shows_behind, too_long_exit}
 use Rattle.as4_http.proofs.RefusedLemmas.{refused_exit, refuses_behind, bad_exit, may_behind}
 use Rattle.as4_http.proofs.StreamLemmas.{dooms_behind}
-use Rattle.as4_http.proofs.TrailerLemmas.{none_behind, none_with, whole_behind, takes_all, passes_on, passes_count}
+use Rattle.as4_http.proofs.TrailerLemmas.{none_behind, none_with, over_behind, whole_behind, takes_all, passes_on, passes_count}
 use Rattle.as4_http.proofs.trailers.take_trailers.Goals as goal
 
 pub returns-in_err-len-clause-refused : goal.returns-in_err-len-clause-refused
@@ -19,6 +21,11 @@ returns-in_err-len-clause-refused g c =
     (λ limits rest none. none_behind c.lines.invariant.fields limits rest c.lines.invariant.valid (subst (λ (n : ℕ). HasNoTrailers n limits rest) (sym c.lines.invariant.count) none))
     (may_behind (AreTrailers c.lines.passed) (AreTrailers 0) (flat_map print_field c.lines.invariant.fields) (whole_behind c.lines.invariant.fields c.lines.passed c.lines.invariant.valid c.lines.invariant.count)))
     c.in_err-len.ensures.refused
+
+pub returns-in_err-len-clause-passed : goal.returns-in_err-len-clause-passed
+returns-in_err-len-clause-passed g c =
+    too_long_exit c.from_residual.result c.in_err-len.field-0.0 c.from_residual.ensures.1
+    (λ is. shows_behind (GoesOver ReadsTrailers (IsLongTrailers c.lines.passed)) (GoesOver ReadsTrailers (IsLongTrailers 0)) _ _ _ (flat_map print_field c.lines.invariant.fields) c.lines.invariant.taken (over_behind c.lines.invariant.fields c.lines.passed c.lines.invariant.valid c.lines.invariant.count) (c.in_err-len.ensures.passed (ap Err is)))
 
 pub ends_trailers-requires : goal.ends_trailers-requires
 ends_trailers-requires g c =

@@ -1,11 +1,13 @@
-use Rattle.std.proofs.Common.{inl}
+use Rattle.std.proofs.Common.{inl, Err, ap}
 use Rattle.as4_http.specs.Refused.{MayBecome, Refuses}
 use Rattle.as4_http.specs.Bodies.{HasNoBody, IsBody}
+use Rattle.as4_http.specs.Passed.{PassesBody, PassesResponse}
 use Rattle.as4_http.specs.ResponseStarts.{HasNoResponseHead, EndsInResponseHead}
 use Rattle.as4_http.specs.Responses.{HasNoResponseWithin, IsCutResponse}
 use Rattle.as4_http.specs.declared.refusal.HttpRefusal.TheVariants.{Bad, TooLong}
+use Rattle.as4_http.proofs.PassedLemmas.{shows_behind, too_long_exit}
 use Rattle.as4_http.proofs.RefusedLemmas.{refused_exit, refuses_as, refuses_behind, refused_told, refused_cut, refused_as}
-use Rattle.as4_http.proofs.ResponseLemmas.{no_head, no_body, cut_body, response_begins}
+use Rattle.as4_http.proofs.ResponseLemmas.{no_head, no_body, cut_body, body_passes, response_begins}
 use Rattle.as4_http.proofs.intake.Intake.read_response.Goals as goal
 
 pub returns-in_err-start-clause-only : goal.returns-in_err-start-clause-only
@@ -55,6 +57,13 @@ returns-in_err-body-clause-too_long g c =
     let head = c.in_ok-start.ensures.ok in
     refused_as (Refuses HasNoResponseWithin IsCutResponse _ _) c.from_residual-in_err-body.result TooLong
     (refused_exit c.from_residual-in_err-body.result c.in_err-body.field-0.0 c.from_residual-in_err-body.ensures.1 (refuses_behind (HasNoBody start.framing) HasNoResponseWithin (MayBecome (IsBody start.framing)) IsCutResponse _ _ _ _ head.taken (λ limits behind. no_body start head.head limits behind head.valid head.says) (cut_body start head.head head.valid head.small head.says)) c.in_err-body.ensures.refused)
+
+pub returns-in_err-body-clause-passed : goal.returns-in_err-body-clause-passed
+returns-in_err-body-clause-passed g c =
+    let start = c.in_ok-start.start in
+    let head = c.in_ok-start.ensures.ok in
+    too_long_exit c.from_residual-in_err-body.result c.in_err-body.field-0.0 c.from_residual-in_err-body.ensures.1
+    (λ is. shows_behind (PassesBody start.framing) PassesResponse _ _ _ _ head.taken (body_passes start head.head head.valid head.small head.says) (c.in_err-body.ensures.passed (ap Err is)))
 
 pub returns-clause-found : goal.returns-clause-found
 returns-clause-found g c =
