@@ -34,13 +34,21 @@ effect_body (Confirmed upto) = 7 ∷ number_body 8 upto
 effect_body (Carried carried) = 8 ∷ standing_body carried
 effect_body (Kept kept) = kept_body kept.header
 
--- how many bytes an effect may have: one that was carried up to 81 more than its submission
+-- how many bytes an effect may have: one that was carried up to 81 more than its submission, one of a number and a code
+-- 77, one of a number 9
 abbrev pub carried_limit : ℕ
 carried_limit = effect_limit + 81
 
 abbrev pub most_bytes_of : Effect → ℕ
+most_bytes_of (Submitted submission) = effect_limit
+most_bytes_of (Ticked tick) = 9
+most_bytes_of (Tried number) = 9
+most_bytes_of (Delivered delivery) = effect_limit
+most_bytes_of (Receipted number) = 9
+most_bytes_of (Refused number code) = 77
+most_bytes_of (Confirmed upto) = 9
 most_bytes_of (Carried carried) = carried_limit
-most_bytes_of effect = effect_limit
+most_bytes_of (Kept kept) = effect_limit
 
 -- how many effects a list may have
 abbrev pub effects_limit : ℕ

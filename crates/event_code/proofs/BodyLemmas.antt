@@ -14,7 +14,7 @@ use Rattle.as4_effects.specs.Lengths.{grown}
 use Rattle.as4_effects.specs.Sound.{fits_an_effect, effect_limit}
 use Rattle.as4_effects.specs.declared.carried.Carried.{Carried as CarriedValue}
 use Rattle.as4_effects.specs.declared.effect.Effect.{Effect}
-use Rattle.as4_effects.specs.declared.effect.Effect.TheVariants.{Carried}
+use Rattle.as4_effects.specs.declared.effect.Effect.TheVariants.{Submitted, Ticked, Tried, Delivered, Receipted, Refused, Confirmed, Carried, Kept}
 
 -- what fits is counted exactly
 pub counted_exactly : (len : ℕ) (body : List ℕ) → len ≡ grown 0 body → IsTrue (fits_an_effect body) → len ≡ length body
@@ -50,8 +50,15 @@ body_length effects items i same all =
     rw (take_all i items all, same, length-append, number_length) refl
 
 pub most_within : (effect : Effect) → most_bytes_of effect ≤ carried_limit
+most_within (Submitted submission) = omega arith
+most_within (Ticked tick) = omega arith
+most_within (Tried number) = omega arith
+most_within (Delivered delivery) = omega arith
+most_within (Receipted number) = omega arith
+most_within (Refused number code) = omega arith
+most_within (Confirmed upto) = omega arith
 most_within (Carried carried) = omega arith
-most_within effect = omega arith
+most_within (Kept kept) = omega arith
 
 pub more_most : (effects : List Effect) (i : ℕ) (effect : Effect) → i < length effects → effect ≡ get_or effects i effect
     → sum_by most_bytes_of (take (i + 1) effects) ≡ sum_by most_bytes_of (take i effects) + most_bytes_of effect

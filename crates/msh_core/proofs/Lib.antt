@@ -4,4 +4,5 @@ pub mod PlanLemmas
 pub mod PreparedLemmas
 pub mod RecordLemmas
 pub mod ReplayLemmas
+pub mod ShortLemmas
 pub mod SmallLemmas

@@ -1,5 +1,6 @@
-ghost use Rattle.std.specs.Prelude.{◌≡◌, ◌≤◌, IfOk, IfSome, IsOk, None, false, length, option_copied, option_map, true};
-ghost use Rattle.as4_effects.specs.Effects.{effects_limit};
+ghost use Rattle.std.specs.Prelude.{◌≡◌, ◌+◌, ◌≤◌, ◌^◌, IfOk, IfSome, IsOk, None, false, length, option_copied, option_map, true};
+ghost use Rattle.std.specs.List.{sum_by};
+ghost use Rattle.as4_effects.specs.Effects.{effects_body, effects_limit, most_bytes_of};
 ghost use Rattle.end_tables.specs.Rooms.{new_tables};
 ghost use Rattle.end_tables.specs.Standing.{CanStand};
 ghost use Rattle.end_tables.specs.Totals.{AreTotals};
@@ -66,6 +67,7 @@ impl Core {
     pub fn prepare(&mut self, event: &Event) -> Result<Plan, NoMemory>
         ensures step { IfOk result (λ plan. Step self.old.modes self.old.end event.now plan.outcome) }
         ensures ready { IfOk result (IsReady self.new) }
+        ensures short { IfOk result (λ plan. length (effects_body plan.outcome.effects) ≤ 2 ^ 30) }
         ensures free { (outcome : OutcomeValue) → Step self.old.modes self.old.end event.now outcome → IsFree outcome → IsOk result }
         ensures end { self.new.end ≡ self.old.end }
         ensures modes { self.new.modes ≡ self.old.modes }
@@ -142,6 +144,7 @@ fn limited(alloc: Global, tables: &EndTables, row: Outcome) -> Outcome
     ensures limited { IsLimited tables.now.end row result }
     ensures stands { CanStand tables.now.end result.effects }
     ensures room { has_room tables.now.end result.effects ≡ true }
+    ensures short { length (effects_body result.effects) ≤ 2 ^ 30 }
 {
     match lacking(tables, &row.effects) {
         None => row,
@@ -154,16 +157,17 @@ fn limited(alloc: Global, tables: &EndTables, row: Outcome) -> Outcome
 }
 
 /// How many bytes the record of the effects has, if the journal has no room for it.
-#[tactic(auto, unfolding(exchange_model::specs::Table::has_room))]
+#[tactic(auto, unfolding(exchange_model::specs::Table::has_room), using(crate::proofs::ShortLemmas::short_body))]
 fn lacking(tables: &EndTables, effects: &Seq<Effect>) -> Option<u64>
-    requires { length effects.now ≤ 256 }
+    requires stands { CanStand tables.now.end effects.now }
     ensures none { result ≡ None → has_room tables.now.end effects.now ≡ true }
+    ensures short { length (effects_body effects.now) ≤ 2 ^ 30 }
     ensures some { IfSome result (λ need. (need ≡ record_len effects.now) × (has_room tables.now.end effects.now ≡ false)) }
 {
+    let need = record_len(effects);
     if effects.items().is_empty() {
         return None;
     }
-    let need = record_len(effects);
     if tables.size() + need <= MAX_JOURNAL {
         return None;
     }
@@ -176,6 +180,7 @@ pub(crate) fn record_len(effects: &Seq<Effect>) -> u64
     requires { length effects.now ≤ effects_limit }
     ensures value { result ≡ record_len effects.now }
     ensures few { result ≤ 549755894795 }
+    ensures most { length (effects_body effects.now) ≤ 2 + sum_by most_bytes_of effects.now }
 {
     body_len(effects) + 9
 }
