@@ -7,7 +7,7 @@ use Rattle.journal.specs.declared.version.Version.TheVariants.{Two}
 use Rattle.journal.specs.Leaf.{limit_of, length_bytes, record_of, front_of, frame_of}
 use Rattle.journal.specs.Store.{picked_leaf, OpensToOneOf}
 use Rattle.journal.proofs.LeafLemmas.{length-front_more}
-use Rattle.journal.proofs.StoreLemmas.{opened, closed_opens, gate_opens}
+use Rattle.journal.proofs.StoreLemmas.{opened, settled_opens, closed_opens, gate_opens}
 
 -- all of a record but its gate
 pub tail_of : List ℕ → List ℕ
@@ -36,7 +36,7 @@ module _ (bodies : List (List ℕ)) (body rest : List ℕ) where
       let P : ℕ → Type 0 = λ k. Torn k n (front_of Two bodies ++ 0 ∷ rest) (picked_leaf c) in
       let Q : List ℕ → Type 0 = λ l. Torn (length closed) n l (picked_leaf c) in
       let behind = torn_behind closed rest n (picked_leaf c) (subst Q (sym (append_assoc (front_of Two bodies) (0 ∷ []) rest)) (subst P at_end torn)) in
-      inl (closed_opens Two bodies behind.0 c (less within) (behind.1 ∙ append_assoc (front_of Two bodies) (0 ∷ []) behind.0))
+      inl (settled_opens bodies (λ other. other ≡ body) c (closed_opens Two bodies behind.0 c (less within) (behind.1 ∙ append_assoc (front_of Two bodies) (0 ∷ []) behind.0)))
 
   -- the gate is being opened, and the rest of the record is on the disk
   pub torn_open : (gate : ℕ) (after : List ℕ) (c : Image) → gate ≡ length (front_of Two bodies) → length (front_of Two (bodies ++ body ∷ [])) < limit_of Two → Torn gate 1 (front_of Two bodies ++ 0 ∷ (tail_of body ++ after)) (picked_leaf c) → OpensToOneOf bodies body c

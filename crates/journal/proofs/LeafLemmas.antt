@@ -52,7 +52,8 @@ pub record_at : (version : Version) (body x : List ℕ) → record_of version bo
 unfolding record_of
 record_at version body x = ap (λ (l : List ℕ). 1 ∷ l) refl
 
-record_head : (version : Version) (a b x y : List ℕ) → length a < limit_of version → length b < limit_of version → record_of version a ++ x ≡ record_of version b ++ y → (a ≡ b) × (x ≡ y)
+-- two records and what stands behind them
+pub record_head : (version : Version) (a b x y : List ℕ) → length a < limit_of version → length b < limit_of version → record_of version a ++ x ≡ record_of version b ++ y → (a ≡ b) × (x ≡ y)
 record_head version a b x y small_a small_b same =
     let tails : length_bytes version (length a) ++ (a ++ x) ≡ length_bytes version (length b) ++ (b ++ y) =
     sym (append_assoc (length_bytes version (length a)) a x)

@@ -1,5 +1,5 @@
 -- What is met at the gate behind the records that were read.
-use Rattle.std.proofs.Common.{◌≡◌, ◌≢◌, ℕ, ◌<◌, Bool, List, [], ◌∷◌, ◌++◌, Option, Some, length, drop, get_or, sym, ◌∙◌, ap, subst, arith}
+use Rattle.std.proofs.Common.{◌≡◌, ◌≢◌, inl, ℕ, ◌<◌, Bool, List, [], ◌∷◌, ◌++◌, Option, Some, length, drop, get_or, sym, ◌∙◌, ap, subst, arith}
 use Rattle.std.proofs.lemmas.List.{drop_at}
 use Rattle.as4_disk.specs.Bytes.{Torn}
 use Rattle.as4_disk.specs.Image.{Image}
@@ -17,7 +17,8 @@ use Rattle.journal.specs.Store.{leaf_of, picked_leaf, Reopens}
 use Rattle.journal.specs.Settled.{IsSettled}
 use Rattle.journal.specs.Passing.{Passes}
 use Rattle.journal.proofs.LeafLemmas.{length-front_more}
-use Rattle.journal.proofs.StoreLemmas.{opened, same_reopens, closing_reopens, settled_left, settled_told, settled_within}
+use Rattle.journal.proofs.StoreLemmas.{opened, closing_reopens, settled_left, settled_told, settled_within}
+use Rattle.journal.proofs.JournalLaws.{keeps_reopens}
 
 module _ (version : Version) (bodies : List (List ℕ)) (byte : ℕ) (rest : List ℕ) (gate : ℕ) (place : gate ≡ length (front_of version bodies)) where
   gate_here : drop gate (front_of version bodies ++ byte ∷ rest) ≡ byte ∷ rest
@@ -76,7 +77,7 @@ module _ {D : Type 0} (moment : D → ℕ) (left_since : D → ℕ → Image →
   pub read_run : (b : Image) → seen old ≡ Some b → LeavesOnly moment left_since old mid (Reopens b)
   read_run b told =
       weaken moment left_since old mid (may_leave old) (Reopens b)
-      (λ image left. same_reopens b image ((settled_left seen may_leave old is_second leaf image is left).2 ∙ sym (settled_told seen may_leave old is_second leaf b is told).2))
+      (λ image left. keeps_reopens b image (inl ((settled_left seen may_leave old is_second leaf image is left).2 ∙ sym (settled_told seen may_leave old is_second leaf b is told).2)))
       quiet.run
 
   module _ (part : Part) (picked : part ≡ leaf_of is_second) (ahead : Option (List ℕ)) (is_ahead : IsAhead version (byte ∷ rest) ahead) (found : Next) (read : Told (seen old) (λ b. IsAhead version (drop gate (b part)) ahead → IsNext version gate (b part) found)) where

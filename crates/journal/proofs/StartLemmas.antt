@@ -1,36 +1,16 @@
 -- How a journal begins: a leaf that is new, and one that has a magic.
-use Rattle.std.proofs.Common.{◌≡◌, ℕ, ◌<◌, ◌≤◌, Bool, List, [], ◌∷◌, ◌++◌, Option, length, take, drop, sym, ◌∙◌, ap, subst, arith, length-append, length-drop, take-append-drop}
+use Rattle.std.proofs.Common.{◌≡◌, ℕ, ◌<◌, Bool, List, [], ◌∷◌, ◌++◌, Option, length, take, drop, sym, ◌∙◌, ap, subst, arith, length-drop, take-append-drop}
 use Rattle.as4_disk.specs.Image.{Image}
 use Rattle.journal.specs.declared.version.Version.{Version}
 use Rattle.journal.specs.declared.version.Version.TheVariants.{Two}
-use Rattle.journal.specs.Leaf.{magic_of, length_bytes, front_of, IsNew}
-use Rattle.journal.specs.Store.{picked_leaf, HasPending, Continues}
+use Rattle.journal.specs.Leaf.{magic_of, front_of}
 use Rattle.journal.specs.Settled.{IsSettled, IsStart}
-use Rattle.journal.proofs.LeafLemmas.{front_none, length-front}
-use Rattle.journal.proofs.StoreLemmas.{new_opens}
+use Rattle.journal.proofs.LeafLemmas.{front_none}
 
 -- the bytes of a new leaf
 pub new_leaf : 65 ∷ 83 ∷ 52 ∷ 74 ∷ 78 ∷ 76 ∷ 50 ∷ 10 ∷ 0 ∷ [] ≡ front_of Two [] ++ 0 ∷ []
 unfolding magic_of
 new_leaf = ap (λ (l : List ℕ). l ++ 0 ∷ []) (sym (front_none Two))
-
--- nothing is pending in a leaf of nine bytes
-pub none_pending : (bodies : List (List ℕ)) (body : List ℕ) (image : Image) → length (picked_leaf image) ≤ 9 → HasPending bodies body image → ⊥
-none_pending bodies body image short (version, gate, rest, is, pending) =
-    omega (arith, short, ap length is.bytes, length-append (front_of version bodies) (gate ∷ rest), length-front version bodies, ap length pending.bytes, length-append (length_bytes version (length body) ++ body) (0 ∷ pending.after))
-
--- a leaf that was made new goes on from what was there
-pub new_continues : (before after : Image) → IsNew (picked_leaf before) → IsNew (picked_leaf after) → Continues before after
-new_continues before after old new = record {
-  opens = λ bodies opens. new_opens bodies before after old new opens;
-  pending = λ bodies body opens has. absurd (none_pending bodies body after new has);
-}
-
--- and so does one that is the same
-pub same_continues : (before after : Image) → before ≡ after → Continues before after
-same_continues before after same =
-    let P : Image → Type 0 = Continues before in
-    subst P same (record { opens = λ bodies opens. opens; pending = λ bodies body opens has. has })
 
 -- a leaf of more than nine bytes that begins with a magic
 pub has_gate : (version : Version) (leaf : List ℕ) → take 8 leaf ≡ magic_of version → 9 < length leaf → (next : ℕ) × (rest : List ℕ) × (leaf ≡ front_of version [] ++ next ∷ rest)

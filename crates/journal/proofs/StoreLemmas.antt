@@ -12,9 +12,9 @@ use Rattle.as4_disk.proofs.ByteLemmas.{overwritten_behind}
 use Rattle.as4_disk.proofs.ImageLemmas.{only_elsewhere, only_within}
 use Rattle.journal.specs.declared.version.Version.{Version}
 use Rattle.journal.specs.Leaf.{limit_of, length_bytes, record_of, front_of, IsLeaf, IsPending, IsNew, Lists, IsWholeLeaf}
-use Rattle.journal.specs.Store.{picks, leaf_of, is_second_of, picked_leaf, OpensTo, HasPending, OpensToOneOf, Reopens, KeepsLeaf}
+use Rattle.journal.specs.Store.{picks, leaf_of, is_second_of, picked_leaf, OpensTo, HasPending, OpensWith, OpensSettled, OpensToOneOf, Reopens, KeepsLeaf}
 use Rattle.journal.specs.Settled.{IsSettled}
-use Rattle.journal.proofs.LeafLemmas.{length-front, front_more, record_at, reached}
+use Rattle.journal.proofs.LeafLemmas.{length-front, length-front_more, front_more, record_at, record_head, reached}
 
 -- ---- leaves
 
@@ -70,12 +70,50 @@ opened version bodies body after gate =
     ∙ sym (append_assoc (front_of version bodies) (record_of version body) (gate ∷ after))
     ∙ ap (λ (l : List ℕ). l ++ gate ∷ after) (sym (front_more version bodies body))
 
--- a gate 0 ends the records
-pub closed_opens : (version : Version) (bodies : List (List ℕ)) (rest : List ℕ) (image : Image) → length (front_of version bodies) < limit_of version → picked_leaf image ≡ front_of version bodies ++ 0 ∷ rest → OpensTo bodies image
-closed_opens version bodies rest image within bytes =
-    inr (version, 0, rest, record { bytes = bytes; closed = λ zero_is. absurd (omega (arith, zero_is)); within = within }, inl refl)
+-- ---- what is pending
 
--- whatever the gate of a whole record is, it counts or is pending
+-- behind one gate one record is pending
+one_pending : (version : Version) (bodies : List (List ℕ)) (a b rest : List ℕ) → IsPending version bodies a rest → IsPending version bodies b rest → a ≡ b
+one_pending version bodies a b rest first other =
+    let behind_a = record_at version a (0 ∷ first.after) in
+    let behind_b = record_at version b (0 ∷ other.after) in
+    (record_head version a b (0 ∷ first.after) (0 ∷ other.after)
+    (omega (arith, first.within, length-front_more version bodies a)) (omega (arith, other.within, length-front_more version bodies b))
+    (behind_a ∙ ap (λ (l : List ℕ). 1 ∷ l) (sym first.bytes ∙ other.bytes) ∙ sym behind_b)).0
+
+-- what is pending stands behind the leaf's one closed gate, and that isn't 0
+pending_here : (version : Version) (bodies : List (List ℕ)) (gate : ℕ) (rest body : List ℕ) (image : Image) → IsLeaf version bodies gate rest (picked_leaf image) → HasPending bodies body image → (gate ≢ 0) × IsPending version bodies body rest
+pending_here version bodies gate rest body image here (v, g, x, is, not_zero, pending) =
+    let same = one_leaf version v bodies bodies gate g rest x (picked_leaf image) here is in
+    let P : Version → Type 0 = λ u. IsPending u bodies body x in
+    let Q : List ℕ → Type 0 = λ l. IsPending version bodies body l in
+    (λ zero_is. not_zero (sym same.2 ∙ zero_is), subst Q (sym same.3) (subst P (sym same.0) pending))
+
+-- nothing is pending in a new leaf
+none_pending : (bodies : List (List ℕ)) (body : List ℕ) (image : Image) → IsNew (picked_leaf image) → HasPending bodies body image → ⊥
+none_pending bodies body image short (version, gate, rest, is, not_zero, pending) =
+    omega (arith, short, ap length is.bytes, length-append (front_of version bodies) (gate ∷ rest), length-front version bodies, ap length pending.bytes, length-append (length_bytes version (length body) ++ body) (0 ∷ pending.after))
+
+-- ---- what an image opens to
+
+-- where none is pending, any may be
+pub settled_opens : (bodies : List (List ℕ)) (may_pend : List ℕ → Type 0) (image : Image) → OpensSettled bodies image → OpensWith bodies may_pend image
+settled_opens bodies may_pend image settled = (settled.0, λ body has. absurd (settled.1 body has))
+
+-- a gate 0 ends the records, and none is pending
+pub closed_opens : (version : Version) (bodies : List (List ℕ)) (rest : List ℕ) (image : Image) → length (front_of version bodies) < limit_of version → picked_leaf image ≡ front_of version bodies ++ 0 ∷ rest → OpensSettled bodies image
+closed_opens version bodies rest image within bytes =
+    let here : IsLeaf version bodies 0 rest (picked_leaf image) = record { bytes = bytes; closed = λ zero_is. absurd (omega (arith, zero_is)); within = within } in
+    (inr (version, 0, rest, here, inl refl), λ body has. (pending_here version bodies 0 rest body image here has).0 refl)
+
+-- a whole record behind a closed gate is pending, and no other is
+pending_opens : (version : Version) (bodies : List (List ℕ)) (body rest : List ℕ) (gate : ℕ) (image : Image) → IsLeaf version bodies gate rest (picked_leaf image) → IsPending version bodies body rest → OpensWith bodies (λ other. other ≡ body) image
+pending_opens version bodies body rest gate image here pending = (
+  inr (version, gate, rest, here, inr (body, pending)),
+  λ other has. one_pending version bodies other body rest (pending_here version bodies gate rest other image here has).1 pending,
+)
+
+-- whatever the gate of a whole record is, it counts or is pending, and no other is
 pub gate_opens : (version : Version) (bodies : List (List ℕ)) (body after : List ℕ) (gate : ℕ) (image : Image) → length (front_of version bodies) < limit_of version → length (front_of version (bodies ++ body ∷ [])) < limit_of version
     → picked_leaf image ≡ front_of version bodies ++ gate ∷ (length_bytes version (length body) ++ body ++ 0 ∷ after) → OpensToOneOf bodies body image
 gate_opens version bodies body after gate image within within_more bytes =
@@ -84,53 +122,54 @@ gate_opens version bodies body after gate image within within_more bytes =
     inr (closed_opens version (bodies ++ body ∷ []) after image within_more
     (bytes ∙ ap (λ (g : ℕ). front_of version bodies ++ g ∷ (length_bytes version (length body) ++ body ++ 0 ∷ after)) is_open ∙ opened version bodies body after 0)))
     (λ (closed : gate ≡ 1 → ⊥).
-    inl (inr (version, gate, length_bytes version (length body) ++ body ++ 0 ∷ after, record { bytes = bytes; closed = closed; within = within }, inr (body, record { within = within_more; after = after; bytes = refl }))))
+    inl (pending_opens version bodies body (length_bytes version (length body) ++ body ++ 0 ∷ after) gate image
+    (record { bytes = bytes; closed = closed; within = within }) (record { within = within_more; after = after; bytes = refl })))
     (cases_eq gate 1)
 
--- ---- images
+-- ---- what keeps the leaf
 
--- the picked leaf is the same
-pub same_opens : (before after : Image) → picked_leaf after ≡ picked_leaf before → (bodies : List (List ℕ)) → OpensTo bodies before → OpensTo bodies after
-same_opens before after same bodies opens =
+-- it keeps the records
+pub keeps_records : (before after : Image) → KeepsLeaf before after → (bodies : List (List ℕ)) → OpensTo bodies before → OpensTo bodies after
+keeps_records before after (inl same) bodies opens =
     let P : List ℕ → Type 0 = IsWholeLeaf bodies in
     subst P (sym same) opens
+keeps_records before after (inr new) bodies (inl none) = inl (new.1, none.1)
+keeps_records before after (inr new) bodies (inr w) = inl (new.1, new_none w.0 bodies w.1 w.2 (picked_leaf before) w.3 new.0)
 
-pub same_reopens : (before after : Image) → picked_leaf after ≡ picked_leaf before → Reopens before after
-same_reopens before after same bodies opens = inl (same_opens before after same bodies opens)
-
-pub new_opens : (bodies : List (List ℕ)) (before after : Image) → IsNew (picked_leaf before) → IsNew (picked_leaf after) → OpensTo bodies before → OpensTo bodies after
-new_opens bodies before after old new (inl none) = inl (new, none.1)
-new_opens bodies before after old new (inr w) = inl (new, new_none w.0 bodies w.1 w.2 (picked_leaf before) w.3 old)
-
--- what keeps the leaf keeps the records
-pub keeps_records : (before after : Image) → KeepsLeaf before after → (bodies : List (List ℕ)) → OpensTo bodies before → OpensTo bodies after
-keeps_records before after (inl same) bodies opens = same_opens before after same bodies opens
-keeps_records before after (inr new) bodies opens = new_opens bodies before after new.0 new.1 opens
+-- and what is pending was pending
+pub keeps_pending : (before after : Image) → KeepsLeaf before after → (bodies : List (List ℕ)) (body : List ℕ) → HasPending bodies body after → HasPending bodies body before
+keeps_pending before after (inl same) bodies body (version, gate, rest, is, not_zero, pending) =
+    let P : List ℕ → Type 0 = IsLeaf version bodies gate rest in
+    (version, gate, rest, subst P same is, not_zero, pending)
+keeps_pending before after (inr new) bodies body has = absurd (none_pending bodies body after new.1 has)
 
 -- The gate that was met last is being closed: behind what was read, and over a whole disk, any byte there opens again.
 pub closing_reopens : (version : Version) (read : List (List ℕ)) (gate other : ℕ) (rest : List ℕ) (before after : Image) → length (front_of version read) < limit_of version → gate ≢ 1 → gate ≢ 0
     → picked_leaf before ≡ front_of version read ++ gate ∷ rest → picked_leaf after ≡ front_of version read ++ other ∷ rest → Reopens before after
 closing_reopens version read gate other rest before after within closed not_zero bytes bytes_after bodies (inl none) =
-    inl (inl (omega (arith, none.0, ap length bytes, ap length bytes_after, length-append (front_of version read) (gate ∷ rest), length-append (front_of version read) (other ∷ rest)), none.1))
+    let new : IsNew (picked_leaf after) = omega (arith, none.0, ap length bytes, ap length bytes_after, length-append (front_of version read) (gate ∷ rest), length-append (front_of version read) (other ∷ rest)) in
+    inl (inl (new, none.1), λ body has. absurd (none_pending bodies body after new has))
 closing_reopens version read gate other rest before after within closed not_zero bytes bytes_after bodies (inr w) =
     let here : IsLeaf version read gate rest (picked_leaf before) = record { bytes = bytes; closed = closed; within = within } in
     let same = one_leaf version w.0 read bodies gate w.1 rest w.2 (picked_leaf before) here w.3 in
-    ⊎_elim (λ (zero_is : w.1 ≡ 0). absurd (not_zero (same.2 ∙ zero_is))) (λ found. pending found.0 w.0 w.2 same.0 same.1 same.3 found.1) w.4
+    let P : List (List ℕ) → Type 0 = λ l. IsLeaf version l gate rest (picked_leaf before) in
+    let Q : List (List ℕ) → Type 0 = λ l. picked_leaf after ≡ front_of version l ++ other ∷ rest in
+    ⊎_elim
+    (λ (zero_is : w.1 ≡ 0). absurd (not_zero (same.2 ∙ zero_is)))
+    (λ found. (
+    let has : HasPending bodies found.0 before = (w.0, w.1, w.2, w.3, λ zero_is. not_zero (same.2 ∙ zero_is), found.1) in
+    pending found.0 (subst P same.1 here) (subst Q same.1 bytes_after) has))
+    w.4
   where
-    pending : (body : List ℕ) (v : Version) (x : List ℕ) → version ≡ v → read ≡ bodies → rest ≡ x → IsPending v bodies body x → OpensTo bodies after ⊎ ((body : List ℕ) × HasPending bodies body before × OpensTo (bodies ++ body ∷ []) after)
-    pending body v x versions same_bodies same_rest is =
-        let P : Version → Type 0 = λ u. IsPending u bodies body x in
-        let here = subst P (sym versions) is in
-        let F : List (List ℕ) → List ℕ = λ l. front_of version l in
-        let within_bodies : length (front_of version bodies) < limit_of version = let Q : List (List ℕ) → Type 0 = λ l. length (front_of version l) < limit_of version in subst Q same_bodies within in
-        let old : picked_leaf before ≡ front_of version bodies ++ gate ∷ rest = bytes ∙ ap (λ (l : List (List ℕ)). front_of version l ++ gate ∷ rest) same_bodies in
-        let new : picked_leaf after ≡ front_of version bodies ++ other ∷ (length_bytes version (length body) ++ body ++ 0 ∷ here.after) =
-        bytes_after ∙ ap (λ (l : List (List ℕ)). front_of version l ++ other ∷ rest) same_bodies ∙ ap (λ (l : List ℕ). front_of version bodies ++ other ∷ l) (same_rest ∙ here.bytes) in
-        let R : List ℕ → Type 0 = λ l. IsPending version bodies body l in
+    pending : (body : List ℕ) → IsLeaf version bodies gate rest (picked_leaf before) → picked_leaf after ≡ front_of version bodies ++ other ∷ rest → HasPending bodies body before
+        → OpensWith bodies (λ body. HasPending bodies body before) after ⊎ ((body : List ℕ) × HasPending bodies body before × OpensSettled (bodies ++ body ∷ []) after)
+    pending body here new has =
+        let is = (pending_here version bodies gate rest body before here has).1 in
+        let P : List ℕ → Type 0 = λ b. HasPending bodies b before in
         ⊎_elim
-        (λ without. inl without)
-        (λ opens. inr (body, (version, gate, rest, record { bytes = old; closed = closed; within = within_bodies }, subst R (sym same_rest) here), opens))
-        (gate_opens version bodies body here.after other after within_bodies here.within new)
+        (λ without. inl (without.0, λ b has_b. subst P (sym (without.1 b has_b)) has))
+        (λ opens. inr (body, has, opens))
+        (gate_opens version bodies body is.after other after here.within is.within (new ∙ ap (λ (l : List ℕ). front_of version bodies ++ other ∷ l) is.bytes))
 
 -- ---- what is settled
 

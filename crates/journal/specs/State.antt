@@ -14,12 +14,26 @@ use Rattle.journal.specs.declared.fault.JournalFault.TheVariants.{Disk, NotJourn
 abbrev pub IsDisk : ℕ → ℕ → JournalFault → Type 0
 IsDisk before after fault = (x y : ℕ) → fault ≡ Disk x y → (x ≡ before) × (y ≡ after) × Rose before after
 
+-- it is anything but that the journal is full
+abbrev pub IsOpeningFault : JournalFault → Type 0
+IsOpeningFault (NotJournal at) = Unit {0}
+IsOpeningFault (Disk before after) = Unit {0}
+IsOpeningFault NoMemory = Unit {0}
+IsOpeningFault (Full size need) = ⊥
+
 -- it is that the disk failed, or that there was no memory
 abbrev pub IsReadFault : JournalFault → Type 0
 IsReadFault (Disk before after) = Unit {0}
 IsReadFault NoMemory = Unit {0}
 IsReadFault (NotJournal at) = ⊥
 IsReadFault (Full size need) = ⊥
+
+-- it is that the journal is full, or that the disk failed
+abbrev pub IsAppendFault : JournalFault → Type 0
+IsAppendFault (Full size need) = Unit {0}
+IsAppendFault (Disk before after) = Unit {0}
+IsAppendFault (NotJournal at) = ⊥
+IsAppendFault NoMemory = ⊥
 
 -- it is that the disk failed
 abbrev pub IsDiskFault : JournalFault → Type 0

@@ -1,5 +1,5 @@
 -- The disk of a journal: a selector, which picks one of two leaves.
-use Rattle.std.specs.Prelude.{◌≡◌, ◌⊎◌, ℕ, ◌%◌, Bool, true, false, ◌==◌, List, [], ◌∷◌, ◌++◌}
+use Rattle.std.specs.Prelude.{◌≡◌, ◌≢◌, ◌⊎◌, ℕ, ◌%◌, Bool, true, false, ◌==◌, List, [], ◌∷◌, ◌++◌}
 use Rattle.as4_disk.specs.declared.part.Part.{Part}
 use Rattle.as4_disk.specs.declared.part.Part.TheVariants.{Selector, Leaf0, Leaf1}
 use Rattle.as4_disk.specs.Image.{Image}
@@ -25,29 +25,34 @@ picked_leaf image = image (leaf_of (is_second_of image))
 abbrev pub OpensTo : List (List ℕ) → Image → Type 0
 OpensTo bodies image = IsWholeLeaf bodies (picked_leaf image)
 
--- it has these records, and this one is pending behind them
+-- it has these records, and this one is pending behind them: whole, behind a gate that is neither open nor 0
 abbrev pub HasPending : List (List ℕ) → List ℕ → Image → Type 0
 HasPending bodies body image = (version : Version) × (gate : ℕ) × (rest : List ℕ)
-    × IsLeaf version bodies gate rest (picked_leaf image) × IsPending version bodies body rest
+    × IsLeaf version bodies gate rest (picked_leaf image) × (gate ≢ 0) × IsPending version bodies body rest
 
--- it has these records, with this new one or without
+-- it has these records, and only such a one may be pending behind them
+abbrev pub OpensWith : List (List ℕ) → (List ℕ → Type 0) → Image → Type 0
+OpensWith bodies may_pend image = OpensTo bodies image × ((body : List ℕ) → HasPending bodies body image → may_pend body)
+
+-- it has these records, and none is pending
+abbrev pub OpensSettled : List (List ℕ) → Image → Type 0
+OpensSettled bodies image = OpensWith bodies (λ body. ⊥) image
+
+-- it has these records, with this new one or without; where it is without, no other is pending
 abbrev pub OpensToOneOf : List (List ℕ) → List ℕ → Image → Type 0
-OpensToOneOf bodies body image = OpensTo bodies image ⊎ OpensTo (bodies ++ body ∷ []) image
+OpensToOneOf bodies body image = OpensWith bodies (λ other. other ≡ body) image ⊎ OpensSettled (bodies ++ body ∷ []) image
 
--- It has one list of records or the other.
+-- it has one list of records or the other
 abbrev pub OpensToEither : List (List ℕ) → List (List ℕ) → Image → Type 0
-OpensToEither bodies folded image = OpensTo bodies image ⊎ OpensTo folded image
+OpensToEither bodies folded image = OpensSettled bodies image ⊎ OpensSettled folded image
 
--- From a disk that read so to one that a crash leaves: the records are there, with the pending one or without.
+-- From a disk that read so to one that a crash leaves: the records are there, and what is pending was pending; or the
+-- pending one is among them.
 abbrev pub Reopens : Image → Image → Type 0
 Reopens before after = (bodies : List (List ℕ)) → OpensTo bodies before
-    → OpensTo bodies after ⊎ ((body : List ℕ) × HasPending bodies body before × OpensTo (bodies ++ body ∷ []) after)
+    → OpensWith bodies (λ body. HasPending bodies body before) after
+    ⊎ ((body : List ℕ) × HasPending bodies body before × OpensSettled (bodies ++ body ∷ []) after)
 
 -- The picked leaf is as it was, or it was new and is.
 abbrev pub KeepsLeaf : Image → Image → Type 0
 KeepsLeaf before after = (picked_leaf after ≡ picked_leaf before) ⊎ (IsNew (picked_leaf before) × IsNew (picked_leaf after))
-
--- What opened before opens after, and what is pending after was pending before.
-pub record Continues (before after : Image) : Type 0 where
-  pub opens : (bodies : List (List ℕ)) → OpensTo bodies before → OpensTo bodies after
-  pub pending : (bodies : List (List ℕ)) (body : List ℕ) → OpensTo bodies before → HasPending bodies body after → HasPending bodies body before

@@ -1,5 +1,5 @@
 //! How a record is appended.
-ghost use Rattle.std.specs.Prelude.{◌≡◌, ◌+◌, ◌<◌, ◌≤◌, ◌^◌, ◌++◌, [], ◌∷◌, List, ℕ, IfOk, IfErr, OnOk, IsErr, IsNone, length};
+ghost use Rattle.std.specs.Prelude.{◌≡◌, ◌+◌, ◌<◌, ◌≤◌, ◌^◌, ◌++◌, [], ◌∷◌, List, ℕ, IfOk, IfErr, OnOk, IsErr, IsNone, length, is_some};
 ghost use Rattle.as4_flow.specs.Told.{Told};
 ghost use Rattle.as4_disk.specs.Runs.{LeavesOnly};
 
@@ -10,7 +10,7 @@ use as4_disk::{Disk, DiskFailed};
 
 impl<D: Disk> Journal<D> {
     ghost use Rattle.journal.specs.Store.{OpensToOneOf};
-    ghost use Rattle.journal.specs.State.{HasRecords, IsDisk};
+    ghost use Rattle.journal.specs.State.{HasRecords, IsDisk, IsAppendFault};
 
     /// Appends a record, and answers the place of its gate. All records have been read, the leaf has version 2, and no
     /// call has answered Disk. It makes four device calls and takes no memory.
@@ -26,6 +26,7 @@ impl<D: Disk> Journal<D> {
             → LeavesOnly D.moment D.left_since self.old.disk self.new.disk (OpensToOneOf bodies frame.now) }
         ensures kept { (self.new.version ≡ self.old.version) × (self.new.fold ≡ self.old.fold) }
         ensures gate { IfOk result (λ gate. gate ≡ self.old.gate) }
+        ensures grows { OnOk result (self.new.gate ≡ self.old.gate + (length frame.now + 9)) }
 
         ensures full { IfErr result (λ e. (size : _) (need : _) → e ≡ JournalFault.Full size need
             → (size ≡ self.old.gate + 1) × (need ≡ length frame.now + 9) × (2 ^ 32 < size + need)
@@ -33,8 +34,11 @@ impl<D: Disk> Journal<D> {
         ensures room { IfErr result (λ e. (before : _) (after : _) → e ≡ JournalFault.Disk before after
             → self.old.gate + 1 + (length frame.now + 9) ≤ 2 ^ 32) }
         ensures fits { OnOk result (self.old.gate + 1 + (length frame.now + 9) ≤ 2 ^ 32) }
+        ensures faults { IfErr result IsAppendFault }
         ensures cause { IfErr result
             (λ e. IsDisk (D.fault_count self.old.disk) (D.fault_count self.new.disk) e) }
+        ensures tells { is_some (D.seen self.new.disk) ≡ is_some (D.seen self.old.disk) }
+        ensures counted { D.fault_count self.old.disk ≤ D.fault_count self.new.disk }
     {
         let gate = self.gate;
         let size = gate + 1;

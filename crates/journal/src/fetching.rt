@@ -28,6 +28,7 @@ impl<D: Disk> Journal<D> {
         ensures faults { IfErr result IsReadFault }
         ensures cause { IfErr result
             (λ e. IsDisk (D.fault_count self.old.disk) (D.fault_count self.new.disk) e) }
+        ensures counted { D.fault_count self.old.disk ≤ D.fault_count self.new.disk }
     {
         let nothing = Octets::of(Vec::new(alloc));
         if gate >= self.version.limit() {

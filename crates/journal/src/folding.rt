@@ -1,5 +1,5 @@
 //! How a journal is folded: other records that stand for its own are written to the other leaf, which is then picked.
-ghost use Rattle.std.specs.Prelude.{◌≡◌, ◌+◌, ◌<◌, ◌≤◌, ◌^◌, ◌++◌, [], ◌∷◌, List, ℕ, Some, IfOk, IfErr, OnOk, IsNone, IsSome, IsSomeAnd, length};
+ghost use Rattle.std.specs.Prelude.{◌≡◌, ◌+◌, ◌<◌, ◌≤◌, ◌^◌, ◌++◌, [], ◌∷◌, List, ℕ, Some, IfOk, IfErr, OnOk, IsNone, IsSome, IsSomeAnd, length, is_some};
 ghost use Rattle.as4_flow.specs.Told.{Told};
 ghost use Rattle.as4_disk.specs.Runs.{LeavesOnly, FirstThen};
 
@@ -9,7 +9,7 @@ use crate::{Frame, Journal, JournalFault};
 use as4_disk::{Disk, DiskFailed};
 
 impl<D: Disk> Journal<D> {
-    ghost use Rattle.journal.specs.Store.{OpensTo, OpensToEither};
+    ghost use Rattle.journal.specs.Store.{OpensSettled, OpensToEither};
     ghost use Rattle.journal.specs.State.{HasRecords, HasFold, IsDisk, IsDiskFault};
 
     /// Opens a fold, which has no records yet. All records have been read, and no call has answered Disk. It takes no
@@ -19,12 +19,15 @@ impl<D: Disk> Journal<D> {
         ensures open { OnOk result ((bodies : _) → HasRecords D.seen D.may_leave self.old bodies
             → HasFold D.seen D.may_leave self.new bodies []) }
         ensures place { OnOk result (self.new.fold ≡ Some 8) }
+        ensures same { (self.new.gate ≡ self.old.gate) × (self.new.version ≡ self.old.version) }
         ensures any_moment { (bodies : _) → HasRecords D.seen D.may_leave self.old bodies
-            → LeavesOnly D.moment D.left_since self.old.disk self.new.disk (OpensTo bodies) }
+            → LeavesOnly D.moment D.left_since self.old.disk self.new.disk (OpensSettled bodies) }
 
         ensures faults { IfErr result IsDiskFault }
         ensures cause { IfErr result
             (λ e. IsDisk (D.fault_count self.old.disk) (D.fault_count self.new.disk) e) }
+        ensures tells { is_some (D.seen self.new.disk) ≡ is_some (D.seen self.old.disk) }
+        ensures counted { D.fault_count self.old.disk ≤ D.fault_count self.new.disk }
     {
         let before = self.disk.faults();
         match empty_other(&mut self.disk, self.is_second) {
@@ -48,13 +51,16 @@ impl<D: Disk> Journal<D> {
         ensures added { OnOk result ((bodies : _) (folded : _) → HasFold D.seen D.may_leave self.old bodies folded
             → HasFold D.seen D.may_leave self.new bodies (folded ++ frame.now ∷ [])) }
         ensures any_moment { (bodies : _) (folded : _) → HasFold D.seen D.may_leave self.old bodies folded
-            → LeavesOnly D.moment D.left_since self.old.disk self.new.disk (OpensTo bodies) }
+            → LeavesOnly D.moment D.left_since self.old.disk self.new.disk (OpensSettled bodies) }
         ensures gate { IfOk result (λ gate. self.old.fold ≡ Some gate) }
         ensures place { IfOk result (λ gate. self.new.fold ≡ Some (gate + 9 + length frame.now)) }
+        ensures same { (self.new.gate ≡ self.old.gate) × (self.new.version ≡ self.old.version) }
 
         ensures faults { IfErr result IsDiskFault }
         ensures cause { IfErr result
             (λ e. IsDisk (D.fault_count self.old.disk) (D.fault_count self.new.disk) e) }
+        ensures tells { is_some (D.seen self.new.disk) ≡ is_some (D.seen self.old.disk) }
+        ensures counted { D.fault_count self.old.disk ≤ D.fault_count self.new.disk }
     {
         let gate = self.fold.unwrap();
         let before = self.disk.faults();
@@ -79,15 +85,18 @@ impl<D: Disk> Journal<D> {
             → HasRecords D.seen D.may_leave self.new folded) }
         ensures version { OnOk result (self.new.version ≡ Version.Two) }
         ensures closed { OnOk result (IsNone self.new.fold) }
+        ensures gate { OnOk result (self.old.fold ≡ Some self.new.gate) }
 
         // Until the other leaf has been settled a crash leaves the old records, and from then on the old or the new.
         ensures any_moment { (bodies : _) (folded : _) → HasFold D.seen D.may_leave self.old bodies folded
             → FirstThen D.moment D.left_since self.old.disk self.new.disk
-            (OpensTo bodies) (OpensToEither bodies folded) }
+            (OpensSettled bodies) (OpensToEither bodies folded) }
 
         ensures faults { IfErr result IsDiskFault }
         ensures cause { IfErr result
             (λ e. IsDisk (D.fault_count self.old.disk) (D.fault_count self.new.disk) e) }
+        ensures tells { is_some (D.seen self.new.disk) ≡ is_some (D.seen self.old.disk) }
+        ensures counted { D.fault_count self.old.disk ≤ D.fault_count self.new.disk }
     {
         let gate = self.fold.unwrap();
         let before = self.disk.faults();
@@ -112,7 +121,7 @@ impl<D: Disk> Journal<D> {
         ensures records { (bodies : _) (folded : _) → HasFold D.seen D.may_leave self.old bodies folded
             → HasRecords D.seen D.may_leave self.new bodies }
         ensures closed { IsNone self.new.fold }
-        ensures disk { self.new.disk ≡ self.old.disk }
+        ensures same { self.new ≡ record self.old { fold = self.new.fold; fold_in_range = self.new.fold_in_range } }
     {
         self.fold = None;
     }

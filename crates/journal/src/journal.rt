@@ -5,7 +5,7 @@
 //!
 //! A gate is open as the byte 1 and closed as any other. A record that is written has a gate 0 behind it before its own
 //! gate is opened; so a crash leaves the records before it, and this one or not.
-ghost use Rattle.std.specs.Prelude.{◌≡◌, ◌+◌, ◌<◌, ◌^◌, [], ◌++◌, ◌∷◌, IfOk, IfErr, IsNone, unwrap_or};
+ghost use Rattle.std.specs.Prelude.{◌≡◌, ◌+◌, ◌<◌, ◌≤◌, ◌^◌, [], ◌++◌, ◌∷◌, IfOk, IfErr, IsNone, unwrap_or, is_some};
 ghost use Rattle.as4_flow.specs.Told.{Told};
 ghost use Rattle.as4_disk.specs.Runs.{FirstThen};
 
@@ -34,15 +34,15 @@ pub struct Journal<D> {
 
 impl<D: Disk> Journal<D> {
     ghost use Rattle.journal.specs.Leaf.{number_of, IsBroken};
-    ghost use Rattle.journal.specs.Store.{KeepsLeaf, Continues, picked_leaf};
-    ghost use Rattle.journal.specs.State.{HasRead, IsDisk};
+    ghost use Rattle.journal.specs.Store.{KeepsLeaf, picked_leaf};
+    ghost use Rattle.journal.specs.State.{HasRead, IsDisk, IsOpeningFault};
 
     /// Opens a journal: settles the selector and the picked leaf, and makes a leaf of at most 9 bytes a new one of
     /// version 2. The records are still to be read.
     pub fn open(alloc: Global, mut disk: D) -> Result<Journal<D>, (JournalFault, D)>
         ensures read { IfOk result (λ j. Told (D.seen disk) (λ b. HasRead D.seen D.may_leave j []
-            × Told (D.seen j.disk) (Continues b))) }
-
+            × Told (D.seen j.disk) (KeepsLeaf b))) }
+        ensures gate { IfOk result (λ j. j.gate ≡ 8) }
         ensures no_fold { IfOk result (λ j. IsNone j.fold) }
 
         // Until the selector and the leaf have been settled a crash leaves what it might have left before, and from then
@@ -54,7 +54,11 @@ impl<D: Disk> Journal<D> {
 
         ensures not_journal { IfErr result (λ e. (at : _) → e.0 ≡ JournalFault.NotJournal at
             → (at ≡ 0) × Told (D.seen disk) (λ b. IsBroken 0 (picked_leaf b))) }
+        ensures faults { IfErr result (λ e. IsOpeningFault e.0) }
         ensures cause { IfErr result (λ e. IsDisk (D.fault_count disk) (D.fault_count e.1) e.0) }
+        ensures tells { IfOk result (λ j. is_some (D.seen j.disk) ≡ is_some (D.seen disk)) }
+        ensures counted { IfOk result (λ j. D.fault_count disk ≤ D.fault_count j.disk) }
+        ensures failed_count { IfErr result (λ e. D.fault_count disk ≤ D.fault_count e.1) }
     {
         let before = disk.faults();
         match start(alloc, &mut disk) {
@@ -80,6 +84,13 @@ impl<D: Disk> Journal<D> {
         ensures { result ≡ number_of self.now.version }
     {
         self.version.number()
+    }
+
+    /// How many faults the disk has met.
+    pub fn faults(&self) -> u64
+        ensures { result ≡ D.fault_count self.now.disk }
+    {
+        self.disk.faults()
     }
 
     /// How many bytes the records take, with the magic and the closed gate behind them.

@@ -1,5 +1,5 @@
 //! What a fold does to the disk: it fills the leaf that isn't picked, settles it, and then picks it.
-ghost use Rattle.std.specs.Prelude.{◌≡◌, ◌⊎◌, ℕ, ◌≤◌, List, [], ◌∷◌, ◌++◌, not, length, OnOk};
+ghost use Rattle.std.specs.Prelude.{◌≡◌, ◌⊎◌, ℕ, ◌≤◌, List, [], ◌∷◌, ◌++◌, not, length, OnOk, is_some};
 ghost use Rattle.as4_flow.specs.Told.{Told};
 ghost use Rattle.as4_disk.specs.Bytes.{overwritten};
 ghost use Rattle.as4_disk.specs.Runs.{LeavesOnly, FirstThen, HasCause};
@@ -17,6 +17,7 @@ pub(crate) fn cut_other<D: Disk>(disk: &mut D, is_second: bool) -> Result<(), Di
         → IsSettled D.seen D.may_leave disk.new is_second leaf × Reads D.seen disk.new is_second []) }
     ensures any_moment { (leaf : List ℕ) → IsSettled D.seen D.may_leave disk.old is_second leaf
         → LeavesOnly D.moment D.left_since disk.old disk.new (λ c. picked_leaf c ≡ leaf) }
+    ensures tells { is_some (D.seen disk.new) ≡ is_some (D.seen disk.old) }
     ensures cause { HasCause (D.fault_count disk.old) (D.fault_count disk.new) result }
 {
     disk.cut(leaf_part(!is_second), 0)?;
@@ -37,6 +38,7 @@ pub(crate) fn write_other<D: Disk>(
         × Reads D.seen disk.new is_second (overwritten at bytes.now other)) }
     ensures any_moment { (leaf : List ℕ) → IsSettled D.seen D.may_leave disk.old is_second leaf
         → LeavesOnly D.moment D.left_since disk.old disk.new (λ c. picked_leaf c ≡ leaf) }
+    ensures tells { is_some (D.seen disk.new) ≡ is_some (D.seen disk.old) }
     ensures cause { HasCause (D.fault_count disk.old) (D.fault_count disk.new) result }
 {
     disk.write_at(leaf_part(!is_second), at, bytes)?;
@@ -51,6 +53,7 @@ pub(crate) fn sync_other<D: Disk>(disk: &mut D, is_second: bool) -> Result<(), D
         × ReadsSettled D.seen D.may_leave disk.new is_second other) }
     ensures any_moment { (leaf : List ℕ) → IsSettled D.seen D.may_leave disk.old is_second leaf
         → LeavesOnly D.moment D.left_since disk.old disk.new (λ c. picked_leaf c ≡ leaf) }
+    ensures tells { is_some (D.seen disk.new) ≡ is_some (D.seen disk.old) }
     ensures cause { HasCause (D.fault_count disk.old) (D.fault_count disk.new) result }
 {
     disk.sync(leaf_part(!is_second))?;
@@ -65,6 +68,7 @@ pub(crate) fn pick_other<D: Disk>(disk: &mut D, is_second: bool) -> Result<(), D
     ensures any_moment { (leaf other : List ℕ) → IsSettled D.seen D.may_leave disk.old is_second leaf
         → ReadsSettled D.seen D.may_leave disk.old is_second other
         → LeavesOnly D.moment D.left_since disk.old disk.new (λ c. (picked_leaf c ≡ leaf) ⊎ (picked_leaf c ≡ other)) }
+    ensures tells { is_some (D.seen disk.new) ≡ is_some (D.seen disk.old) }
     ensures cause { HasCause (D.fault_count disk.old) (D.fault_count disk.new) result }
 {
     write_durably(disk, Part::Selector, 0, &[u8::from(!is_second)])?;
@@ -81,6 +85,7 @@ pub(crate) fn empty_other<D: Disk>(disk: &mut D, is_second: bool) -> Result<(), 
         × Reads D.seen disk.new is_second (front_of Version.Two [])) }
     ensures any_moment { (leaf : List ℕ) → IsSettled D.seen D.may_leave disk.old is_second leaf
         → LeavesOnly D.moment D.left_since disk.old disk.new (λ c. picked_leaf c ≡ leaf) }
+    ensures tells { is_some (D.seen disk.new) ≡ is_some (D.seen disk.old) }
     ensures cause { HasCause (D.fault_count disk.old) (D.fault_count disk.new) result }
 {
     cut_other(disk, is_second)?;
@@ -98,6 +103,7 @@ fn close_other<D: Disk>(disk: &mut D, is_second: bool, at: u64) -> Result<(), Di
     ensures any_moment { (leaf other : List ℕ) → IsSettled D.seen D.may_leave disk.old is_second leaf
         → Reads D.seen disk.old is_second other
         → LeavesOnly D.moment D.left_since disk.old disk.new (λ c. picked_leaf c ≡ leaf) }
+    ensures tells { is_some (D.seen disk.new) ≡ is_some (D.seen disk.old) }
     ensures cause { HasCause (D.fault_count disk.old) (D.fault_count disk.new) result }
 {
     write_other(disk, is_second, at, &[0])?;
@@ -119,6 +125,7 @@ pub(crate) fn finish_other<D: Disk>(
         → IsSettled D.seen D.may_leave disk.old is_second leaf → Reads D.seen disk.old is_second other
         → FirstThen D.moment D.left_since disk.old disk.new
         (λ c. picked_leaf c ≡ leaf) (λ c. (picked_leaf c ≡ leaf) ⊎ (picked_leaf c ≡ other ++ 0 ∷ [])) }
+    ensures tells { is_some (D.seen disk.new) ≡ is_some (D.seen disk.old) }
     ensures cause { HasCause (D.fault_count disk.old) (D.fault_count disk.new) result }
 {
     close_other(disk, is_second, at)?;

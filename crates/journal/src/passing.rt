@@ -1,5 +1,5 @@
 //! How a gate is passed: the record behind an open one is read, and a closed one that isn't 0 is closed to 0.
-ghost use Rattle.std.specs.Prelude.{◌≡◌, ◌++◌, ◌∷◌, ◌<◌, ◌≤◌, ◌^◌, length, IfOk, IsErrOf};
+ghost use Rattle.std.specs.Prelude.{◌≡◌, ◌++◌, ◌∷◌, ◌<◌, ◌≤◌, ◌^◌, length, IfOk, IsErrOf, is_some};
 ghost use Rattle.as4_flow.specs.Told.{Told};
 ghost use Rattle.as4_flow.specs.Faults.{Rose};
 ghost use Rattle.as4_disk.specs.Runs.{LeavesOnly, Quiet};
@@ -39,6 +39,7 @@ pub(crate) fn pass<D: Disk>(
         → length (front_of version bodies) < limit_of version → IsAhead version (byte ∷ rest) ahead
         → IsSettled D.seen D.may_leave disk.old is_second (front_of version bodies ++ byte ∷ rest)
         → Told (D.seen disk.old) (λ b. LeavesOnly D.moment D.left_since disk.old disk.new (Reopens b)) }
+    ensures tells { is_some (D.seen disk.new) ≡ is_some (D.seen disk.old) }
     ensures cause { IsErrOf result ReadFault.Disk → Rose (D.fault_count disk.old) (D.fault_count disk.new) }
     ensures counted { D.fault_count disk.old ≤ D.fault_count disk.new }
 {

@@ -1,5 +1,5 @@
 //! The records of a journal, read one after the other, and one of them by its gate.
-ghost use Rattle.std.specs.Prelude.{◌≡◌, ◌+◌, ◌<◌, ◌≤◌, ◌^◌, ◌++◌, [], ◌∷◌, IfOk, IfErr, IfSome, IfNone, OnErr, IsErrOf, length};
+ghost use Rattle.std.specs.Prelude.{◌≡◌, ◌+◌, ◌<◌, ◌≤◌, ◌^◌, ◌++◌, [], ◌∷◌, IfOk, IfErr, IfSome, IfNone, OnErr, IsErrOf, length, is_some};
 ghost use Rattle.as4_flow.specs.Told.{Told};
 ghost use Rattle.as4_disk.specs.Runs.{LeavesOnly};
 
@@ -11,9 +11,9 @@ use as4_values::Octets;
 use std::alloc::Global;
 
 impl<D: Disk> Journal<D> {
-    ghost use Rattle.journal.specs.Leaf.{front_of, Lists, IsBroken};
+    ghost use Rattle.journal.specs.Leaf.{width_of, limit_of, Lists, IsBroken};
     ghost use Rattle.journal.specs.Store.{Reopens, picked_leaf};
-    ghost use Rattle.journal.specs.State.{HasRead, HasRecords, IsDisk};
+    ghost use Rattle.journal.specs.State.{HasRead, HasRecords, IsDisk, IsOpeningFault};
 
     /// The place of the next record's gate, and its body; `None` at the closed gate, behind which records may then be
     /// appended. A closed gate that isn't 0 is closed to 0 first. A record that couldn't be read isn't passed.
@@ -23,13 +23,15 @@ impl<D: Disk> Journal<D> {
             → HasRead D.seen D.may_leave self.new (bodies ++ found.1 ∷ []))) }
         ensures place { IfOk result (λ next. IfSome next (λ found. found.0 ≡ self.old.gate)) }
         ensures same { IfOk result (λ next. IfSome next (λ _. D.seen self.new.disk ≡ D.seen self.old.disk)) }
-        ensures grows { IfOk result (λ next. IfSome next (λ _.
-            (self.old.gate < self.new.gate) × (self.new.gate < 2 ^ 32))) }
+        ensures grows { IfOk result (λ next. IfSome next (λ found.
+            (self.new.gate ≡ self.old.gate + (1 + width_of self.old.version + length found.1))
+            × (self.new.gate < limit_of self.old.version))) }
 
         ensures kept { (self.new.version ≡ self.old.version) × (self.new.fold ≡ self.old.fold) }
 
         ensures end { IfOk result (λ next. IfNone next ((bodies : _)
             → HasRead D.seen D.may_leave self.old bodies → HasRecords D.seen D.may_leave self.new bodies)) }
+        ensures stays { IfOk result (λ next. IfNone next (self.new.gate ≡ self.old.gate)) }
         ensures all { IfOk result (λ next. IfNone next ((bodies : _)
             → HasRead D.seen D.may_leave self.old bodies
             → Told (D.seen self.old.disk) (λ b. Lists bodies (picked_leaf b)))) }
@@ -40,8 +42,11 @@ impl<D: Disk> Journal<D> {
         ensures starved { IsErrOf result JournalFault.NoMemory
             → (bodies : _) → HasRead D.seen D.may_leave self.old bodies → HasRead D.seen D.may_leave self.new bodies }
         ensures not_passed { OnErr result (self.new.gate ≡ self.old.gate) }
+        ensures faults { IfErr result IsOpeningFault }
         ensures cause { IfErr result
             (λ e. IsDisk (D.fault_count self.old.disk) (D.fault_count self.new.disk) e) }
+        ensures tells { is_some (D.seen self.new.disk) ≡ is_some (D.seen self.old.disk) }
+        ensures counted { D.fault_count self.old.disk ≤ D.fault_count self.new.disk }
 
         ensures any_moment { (bodies : _) → HasRead D.seen D.may_leave self.old bodies
             → Told (D.seen self.old.disk) (λ b.

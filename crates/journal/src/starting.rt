@@ -1,10 +1,10 @@
 //! How a leaf is picked, settled and known, before its records are read.
-ghost use Rattle.std.specs.Prelude.{◌≡◌, ◌≤◌, ◌++◌, [], IfOk, IfSome, IfNone, IsErrOf, List, ℕ, length, take};
+ghost use Rattle.std.specs.Prelude.{◌≡◌, ◌≤◌, ◌++◌, [], IfOk, IfSome, IfNone, IsErrOf, List, ℕ, length, take, is_some};
 ghost use Rattle.as4_flow.specs.Told.{Told};
 ghost use Rattle.as4_flow.specs.Faults.{Rose};
 ghost use Rattle.as4_disk.specs.Runs.{FirstThen, LeavesOnly, Quiet};
 ghost use Rattle.journal.specs.Leaf.{magic_of, IsBroken};
-ghost use Rattle.journal.specs.Store.{KeepsLeaf, Continues, picked_leaf, picks, is_second_of};
+ghost use Rattle.journal.specs.Store.{KeepsLeaf, picked_leaf, picks, is_second_of};
 ghost use Rattle.journal.specs.Settled.{IsSettled, IsStart};
 
 use crate::store::{leaf_part, write_picked};
@@ -24,11 +24,12 @@ pub(crate) fn start<D: Disk>(
     disk: &mut D,
 ) -> Result<Option<(bool, Version)>, ReadFault>
     ensures read { IfOk result (λ found. IfSome found (λ s. Told (D.seen disk.old) (λ b.
-        IsStart D.seen D.may_leave disk.new s.0 s.1 × Told (D.seen disk.new) (Continues b)))) }
+        IsStart D.seen D.may_leave disk.new s.0 s.1 × Told (D.seen disk.new) (KeepsLeaf b)))) }
     ensures none { IfOk result (λ found. IfNone found (Told (D.seen disk.old) (λ b. IsBroken 0 (picked_leaf b)))) }
 
     ensures any_moment { Told (D.seen disk.old) (λ b.
         FirstThen D.moment D.left_since disk.old disk.new (D.may_leave disk.old) (KeepsLeaf b)) }
+    ensures tells { is_some (D.seen disk.new) ≡ is_some (D.seen disk.old) }
     ensures cause { IsErrOf result ReadFault.Disk → Rose (D.fault_count disk.old) (D.fault_count disk.new) }
     ensures counted { D.fault_count disk.old ≤ D.fault_count disk.new }
 {
@@ -88,13 +89,14 @@ fn known<D: Disk>(
 ) -> Result<Option<Version>, ReadFault>
     ensures read { IfOk result (λ found. IfSome found (λ version. (leaf : List ℕ) → Told (D.seen disk.old) (λ b.
         IsSettled D.seen D.may_leave disk.old is_second leaf
-        → IsStart D.seen D.may_leave disk.new is_second version × Told (D.seen disk.new) (Continues b)))) }
+        → IsStart D.seen D.may_leave disk.new is_second version × Told (D.seen disk.new) (KeepsLeaf b)))) }
     ensures none { IfOk result (λ found. IfNone found ((leaf : List ℕ)
         → IsSettled D.seen D.may_leave disk.old is_second leaf → IsBroken 0 leaf)) }
 
     ensures any_moment { (leaf : List ℕ) → Told (D.seen disk.old) (λ b.
         IsSettled D.seen D.may_leave disk.old is_second leaf
         → LeavesOnly D.moment D.left_since disk.old disk.new (KeepsLeaf b)) }
+    ensures tells { is_some (D.seen disk.new) ≡ is_some (D.seen disk.old) }
     ensures cause { IsErrOf result ReadFault.Disk → Rose (D.fault_count disk.old) (D.fault_count disk.new) }
     ensures counted { D.fault_count disk.old ≤ D.fault_count disk.new }
 {

@@ -1,5 +1,5 @@
 //! What a journal does to its disk: writes to the picked leaf that are durable once they have answered.
-ghost use Rattle.std.specs.Prelude.{◌≡◌, ℕ, ◌+◌, ◌<◌, ◌≤◌, ◌^◌, List, [], ◌∷◌, ◌++◌, length, drop, OnOk};
+ghost use Rattle.std.specs.Prelude.{◌≡◌, ℕ, ◌+◌, ◌<◌, ◌≤◌, ◌^◌, List, [], ◌∷◌, ◌++◌, length, drop, OnOk, is_some};
 ghost use Rattle.as4_flow.specs.Told.{Told};
 ghost use Rattle.as4_disk.specs.Bytes.{Torn};
 ghost use Rattle.as4_disk.specs.Runs.{LeavesOnly, HasCause};
@@ -33,6 +33,7 @@ pub(crate) fn write_picked<D: Disk>(
     ensures any_moment { (leaf : List ℕ) → IsSettled D.seen D.may_leave disk.old is_second leaf
         → LeavesOnly D.moment D.left_since disk.old disk.new
         (λ c. Torn at (length bytes.now) leaf (picked_leaf c)) }
+    ensures tells { is_some (D.seen disk.new) ≡ is_some (D.seen disk.old) }
     ensures cause { HasCause (D.fault_count disk.old) (D.fault_count disk.new) result }
 {
     write_durably(disk, leaf_part(is_second), at, bytes)?;
@@ -57,6 +58,7 @@ pub(crate) fn add_record<D: Disk>(
         → length (front_of Version.Two (bodies ++ frame.now ∷ [])) < limit_of Version.Two
         → IsSettled D.seen D.may_leave disk.old is_second (front_of Version.Two bodies ++ 0 ∷ rest)
         → LeavesOnly D.moment D.left_since disk.old disk.new (OpensToOneOf bodies frame.now) }
+    ensures tells { is_some (D.seen disk.new) ≡ is_some (D.seen disk.old) }
     ensures cause { HasCause (D.fault_count disk.old) (D.fault_count disk.new) result }
 {
     write_picked(disk, is_second, gate + 1, frame.tail())?;

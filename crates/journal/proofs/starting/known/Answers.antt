@@ -12,7 +12,7 @@ use Rattle.journal.specs.Leaf.{front_of, IsNew}
 use Rattle.journal.specs.Store.{picked_leaf, KeepsLeaf}
 use Rattle.journal.specs.Settled.{IsSettled}
 use Rattle.journal.proofs.StoreLemmas.{settled_told, settled_left, settled_within, told_same}
-use Rattle.journal.proofs.StartLemmas.{starts, starts_new, new_leaf, new_continues, same_continues}
+use Rattle.journal.proofs.StartLemmas.{starts, starts_new, new_leaf}
 use Rattle.journal.proofs.starting.known.Goals as goal
 
 -- reading leaves the leaf as it was
@@ -53,7 +53,7 @@ returns-in_default-clause-read g c leaf b told is =
     let bytes : 65 ∷ 83 ∷ 52 ∷ 74 ∷ 78 ∷ 76 ∷ 50 ∷ 10 ∷ 0 ∷ drop 9 leaf ≡ front_of Two [] ++ 0 ∷ [] = ap (λ (l : List ℕ). 65 ∷ 83 ∷ 52 ∷ 74 ∷ 78 ∷ 76 ∷ 50 ∷ 10 ∷ 0 ∷ l) (drop_all 9 leaf short_leaf) ∙ new_leaf in
     let settled = subst P bytes written in (
       starts_new g.D.Disk.seen g.D.Disk.may_leave c.write_picked.new.disk c.args.is_second (front_of Two [] ++ 0 ∷ []) refl settled,
-      λ after told_after. new_continues b after (omega (arith, short_leaf, ap length here.2)) (omega (arith, ap length (sym new_leaf), ap length (settled_told g.D.Disk.seen g.D.Disk.may_leave c.write_picked.new.disk c.args.is_second (front_of Two [] ++ 0 ∷ []) after settled told_after).2)),
+      λ after told_after. inr (omega (arith, short_leaf, ap length here.2), omega (arith, ap length (sym new_leaf), ap length (settled_told g.D.Disk.seen g.D.Disk.may_leave c.write_picked.new.disk c.args.is_second (front_of Two [] ++ 0 ∷ []) after settled told_after).2)),
     )
 
 pub returns-in_default-clause-any_moment : goal.returns-in_default-clause-any_moment
@@ -85,7 +85,7 @@ returns-clause-read g c =
     let both = ten g c leaf b told is in
     let settled = settled_within g.D.Disk.seen g.D.Disk.may_leave c.args.disk.now c.read_some.new.disk c.args.is_second leaf c.read_some.ensures.quiet.same c.read_some.ensures.quiet.within is in (
       starts g.D.Disk.seen g.D.Disk.may_leave c.read_some.new.disk c.args.is_second version leaf (sym both.1 ∙ magic) both.0 settled,
-      λ after told_after. same_continues b after (told_same b after told (sym c.read_some.ensures.quiet.same ∙ told_after)),
+      λ after told_after. inl (ap picked_leaf (told_same after b told_after (c.read_some.ensures.quiet.same ∙ told))),
     ))
 
 pub returns-clause-none : goal.returns-clause-none

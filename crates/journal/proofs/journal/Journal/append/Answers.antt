@@ -9,7 +9,7 @@ use Rattle.journal.specs.Store.{OpensToOneOf}
 use Rattle.journal.specs.Settled.{IsSettled}
 use Rattle.journal.specs.State.{HasRecords}
 use Rattle.journal.proofs.LeafLemmas.{length-front_more}
-use Rattle.journal.proofs.StoreLemmas.{settled_left, closed_opens}
+use Rattle.journal.proofs.StoreLemmas.{settled_left, settled_opens, closed_opens}
 use Rattle.journal.proofs.journal.Journal.append.Goals as goal
 
 -- a journal of version 2
@@ -22,8 +22,8 @@ as_two seen may_leave journal bodies is_two has =
 pub returns-then-size-need-clause-any_moment : goal.returns-then-size-need-clause-any_moment
 returns-then-size-need-clause-any_moment g c bodies has =
     no_call g.D.Disk.moment g.D.Disk.left_since c.args.self.now.disk (OpensToOneOf bodies c.args.frame.now)
-    (λ image left. inl (closed_opens c.args.self.now.version bodies has.rest image has.within
-    (settled_left g.D.Disk.seen g.D.Disk.may_leave c.args.self.now.disk c.args.self.now.is_second (front_of c.args.self.now.version bodies ++ 0 ∷ has.rest) image has.settled (g.met.D.Disk.only_now c.args.self.now.disk image left)).2))
+    (λ image left. inl (settled_opens bodies (λ other. other ≡ c.args.frame.now) image (closed_opens c.args.self.now.version bodies has.rest image has.within
+    (settled_left g.D.Disk.seen g.D.Disk.may_leave c.args.self.now.disk c.args.self.now.is_second (front_of c.args.self.now.version bodies ++ 0 ∷ has.rest) image has.settled (g.met.D.Disk.only_now c.args.self.now.disk image left)).2)))
 
 pub returns-in-Err-clause-any_moment : goal.returns-in-Err-clause-any_moment
 returns-in-Err-clause-any_moment g c bodies has =
