@@ -1,0 +1,224 @@
+-- The records of an end's fold, added one after another.
+use Rattle.std.proofs.Common.{◌≡◌, ◌⊎◌, inl, inr, ⊎_elim, ℕ, ◌+◌, ◌<◌, ◌≤◌, ◌^◌, List, [], ◌∷◌, ◌++◌, Option, Some, None, IsNone, is_some, length, map, take, drop, get_or, refl, sym, ap, subst, ◌∙◌, arith, add-one, take-append-drop}
+use Rattle.std.specs.Prelude.{IsSomeAnd}
+use Rattle.std.specs.List.{slice_get, sum_by}
+use Rattle.std.proofs.Math.Seq.{take-suc}
+use Rattle.std.proofs.lemmas.List.{map-append, take_all}
+use Rattle.std.proofs.lemmas.List.Sums.{sum_by-append, sum_by-cons}
+use Rattle.std.proofs.lemmas.Option.{same_Some, slice_get_cases, slice_get_within, get_or_from_slice_get}
+use Rattle.as4_disk.specs.Image.{Image}
+use Rattle.as4_disk.specs.Runs.{FirstThen, LeavesOnly}
+use Rattle.as4_disk.proofs.RunLemmas.{no_call, then}
+use Rattle.as4_effects.specs.declared.effect.Effect.{Effect}
+use Rattle.as4_flow.specs.Told.{Told}
+use Rattle.event_code.specs.Spelled.{AreSpelled, IsSpelledEffect}
+use Rattle.exchange_model.specs.Apply.{record_len}
+use Rattle.exchange_model.specs.End.{End, empty_end}
+use Rattle.exchange_model.specs.Fold.{IsFolded, IsFoldedSize, folded_size, resized}
+use Rattle.fold_laws.specs.Reached.{IsReached}
+use Rattle.fold_laws.proofs.GivenBack.{given_back}
+use Rattle.fold_laws.proofs.OneFold.{one_fold}
+use Rattle.fold_laws.proofs.Sound.{reached_sound}
+use Rattle.journal.specs.Leaf.{front_of}
+use Rattle.journal.specs.State.{HasFold, HasRecords}
+use Rattle.journal.specs.Store.{OpensSettled, OpensToEither}
+use Rattle.journal.specs.declared.journal.Journal.{Journal}
+use Rattle.journal.specs.declared.version.Version.TheVariants.{Two}
+use Rattle.journal.proofs.StoreLemmas.{closed_opens, settled_left}
+use Rattle.end_records.specs.Opens.{IsJournalOf, OpensOnly}
+use Rattle.end_records.specs.Records.{RecordsLead, alone}
+use Rattle.end_records.proofs.FoldLemmas.{fold_leads}
+use Rattle.end_records.proofs.OpenLemmas.{settled_opens}
+use Rattle.end_journal.specs.Adding.{AddsPart, HasAdded, bytes_of}
+use Rattle.end_journal.proofs.RunLemmas.{first_weaken, then_first, told_before}
+
+-- ---- lengths
+
+pub len_of_one : (effect : Effect) → record_len (effect ∷ []) ≡ length (alone effect) + 9
+unfolding record_len
+len_of_one effect = refl
+
+pub size_of_fold : (effects : List Effect) → folded_size effects ≡ 9 + bytes_of effects
+unfolding folded_size
+size_of_fold effects = refl
+
+-- each record has a byte
+pub few_parts : (effects : List Effect) → length effects ≤ bytes_of effects
+few_parts [] = omega arith
+few_parts (e ∷ effects) =
+    let sum : bytes_of (e ∷ effects) ≡ record_len (e ∷ []) + bytes_of effects = sum_by-cons (λ (f : Effect). record_len (f ∷ [])) e effects in
+    omega (arith, sum, len_of_one e, few_parts effects)
+
+pub take_more : (effects : List Effect) (part : ℕ) (effect : Effect) → slice_get effects part ≡ Some effect → take (part + 1) effects ≡ take part effects ++ effect ∷ []
+take_more effects part effect found =
+    ap (λ (n : ℕ). take n effects) (add-one part)
+    ∙ take-suc effects part effect (slice_get_within effects part effect found)
+    ∙ ap (λ (e : Effect). take part effects ++ e ∷ []) (get_or_from_slice_get effects part effect effect found)
+
+pub bytes_more : (effects : List Effect) (effect : Effect) → bytes_of (effects ++ effect ∷ []) ≡ bytes_of effects + record_len (effect ∷ [])
+bytes_more effects effect =
+    let len : Effect → ℕ = λ f. record_len (f ∷ []) in
+    let all : sum_by len (effects ++ effect ∷ []) ≡ sum_by len effects + sum_by len (effect ∷ []) = sum_by-append len effects (effect ∷ []) in
+    let last : sum_by len (effect ∷ []) ≡ len effect + sum_by len [] = sum_by-cons len effect [] in
+    omega (arith, all, last)
+
+bytes_taken : (effects : List Effect) (count : ℕ) → bytes_of (take count effects) ≤ bytes_of effects
+bytes_taken effects count =
+    let len : Effect → ℕ = λ f. record_len (f ∷ []) in
+    let all : sum_by len (take count effects ++ drop count effects) ≡ sum_by len (take count effects) + sum_by len (drop count effects) = sum_by-append len (take count effects) (drop count effects) in
+    let whole : sum_by len (take count effects ++ drop count effects) ≡ sum_by len effects = ap (sum_by len) (take-append-drop count effects) in
+    omega (arith, all, whole)
+
+-- with the next part the fold is no longer than it will be
+pub part_within : (effects : List Effect) (part : ℕ) (effect : Effect) → slice_get effects part ≡ Some effect → bytes_of (take part effects) + record_len (effect ∷ []) ≤ bytes_of effects
+part_within effects part effect found =
+    let more : bytes_of (take (part + 1) effects) ≡ bytes_of (take part effects ++ effect ∷ []) = ap (λ (l : List Effect). bytes_of l) (take_more effects part effect found) in
+    omega (arith, more, bytes_more (take part effects) effect, bytes_taken effects (part + 1))
+
+pub short_bytes : (end : End) (effects : List Effect) → ((size : ℕ) → IsFoldedSize end size → size < 2 ^ 32) → IsFolded end effects → 9 + bytes_of effects < 2 ^ 32
+short_bytes end effects short folded =
+    omega (arith, short (folded_size effects) (effects, folded, refl), size_of_fold effects)
+
+-- there is room for the next part
+pub part_room : (end : End) (all effects : List Effect) (part : ℕ) (effect : Effect) (fold : Option ℕ) → ((size : ℕ) → IsFoldedSize end size → size < 2 ^ 32) → IsFolded end all → IsFolded end effects
+    → slice_get effects part ≡ Some effect → fold ≡ Some (8 + bytes_of (take part all)) → IsSomeAnd fold (λ place. place + record_len (effect ∷ []) + 1 < 2 ^ 32)
+part_room end all effects part effect fold short folded also found is =
+    let here : slice_get all part ≡ Some effect = ap (λ (l : List Effect). slice_get l part) (one_fold end all effects folded also) ∙ found in
+    let P : Option ℕ → Type 0 = λ o. IsSomeAnd o (λ place. place + record_len (effect ∷ []) + 1 < 2 ^ 32) in
+    let within : 8 + bytes_of (take part all) + record_len (effect ∷ []) + 1 < 2 ^ 32 =
+    omega (arith, part_within all part effect here, short_bytes end all short folded) in
+    subst P (sym is) within
+
+-- and few are left
+pub part_few : (end : End) (all : List Effect) (part : ℕ) (effect : Effect) → ((size : ℕ) → IsFoldedSize end size → size < 2 ^ 32) → IsFolded end all → slice_get all part ≡ Some effect → part + 1 < 2 ^ 32
+part_few end all part effect short folded found =
+    omega (arith, slice_get_within all part effect found, few_parts all, short_bytes end all short folded)
+
+-- the room for the record is that for its body
+pub room_of_one : (fold : Option ℕ) (effect : Effect) (frame : List ℕ) → frame ≡ alone effect → IsSomeAnd fold (λ place. place + record_len (effect ∷ []) + 1 < 2 ^ 32)
+    → IsSomeAnd fold (λ place. place + length frame + 10 < 2 ^ 32)
+room_of_one None effect frame is room = room
+room_of_one (Some place) effect frame is room = omega (arith, room, len_of_one effect, ap length is)
+
+-- and so far the fold grows
+pub fold_grows : (old new : Option ℕ) (gate place : ℕ) (effect : Effect) (frame : List ℕ) → frame ≡ alone effect → old ≡ Some gate → new ≡ Some (gate + 9 + length frame) → old ≡ Some place
+    → new ≡ Some (place + record_len (effect ∷ []))
+fold_grows old new gate place effect frame is at grows was =
+    let same : gate ≡ place = same_Some _ _ (sym at ∙ was) in
+    let len : gate + 9 + length frame ≡ place + record_len (effect ∷ []) = omega (arith, same, len_of_one effect, ap length is) in
+    grows ∙ ap (λ (n : ℕ). Some n) len
+
+spelled_more : (effects : List Effect) (effect : Effect) → AreSpelled effects → IsSpelledEffect effect → AreSpelled (effects ++ effect ∷ [])
+spelled_more [] effect spelled last = (last, tt)
+spelled_more (e ∷ effects) effect spelled last = (spelled.0, spelled_more effects effect spelled.1 last)
+
+all_taken : (effects : List Effect) (part : ℕ) → slice_get effects part ≡ None → length effects ≤ part
+all_taken effects part none =
+    ⊎_elim
+    (λ (within : (x : Effect) × (part < length effects) × (slice_get effects part ≡ Some x) × (get_or effects part x ≡ x)).
+    let no : Some within.0 ≡ None = sym within.2 ∙ none in absurd cc)
+    (λ (past : (length effects ≤ part) × (slice_get effects part ≡ None)). past.0)
+    (slice_get_cases effects part).1
+
+effects_lead : (end : End) (effects : List Effect) → IsReached end → IsFolded end effects → AreSpelled effects → RecordsLead (map alone effects) empty_end (resized (folded_size effects) end)
+effects_lead end effects reached folded spelled =
+    fold_leads effects empty_end (resized (folded_size effects) end) spelled (given_back end effects (reached_sound end reached) folded)
+
+-- ---- the parts
+
+module _ {D : Type 0} (seen : D → Option Image) (may_leave : D → Image → Type 0) where
+  pub added_none : (first : Journal D) (effects : List Effect) → first.fold ≡ Some 8 → HasAdded seen may_leave first first (take 0 effects)
+  added_none first effects fold = record {
+    spelled = tt;
+    gate = refl;
+    version = refl;
+    fold = fold;
+    added = λ bodies has. has;
+  }
+
+  pub added_more : (first old new : Journal D) (effects : List Effect) (part : ℕ) (effect : Effect) → slice_get effects part ≡ Some effect
+      → HasAdded seen may_leave first old (take part effects) → AddsPart seen may_leave old new effect → HasAdded seen may_leave first new (take (part + 1) effects)
+  added_more first old new effects part effect found so_far adds =
+      let taken = take part effects in
+      let place : 8 + bytes_of taken + record_len (effect ∷ []) ≡ 8 + bytes_of (taken ++ effect ∷ []) = omega (arith, bytes_more taken effect) in
+      let one : HasAdded seen may_leave first new (taken ++ effect ∷ []) = record {
+        spelled = spelled_more taken effect so_far.spelled adds.spelled;
+        gate = adds.gate ∙ so_far.gate;
+        version = adds.version ∙ so_far.version;
+        fold = adds.fold (8 + bytes_of taken) so_far.fold ∙ ap (λ (n : ℕ). Some n) place;
+        added = λ bodies has.
+            let F : List (List ℕ) → Type 0 = λ l. HasFold seen may_leave new bodies l in
+            subst F (sym (map-append alone taken (effect ∷ []))) (adds.added bodies (map alone taken) (so_far.added bodies has));
+      } in
+      let P : List Effect → Type 0 = λ l. HasAdded seen may_leave first new l in
+      subst P (sym (take_more effects part effect found)) one
+
+  -- behind the last part
+  pub added_all : (first now : Journal D) (effects : List Effect) (part : ℕ) → slice_get effects part ≡ None → HasAdded seen may_leave first now (take part effects) → HasAdded seen may_leave first now effects
+  added_all first now effects part none so_far =
+      let P : List Effect → Type 0 = λ l. HasAdded seen may_leave first now l in
+      subst P (take_all part effects (all_taken effects part none)) so_far
+
+  -- where a part wasn't added, the parts before it were
+  pub starved_parts : (first old new : Journal D) (effects : List Effect) → new ≡ old → HasAdded seen may_leave first old effects
+      → (new.gate ≡ first.gate) × (new.version ≡ first.version) × ((bodies : List (List ℕ)) → HasFold seen may_leave first bodies [] → (folded : List (List ℕ)) × HasFold seen may_leave new bodies folded)
+  starved_parts first old new effects same so_far =
+      let P : Journal D → Type 0 = λ j. HasAdded seen may_leave first j effects in
+      let now : HasAdded seen may_leave first new effects = subst P (sym same) so_far in
+      (now.gate, now.version, λ bodies has. (map alone effects, now.added bodies has))
+
+  -- the journal whose records are the fold's
+  pub folded_journal : (old started added new : Journal D) (end : End) (effects : List Effect) → IsReached end → IsFolded end effects → HasAdded seen may_leave started added effects
+      → ((bodies : List (List ℕ)) → HasRecords seen may_leave old bodies → HasFold seen may_leave started bodies [])
+      → ((bodies folded : List (List ℕ)) → HasFold seen may_leave added bodies folded → HasRecords seen may_leave new folded)
+      → new.version ≡ Two → IsNone new.fold → added.fold ≡ Some new.gate → is_some (seen new.disk) ≡ is_some (seen old.disk) → Told (seen old.disk) (λ b. (bodies : List (List ℕ)) × HasRecords seen may_leave old bodies)
+      → IsJournalOf seen may_leave (resized (folded_size effects) end) new
+  folded_journal old started added new end effects reached folded parts start finish version no_fold at tells records =
+      let gate : new.gate ≡ 8 + bytes_of effects = same_Some _ _ (sym at ∙ parts.fold) in
+      record {
+        version = version;
+        no_fold = no_fold;
+        size = omega (arith, gate, size_of_fold effects);
+        records = λ b told.
+            let was = told_before (seen old.disk) (seen new.disk) b tells told in
+            let had = records was.0 was.1 in
+            (map alone effects, finish had.0 (map alone effects) (parts.added had.0 (start had.0 had.1)), effects_lead end effects reached folded parts.spelled);
+      }
+
+module _ {D : Type 0} (moment : D → ℕ) (left_since : D → ℕ → Image → Type 0) (seen : D → Option Image) (may_leave : D → Image → Type 0) where
+  -- while no part is added a crash leaves the records
+  pub still_fold : ((disk : D) (c : Image) → left_since disk (moment disk) c → may_leave disk c) → (journal : Journal D) (bodies folded : List (List ℕ)) → HasFold seen may_leave journal bodies folded
+      → LeavesOnly moment left_since journal.disk journal.disk (OpensSettled bodies)
+  still_fold only_now journal bodies folded has =
+      let leaf = front_of journal.version bodies ++ 0 ∷ has.rest in
+      no_call moment left_since journal.disk (OpensSettled bodies)
+      (λ c left. closed_opens journal.version bodies has.rest c has.within (settled_left seen may_leave journal.disk journal.is_second leaf c has.settled (only_now journal.disk c left)).2)
+
+  -- and while one more is
+  pub fold_run_on : (first old new : Journal D) (effects : List Effect) → HasAdded seen may_leave first old effects
+      → ((bodies : List (List ℕ)) → HasFold seen may_leave first bodies [] → LeavesOnly moment left_since first.disk old.disk (OpensSettled bodies))
+      → ((bodies folded : List (List ℕ)) → HasFold seen may_leave old bodies folded → LeavesOnly moment left_since old.disk new.disk (OpensSettled bodies))
+      → (bodies : List (List ℕ)) → HasFold seen may_leave first bodies [] → LeavesOnly moment left_since first.disk new.disk (OpensSettled bodies)
+  fold_run_on first old new effects so_far run next bodies has =
+      then moment left_since first.disk old.disk new.disk (OpensSettled bodies) (run bodies has) (next bodies (map alone effects) (so_far.added bodies has))
+
+-- a whole fold
+module _ {D : Type 0} (moment : D → ℕ) (left_since : D → ℕ → Image → Type 0) (old started added new : D) (bodies : List (List ℕ)) (starts : LeavesOnly moment left_since old started (OpensSettled bodies)) (adds : LeavesOnly moment left_since started added (OpensSettled bodies)) (end : End) (size : ℕ) where
+  -- none of its records was picked
+  pub dropped_run : new ≡ added → FirstThen moment left_since old new (OpensSettled bodies) (λ (c : Image). OpensSettled bodies c ⊎ OpensOnly c (resized size end))
+  dropped_run same =
+      let P : D → Type 0 = λ d. LeavesOnly moment left_since old d (OpensSettled bodies) in
+      inl (subst P (sym same) (then moment left_since old started added (OpensSettled bodies) starts adds))
+
+  pub finished_run : (effects : List Effect) → IsReached end → IsFolded end effects → AreSpelled effects → IsFoldedSize end size → FirstThen moment left_since added new (OpensSettled bodies) (OpensToEither bodies (map alone effects))
+      → FirstThen moment left_since old new (OpensSettled bodies) (λ (c : Image). OpensSettled bodies c ⊎ OpensOnly c (resized size end))
+  finished_run effects reached folded spelled (others, also, is) finishes =
+      let same : folded_size effects ≡ size = ap folded_size (one_fold end effects others folded also) ∙ sym is in
+      let P : ℕ → Type 0 = λ n. RecordsLead (map alone effects) empty_end (resized n end) in
+      let leads = subst P same (effects_lead end effects reached folded spelled) in
+      then_first moment left_since old added new (OpensSettled bodies) (λ (c : Image). OpensSettled bodies c ⊎ OpensOnly c (resized size end))
+      (then moment left_since old started added (OpensSettled bodies) starts adds)
+      (first_weaken moment left_since added new (OpensSettled bodies) (OpensToEither bodies (map alone effects)) (OpensSettled bodies) (λ (c : Image). OpensSettled bodies c ⊎ OpensOnly c (resized size end))
+      (λ c has. has)
+      (λ c one. ⊎_elim (λ (was : OpensSettled bodies c). inl was) (λ (now : OpensSettled (map alone effects) c). inr (settled_opens (λ n. ⊥) (map alone effects) (resized size end) c leads now)) one)
+      finishes)

@@ -1,0 +1,5 @@
+mod AddingLemmas
+mod ReadingLemmas
+mod FoldingLemmas
+mod OpeningLemmas
+mod RunLemmas

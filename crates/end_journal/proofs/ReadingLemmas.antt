@@ -1,0 +1,108 @@
+-- What one record more that was read leads to, and what stands where it leads nowhere.
+use Rattle.std.proofs.Common.{◌≡◌, inl, ℕ, ◌+◌, ◌<◌, ◌≤◌, ◌^◌, List, [], ◌∷◌, ◌++◌, Option, Some, length, refl, sym, ap, subst, ◌∙◌, arith}
+use Rattle.as4_disk.specs.Image.{Image}
+use Rattle.as4_disk.specs.Runs.{LeavesOnly}
+use Rattle.as4_disk.proofs.RunLemmas.{no_call, then}
+use Rattle.as4_flow.specs.Told.{Told}
+use Rattle.as4_effects.specs.Effects.{effects_body}
+use Rattle.as4_effects.specs.declared.effect.Effect.{Effect}
+use Rattle.exchange_model.specs.Apply.{record_len}
+use Rattle.exchange_model.specs.End.{End, empty_end}
+use Rattle.journal.specs.Leaf.{front_of, limit_of, width_of}
+use Rattle.journal.specs.State.{HasRead}
+use Rattle.journal.specs.Store.{Reopens, picked_leaf}
+use Rattle.journal.specs.declared.journal.Journal.{Journal}
+use Rattle.journal.specs.declared.version.Version.{Version}
+use Rattle.journal.specs.declared.version.Version.TheVariants.{One, Two}
+use Rattle.journal.proofs.JournalLaws.{keeps_reopens, read_front}
+use Rattle.journal.proofs.LeafLemmas.{front_none, length-front_more, length-magic}
+use Rattle.journal.proofs.StoreLemmas.{settled_left, settled_told}
+use Rattle.end_records.specs.Records.{RecordLeads, RecordsLead}
+use Rattle.end_records.specs.Unfit.{IsUnfit}
+use Rattle.end_records.proofs.RecordLemmas.{lead_more}
+use Rattle.end_records.proofs.SizeLemmas.{front_len, size_of_end}
+use Rattle.end_journal.specs.Reading.{HasReplayed, ReadsOn}
+
+-- a record that the leaf has is within what an end's journal may have
+pub room_led : (version : Version) (bodies : List (List ℕ)) (end : End) (gate len : ℕ) → RecordsLead bodies empty_end end → gate ≡ length (front_of version bodies)
+    → gate + (1 + width_of version + len) < limit_of version → end.size + (len + 9) ≤ 2 ^ 32
+room_led One bodies end gate len leads place within =
+    omega (arith, place, within, front_len One bodies, front_len Two bodies, size_of_end bodies end leads)
+room_led Two bodies end gate len leads place within = omega (arith, place, within, size_of_end bodies end leads)
+
+pub len_of_record : (effects : List Effect) (body : List ℕ) → body ≡ effects_body effects → record_len effects ≡ length body + 9
+unfolding record_len
+len_of_record effects body bytes = ap (λ (b : List ℕ). length b + 9) (sym bytes)
+
+module _ {D : Type 0} (seen : D → Option Image) (may_leave : D → Image → Type 0) where
+  -- before the first record
+  pub read_none : (first : Journal D) → first.gate ≡ 8 → HasReplayed seen may_leave first first empty_end []
+  read_none first gate =
+      let magic : length (front_of first.version []) ≡ 8 = ap (λ (l : List ℕ). length l) (front_none first.version) ∙ length-magic first.version in
+      record {
+        leads = refl;
+        version = refl;
+        fold = refl;
+        place = gate ∙ sym magic;
+        within = first_place first.version first.gate gate;
+        told = refl;
+        read = λ has. has;
+      }
+    where
+      first_place : (version : Version) (gate : ℕ) → gate ≡ 8 → gate < limit_of version
+      first_place One gate is = omega (arith, is)
+      first_place Two gate is = omega (arith, is)
+
+  -- and one more
+  pub read_on : (first old new : Journal D) (start end : End) (bodies : List (List ℕ)) → HasReplayed seen may_leave first old start bodies → (on : ReadsOn seen may_leave old new start end)
+      → HasReplayed seen may_leave first new end (bodies ++ on.body ∷ [])
+  read_on first old new start end bodies so_far on =
+      let P : Version → Type 0 = λ v. new.gate ≡ length (front_of v (bodies ++ on.body ∷ [])) in
+      let Q : Version → Type 0 = λ v. new.gate < limit_of v in
+      let here : new.gate ≡ length (front_of old.version (bodies ++ on.body ∷ [])) =
+      omega (arith, on.gate, so_far.place, length-front_more old.version bodies on.body) in
+      record {
+        leads = lead_more bodies on.body empty_end start end so_far.leads on.leads;
+        version = on.version ∙ so_far.version;
+        fold = on.fold ∙ so_far.fold;
+        place = subst P (sym on.version) here;
+        within = subst Q (sym on.version) on.within;
+        told = on.told ∙ so_far.told;
+        read = λ has. on.read bodies (so_far.read has);
+      }
+
+  -- the next record leads nowhere
+  pub unfit_next : (old new : Journal D) (bodies : List (List ℕ)) (body : List ℕ) (at : ℕ) (end : End) (b : Image) → HasRead seen may_leave old bodies → HasRead seen may_leave new (bodies ++ body ∷ [])
+      → new.version ≡ old.version → at ≡ old.gate → seen new.disk ≡ seen old.disk → seen old.disk ≡ Some b → RecordsLead bodies empty_end end → ((next : End) → RecordLeads body end next → ⊥) → IsUnfit at (picked_leaf b)
+  unfit_next old new bodies body at end b has next version place same told leads none =
+      let front = read_front seen may_leave new (bodies ++ body ∷ []) b next (same ∙ told) in
+      record {
+        version = new.version;
+        bodies = bodies;
+        body = body;
+        behind = front.0;
+        bytes = front.1;
+        within = front.2;
+        place = place ∙ has.place ∙ ap (λ (v : Version). length (front_of v bodies)) (sym version);
+        end = end;
+        leads = leads;
+        none = none;
+      }
+
+module _ {D : Type 0} (moment : D → ℕ) (left_since : D → ℕ → Image → Type 0) (seen : D → Option Image) (may_leave : D → Image → Type 0) where
+  -- before the first record a crash leaves the leaf
+  pub still_run : ((disk : D) (c : Image) → left_since disk (moment disk) c → may_leave disk c) → (first : Journal D) (b : Image) → HasRead seen may_leave first [] → seen first.disk ≡ Some b
+      → LeavesOnly moment left_since first.disk first.disk (Reopens b)
+  still_run only_now first b has told =
+      let leaf = front_of first.version [] ++ has.next ∷ has.rest in
+      let here = (settled_told seen may_leave first.disk first.is_second leaf b has.settled told).2 in
+      no_call moment left_since first.disk (Reopens b)
+      (λ c left. keeps_reopens b c (inl ((settled_left seen may_leave first.disk first.is_second leaf c has.settled (only_now first.disk c left)).2 ∙ sym here)))
+
+  -- and while one more is read
+  pub run_on : (first old new : Journal D) (end : End) (bodies : List (List ℕ)) → HasReplayed seen may_leave first old end bodies
+      → (HasRead seen may_leave first [] → Told (seen first.disk) (λ b. LeavesOnly moment left_since first.disk old.disk (Reopens b)))
+      → ((read : List (List ℕ)) → HasRead seen may_leave old read → Told (seen old.disk) (λ b. LeavesOnly moment left_since old.disk new.disk (Reopens b)))
+      → HasRead seen may_leave first [] → Told (seen first.disk) (λ b. LeavesOnly moment left_since first.disk new.disk (Reopens b))
+  run_on first old new end bodies so_far run next has b told =
+      then moment left_since first.disk old.disk new.disk (Reopens b) (run has b told) (next bodies (so_far.read has) b (so_far.told ∙ told))

@@ -1,0 +1,43 @@
+-- Runs of device calls behind one another, and what their counts say.
+use Rattle.std.proofs.Common.{◌≡◌, inl, inr, ℕ, ◌≤◌, Option, Some, None, is_some, arith}
+use Rattle.as4_disk.specs.Runs.{FirstThen, LeavesOnly}
+use Rattle.as4_disk.proofs.RunLemmas.{then, weaken}
+use Rattle.journal.specs.declared.fault.JournalFault.{JournalFault}
+use Rattle.end_journal.specs.Causes.{IsDiskSince}
+
+module _ {D X : Type 0} (moment : D → ℕ) (left_since : D → ℕ → X → Type 0) where
+  -- a run of the first kind in front of one of both
+  pub then_first : (old mid new : D) (P Q : X → Type 0) → LeavesOnly moment left_since old mid P → FirstThen moment left_since mid new P Q → FirstThen moment left_since old new P Q
+  then_first old mid new P Q before (inl first) = inl (then moment left_since old mid new P before first)
+  then_first old mid new P Q before (inr both) =
+      inr (both.0, then moment left_since old mid both.0 P before both.1, both.2)
+
+  -- a run of the second kind behind one of both
+  pub first_then_next : (old mid new : D) (P Q : X → Type 0) → FirstThen moment left_since old mid P Q → LeavesOnly moment left_since mid new Q → FirstThen moment left_since old new P Q
+  first_then_next old mid new P Q (inl first) next = inr (mid, first, next)
+  first_then_next old mid new P Q (inr both) next =
+      inr (both.0, both.1, then moment left_since both.0 mid new Q both.2 next)
+
+  -- more on both sides
+  pub first_weaken : (old new : D) (P Q R S : X → Type 0) → ((c : X) → P c → R c) → ((c : X) → Q c → S c) → FirstThen moment left_since old new P Q → FirstThen moment left_since old new R S
+  first_weaken old new P Q R S one two (inl first) = inl (weaken moment left_since old new P R one first)
+  first_weaken old new P Q R S one two (inr both) =
+      inr (both.0, weaken moment left_since old both.0 P R one both.1, weaken moment left_since both.0 new Q S two both.2)
+
+  -- both kinds have what is wanted
+  pub first_all : (old new : D) (P Q R : X → Type 0) → ((c : X) → P c → R c) → ((c : X) → Q c → R c) → FirstThen moment left_since old new P Q → LeavesOnly moment left_since old new R
+  first_all old new P Q R one two (inl first) = weaken moment left_since old new P R one first
+  first_all old new P Q R one two (inr both) =
+      then moment left_since old both.0 new R (weaken moment left_since old both.0 P R one both.1) (weaken moment left_since both.0 new Q R two both.2)
+
+-- what tells now told before
+pub told_before : {X : Type 0} (old new : Option X) (image : X) → is_some new ≡ is_some old → new ≡ Some image → (was : X) × (old ≡ Some was)
+told_before (Some was) new image same told = (was, λ i. Some was)
+told_before None new image same told = absurd cc
+
+-- a count of a call, in one that began earlier
+pub since_earlier : (start before now : ℕ) (fault : JournalFault) → start ≤ before → IsDiskSince before now fault → IsDiskSince start now fault
+since_earlier start before now fault later is x y same =
+    let found = is x y same in
+    let from : start ≤ x = omega (arith, found.0) in
+    (from, found.1, found.2)

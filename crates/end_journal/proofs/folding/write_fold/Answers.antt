@@ -1,0 +1,68 @@
+use Rattle.std.proofs.Common.{◌≡◌, inl, map, refl, sym, ap, subst, ◌∙◌}
+use Rattle.exchange_model.specs.Fold.{folded_size}
+use Rattle.journal.specs.declared.journal.Journal.{Journal}
+use Rattle.end_records.specs.Records.{alone}
+use Rattle.end_journal.specs.Causes.{IsDiskSince}
+use Rattle.end_journal.proofs.FoldingLemmas.{dropped_run, finished_run, folded_journal}
+use Rattle.end_journal.proofs.RunLemmas.{since_earlier, told_before}
+use Rattle.end_journal.proofs.folding.write_fold.Goals as goal
+
+pub returns-in_err-fold_start-clause-any_moment : goal.returns-in_err-fold_start-clause-any_moment
+returns-in_err-fold_start-clause-any_moment g c bodies size has folded = inl (c.fold_start.ensures.any_moment bodies has)
+
+pub fold_finish-requires-clause-settled : goal.fold_finish-requires-clause-settled
+fold_finish-requires-clause-settled g c b told =
+    let old = c.args.journal.now in
+    let added = c.add_parts.new.journal in
+    let was = told_before (g.D.Disk.seen old.disk) (g.D.Disk.seen added.disk) b (c.add_parts.ensures.tells ∙ c.fold_start.ensures.tells) told in
+    let had = c.requires.settled was.0 was.1 in
+    let parts = c.in-Ok.ensures.added in
+    (had.0, map alone parts.0, parts.2.added had.0 (c.in_ok-fold_start.ensures.open had.0 had.1))
+
+pub returns-in_err-fold_finish-in-Ok-clause-any_moment :
+    goal.returns-in_err-fold_finish-in-Ok-clause-any_moment
+returns-in_err-fold_finish-in-Ok-clause-any_moment g c bodies size has folded =
+    let parts = c.in-Ok.ensures.added in
+    let open_fold = c.in_ok-fold_start.ensures.open bodies has in
+    finished_run g.D.Disk.moment g.D.Disk.left_since c.args.journal.now.disk c.fold_start.new.self.disk c.add_parts.new.journal.disk c.fold_finish.new.self.disk bodies
+    (c.fold_start.ensures.any_moment bodies has) (c.add_parts.ensures.any_moment bodies open_fold) c.args.core.now.end size parts.0 c.folded_size.ensures.reached parts.1 parts.2.spelled folded
+    (c.fold_finish.ensures.any_moment bodies (map alone parts.0) (parts.2.added bodies open_fold))
+
+pub returns-in_ok-fold_finish-in-Ok-clause-any_moment :
+    goal.returns-in_ok-fold_finish-in-Ok-clause-any_moment
+returns-in_ok-fold_finish-in-Ok-clause-any_moment g c bodies size has folded =
+    let parts = c.in-Ok.ensures.added in
+    let open_fold = c.in_ok-fold_start.ensures.open bodies has in
+    finished_run g.D.Disk.moment g.D.Disk.left_since c.args.journal.now.disk c.fold_start.new.self.disk c.add_parts.new.journal.disk c.fold_finish.new.self.disk bodies
+    (c.fold_start.ensures.any_moment bodies has) (c.add_parts.ensures.any_moment bodies open_fold) c.args.core.now.end size parts.0 c.folded_size.ensures.reached parts.1 parts.2.spelled folded
+    (c.fold_finish.ensures.any_moment bodies (map alone parts.0) (parts.2.added bodies open_fold))
+
+pub returns-in_ok-fold_finish-in-Ok-clause-kept : goal.returns-in_ok-fold_finish-in-Ok-clause-kept
+returns-in_ok-fold_finish-in-Ok-clause-kept g c =
+    let old = c.args.journal.now in
+    let end = c.args.core.now.end in
+    let parts = c.in-Ok.ensures.added in
+    let finish = c.in_ok-fold_finish-in-Ok.ensures in (
+      folded_size parts.0,
+      (parts.0, parts.1, refl),
+      folded_journal g.D.Disk.seen g.D.Disk.may_leave old c.fold_start.new.self c.add_parts.new.journal c.fold_finish.new.self end parts.0 c.folded_size.ensures.reached parts.1 parts.2
+          c.in_ok-fold_start.ensures.open finish.folded finish.version finish.closed finish.gate (c.fold_finish.ensures.tells ∙ c.add_parts.ensures.tells ∙ c.fold_start.ensures.tells) c.requires.settled,
+    )
+
+pub returns-in-Err-clause-any_moment : goal.returns-in-Err-clause-any_moment
+returns-in-Err-clause-any_moment g c bodies size has folded =
+    let added = c.add_parts.new.journal in
+    let dropped = c.fold_drop.new.self in
+    let same : dropped.disk ≡ added.disk = ap (λ (j : Journal g.row.D.Denot). j.disk) {x = dropped} {y = record added { fold = dropped.fold; fold_in_range = dropped.fold_in_range }} c.fold_drop.ensures.same in
+    dropped_run g.D.Disk.moment g.D.Disk.left_since c.args.journal.now.disk c.fold_start.new.self.disk added.disk dropped.disk bodies
+    (c.fold_start.ensures.any_moment bodies has) (c.add_parts.ensures.any_moment bodies (c.in_ok-fold_start.ensures.open bodies has)) c.args.core.now.end size same
+
+pub returns-in-Err-clause-cause : goal.returns-in-Err-clause-cause
+returns-in-Err-clause-cause g c =
+    let count = g.D.Disk.fault_count in
+    let old = c.args.journal.now.disk in
+    let added = c.add_parts.new.journal in
+    let dropped = c.fold_drop.new.self in
+    let same : dropped.disk ≡ added.disk = ap (λ (j : Journal g.row.D.Denot). j.disk) {x = dropped} {y = record added { fold = dropped.fold; fold_in_range = dropped.fold_in_range }} c.fold_drop.ensures.same in
+    let P : g.row.D.Denot → Type 0 = λ d. IsDiskSince (count old) (count d) c.in-Err.fault in
+    subst P (sym same) (since_earlier (count old) (count c.fold_start.new.self.disk) (count added.disk) c.in-Err.fault c.fold_start.ensures.counted c.in-Err.ensures.cause)

@@ -1,0 +1,64 @@
+use Rattle.std.proofs.Common.{◌≤◌, ℕ, sym, subst, arith}
+use Rattle.as4_disk.specs.Runs.{FirstThen}
+use Rattle.journal.specs.State.{IsDisk}
+use Rattle.end_records.specs.Opens.{ReopensAs}
+use Rattle.end_journal.proofs.OpeningLemmas.{opened_end, opening_run, settling_run, wrong_kept}
+use Rattle.end_journal.proofs.RunLemmas.{since_earlier, told_before}
+use Rattle.end_journal.proofs.opening.open_end.Goals as goal
+
+pub returns-in-Err-clause-failed_moment : goal.returns-in-Err-clause-failed_moment
+returns-in-Err-clause-failed_moment g c b told =
+    settling_run g.D.Disk.moment g.D.Disk.left_since c.args.disk c.in-Err.failed.1 (g.D.Disk.may_leave c.args.disk) b (c.in-Err.ensures.failed_moment b told)
+
+pub bring_up-requires-clause-read : goal.bring_up-requires-clause-read
+bring_up-requires-clause-read g c d told =
+    let was = told_before (g.D.Disk.seen c.args.disk) (g.D.Disk.seen c.in-Ok.journal.disk) d c.in-Ok.ensures.tells told in
+    (c.in-Ok.ensures.read was.0 was.1).0
+
+pub returns-in-Ok-bring_up-clause-end : goal.returns-in-Ok-bring_up-clause-end
+returns-in-Ok-bring_up-clause-end g c b told =
+    let opened = c.in-Ok.ensures.read b told in
+    let read = opened.0 in
+    let d = read.settled.image in
+    let keeps = opened.1 d read.settled.told in
+    let up = c.in-Ok-bring_up.ensures.end read d read.settled.told in
+    let found = opened_end g.D.Disk.seen g.D.Disk.may_leave c.in-Ok.journal b d keeps read read.settled.told up.0 c.bring_up.new.core.end up.1 up.2 up.3 in
+    (up.0, found.0, found.1, found.2)
+
+pub returns-in-Ok-bring_up-clause-any_moment : goal.returns-in-Ok-bring_up-clause-any_moment
+returns-in-Ok-bring_up-clause-any_moment g c b told =
+    let opened = c.in-Ok.ensures.read b told in
+    let read = opened.0 in
+    let d = read.settled.image in
+    opening_run g.D.Disk.moment g.D.Disk.left_since c.args.disk c.in-Ok.journal.disk c.bring_up.new.journal.disk (g.D.Disk.may_leave c.args.disk) b d (opened.1 d read.settled.told)
+    (c.in-Ok.ensures.any_moment b told) (c.bring_up.ensures.any_moment read d read.settled.told)
+
+pub returns-in-Err-bring_up-clause-failed_moment :
+    goal.returns-in-Err-bring_up-clause-failed_moment
+returns-in-Err-bring_up-clause-failed_moment g c b told =
+    let opened = c.in-Ok.ensures.read b told in
+    let read = opened.0 in
+    let d = read.settled.image in
+    let P : g.row.D.Denot → Type 0 = λ last. FirstThen g.D.Disk.moment g.D.Disk.left_since c.args.disk last (g.D.Disk.may_leave c.args.disk) (ReopensAs b) in
+    subst P (sym c.into_disk.ensures)
+    (opening_run g.D.Disk.moment g.D.Disk.left_since c.args.disk c.in-Ok.journal.disk c.bring_up.new.journal.disk (g.D.Disk.may_leave c.args.disk) b d (opened.1 d read.settled.told)
+    (c.in-Ok.ensures.any_moment b told) (c.bring_up.ensures.any_moment read d read.settled.told))
+
+pub returns-in-Err-bring_up-clause-not_journal : goal.returns-in-Err-bring_up-clause-not_journal
+returns-in-Err-bring_up-clause-not_journal g c at is b told =
+    let opened = c.in-Ok.ensures.read b told in
+    let read = opened.0 in
+    let d = read.settled.image in
+    wrong_kept at b d (opened.1 d read.settled.told) (c.in-Err-bring_up.ensures.not_journal at (c.since.ensures.not_journal at is) read d read.settled.told)
+
+pub returns-in-Err-bring_up-clause-cause : goal.returns-in-Err-bring_up-clause-cause
+returns-in-Err-bring_up-clause-cause g c =
+    let count = g.D.Disk.fault_count in
+    let mid = count c.in-Ok.journal.disk in
+    let now = count c.bring_up.new.journal.disk in
+    let before = c.faults-before.result in
+    let early : before ≤ mid = omega (arith, c.faults-before.ensures, c.in-Ok.ensures.counted) in
+    let is : IsDisk before now c.since.result = c.since.ensures.cause now (since_earlier before mid now c.in-Err-bring_up.fault early c.in-Err-bring_up.ensures.cause) in
+    let P : ℕ → Type 0 = λ n. IsDisk n now c.since.result in
+    let Q : g.row.D.Denot → Type 0 = λ d. IsDisk (count c.args.disk) (count d) c.since.result in
+    subst Q (sym c.into_disk.ensures) (subst P c.faults-before.ensures is)

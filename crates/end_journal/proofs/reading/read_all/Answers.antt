@@ -1,0 +1,41 @@
+use Rattle.std.proofs.Common.{[], ◌∷◌, ◌++◌, refl, sym, subst, ◌∙◌, arith}
+use Rattle.exchange_model.specs.End.{End}
+use Rattle.end_journal.specs.Reading.{HasReplayed, ReadsOn}
+use Rattle.end_journal.proofs.ReadingLemmas.{read_none, read_on, run_on, still_run}
+use Rattle.end_journal.proofs.reading.read_all.Goals as goal
+
+pub records-init : goal.records-init
+records-init g c =
+    let first = c.args.journal.now in
+    let P : End → Type 0 = λ e. HasReplayed g.D.Disk.seen g.D.Disk.may_leave first first e [] in
+    record {
+      replayed = ([], subst P (sym c.requires.new.0) (read_none g.D.Disk.seen g.D.Disk.may_leave first c.requires.new.1));
+      modes = refl;
+      run = λ has b told. still_run g.D.Disk.moment g.D.Disk.left_since g.D.Disk.seen g.D.Disk.may_leave g.met.D.Disk.only_now first b has told;
+      counted = omega arith;
+    }
+
+pub returns-in_err-replay_next-clause-any_moment : goal.returns-in_err-replay_next-clause-any_moment
+returns-in_err-replay_next-clause-any_moment g c =
+    let so_far = c.records.invariant in
+    run_on g.D.Disk.moment g.D.Disk.left_since g.D.Disk.seen g.D.Disk.may_leave c.args.journal.now c.records.journal c.replay_next.new.journal c.records.core.end so_far.replayed.0 so_far.replayed.1 so_far.run c.replay_next.ensures.any_moment
+
+pub returns-clause-any_moment : goal.returns-clause-any_moment
+returns-clause-any_moment g c =
+    let so_far = c.records.invariant in
+    run_on g.D.Disk.moment g.D.Disk.left_since g.D.Disk.seen g.D.Disk.may_leave c.args.journal.now c.records.journal c.replay_next.new.journal c.records.core.end so_far.replayed.0 so_far.replayed.1 so_far.run c.replay_next.ensures.any_moment
+
+pub records-preserved : goal.records-preserved
+records-preserved g c =
+    let so_far = c.records.invariant in
+    let bodies = so_far.replayed.0 in
+    let on : ReadsOn g.D.Disk.seen g.D.Disk.may_leave c.records.journal c.replay_next.new.journal c.records.core.end c.replay_next.new.core.end = c.in_ok-replay_next.ensures.more c.if-branch.true in
+    record {
+      replayed = (
+        bodies ++ on.body ∷ [],
+        read_on g.D.Disk.seen g.D.Disk.may_leave c.args.journal.now c.records.journal c.replay_next.new.journal c.records.core.end c.replay_next.new.core.end bodies so_far.replayed.1 on,
+      );
+      modes = c.replay_next.ensures.modes ∙ so_far.modes;
+      run = run_on g.D.Disk.moment g.D.Disk.left_since g.D.Disk.seen g.D.Disk.may_leave c.args.journal.now c.records.journal c.replay_next.new.journal c.records.core.end bodies so_far.replayed.1 so_far.run c.replay_next.ensures.any_moment;
+      counted = omega (arith, so_far.counted, c.replay_next.ensures.counted);
+    }

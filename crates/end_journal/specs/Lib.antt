@@ -1,0 +1,4 @@
+pub mod Frames
+pub mod Causes
+pub mod Reading
+pub mod Adding

@@ -1,0 +1,53 @@
+//! How a record of effects is made and put behind the others.
+ghost use Rattle.std.specs.Prelude.{◌≡◌, ◌⊎◌, ℕ, ◌+◌, ◌≤◌, ◌^◌, IfErr, IfOk, OnOk, is_some, length};
+ghost use Rattle.as4_disk.specs.Image.{Image};
+ghost use Rattle.as4_disk.specs.Runs.{LeavesOnly};
+ghost use Rattle.as4_effects.specs.Effects.{effects_body, effects_limit};
+ghost use Rattle.as4_flow.specs.Told.{Told};
+ghost use Rattle.end_journal.specs.Frames.{IsFrameOf};
+ghost use Rattle.end_records.specs.Opens.{IsJournalOf, OpensOnly, OpensWith};
+ghost use Rattle.end_records.specs.Records.{RecordLeads};
+ghost use Rattle.exchange_model.specs.End.{End};
+ghost use Rattle.journal.specs.State.{IsDisk, IsDiskFault};
+
+use as4_disk::Disk;
+use as4_effects::Effect;
+use as4_values::{NoMemory, Seq};
+use event_code::write_body;
+use journal::{Frame, Journal, JournalFault};
+use std::alloc::Global;
+
+/// The record of these effects, as it is written; none where there are no effects.
+pub fn frame_of(alloc: Global, effects: &Seq<Effect>) -> Result<Option<Frame>, NoMemory>
+    requires counted { length effects.now ≤ effects_limit }
+    requires short { length (effects_body effects.now) ≤ 2 ^ 30 }
+    ensures { IfOk result (IsFrameOf effects.now) }
+{
+    if effects.items().is_empty() {
+        return Ok(None);
+    }
+    let body = write_body(alloc, effects)?;
+    let frame = Frame::of(alloc, body.bytes());
+    drop(body);
+    Ok(Some(frame?))
+}
+
+/// Puts the record behind the others. At `Ok` it is on the disk; in the call a crash leaves the records with it or
+/// without. It makes four device calls and takes no memory.
+pub fn add_record<D: Disk>(journal: &mut Journal<D>, frame: &Frame) -> Result<(), JournalFault>
+    requires ready { (end : End) × IsJournalOf D.seen D.may_leave end journal.old
+        × (end.size + (length frame.now + 9) ≤ 2 ^ 32) }
+    ensures kept { OnOk result ((end next : End) → IsJournalOf D.seen D.may_leave end journal.old
+        → RecordLeads frame.now end next → IsJournalOf D.seen D.may_leave next journal.new) }
+    ensures any_moment { (end next : End) → IsJournalOf D.seen D.may_leave end journal.old → RecordLeads frame.now end next
+        → Told (D.seen journal.old.disk) (λ _. LeavesOnly D.moment D.left_since journal.old.disk journal.new.disk
+        (λ (c : Image). OpensWith c end (λ n. n ≡ next) ⊎ OpensOnly c next)) }
+    ensures faults { IfErr result IsDiskFault }
+    ensures cause { IfErr result
+        (IsDisk (D.fault_count journal.old.disk) (D.fault_count journal.new.disk)) }
+    ensures tells { is_some (D.seen journal.new.disk) ≡ is_some (D.seen journal.old.disk) }
+    ensures counted { D.fault_count journal.old.disk ≤ D.fault_count journal.new.disk }
+{
+    journal.append(frame)?;
+    Ok(())
+}

@@ -1,0 +1,6 @@
+pub mod RecordLemmas
+pub mod SizeLemmas
+pub mod OpenLemmas
+pub mod UnfitLemmas
+pub mod FoldLemmas
+pub mod BoundLemmas

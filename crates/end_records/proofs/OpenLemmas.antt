@@ -1,0 +1,76 @@
+-- What a disk opens to, from the records that it opens to.
+use Rattle.std.proofs.Common.{◌≡◌, ◌⊎◌, inl, inr, ⊎_elim, ℕ, List, [], ◌∷◌, ◌++◌, Option, refl, sym, subst}
+use Rattle.as4_disk.specs.Image.{Image}
+use Rattle.exchange_model.specs.End.{End, empty_end}
+use Rattle.journal.specs.Store.{HasPending, OpensSettled, OpensToOneOf, OpensWith as OpensRecordsWith, Reopens}
+use Rattle.journal.specs.declared.journal.Journal.{Journal}
+use Rattle.journal.proofs.JournalLaws.{has_opens}
+use Rattle.end_records.specs.Opens.{HasPendingEnd, IsJournalOf, KeepsEnd, OpensAs, OpensOnly, OpensWith, ReopensAs}
+use Rattle.end_records.specs.Records.{RecordLeads, RecordsLead}
+use Rattle.end_records.proofs.RecordLemmas.{lead_more}
+
+-- nothing is pending
+pub settled_opens : (P : End → Type 0) (bodies : List (List ℕ)) (end : End) (image : Image) → RecordsLead bodies empty_end end → OpensSettled bodies image → OpensWith image end P
+settled_opens P bodies end image leads settled =
+    (bodies, record { records = settled.0; leads = leads; pending = λ body has. absurd (settled.1 body has) })
+
+-- less is said of what is pending
+pub opens_weaker : (P Q : End → Type 0) (image : Image) (end : End) → ((next : End) → P next → Q next) → OpensWith image end P → OpensWith image end Q
+opens_weaker P Q image end implies (bodies, by) = (
+  bodies,
+  record {
+    records = by.records;
+    leads = by.leads;
+    pending = λ body has.
+    let found = by.pending body has in
+    (found.0, found.1, implies found.0 found.2);
+  },
+)
+
+pub opens_whole : (P : End → Type 0) (image : Image) (end : End) → OpensWith image end P → OpensAs image end
+opens_whole P image end opens = opens_weaker P (λ next. Unit {0}) image end (λ next is. tt) opens
+
+-- a record is being added
+pub one_of_opens : (bodies : List (List ℕ)) (body : List ℕ) (end next : End) (image : Image) → RecordsLead bodies empty_end end → RecordLeads body end next
+    → OpensToOneOf bodies body image → OpensWith image end (λ n. n ≡ next) ⊎ OpensOnly image next
+one_of_opens bodies body end next image leads more (inl without) =
+    inl (
+      bodies,
+      record {
+        records = without.0;
+        leads = leads;
+        pending = λ other has. (next, subst (λ (b : List ℕ). RecordLeads b end next) (sym (without.1 other has)) more, refl);
+      },
+    )
+one_of_opens bodies body end next image leads more (inr with_it) =
+    inr (settled_opens (λ n. ⊥) (bodies ++ body ∷ []) next image (lead_more bodies body empty_end end next leads more) with_it)
+
+-- what opens to records again opens to the end again
+pub reopens_as : (before after : Image) → Reopens before after → ReopensAs before after
+reopens_as before after reopens end (bodies, by) =
+    ⊎_elim
+    (λ (same : OpensRecordsWith bodies (λ body. HasPending bodies body before) after).
+    inl (inl (
+      bodies,
+      record {
+        records = same.0;
+        leads = by.leads;
+        pending = λ body has.
+        let found = by.pending body (same.1 body has) in
+        (found.0, found.1, record { bodies = bodies; body = body; leads = by.leads; has = same.1 body has; on = found.1 });
+      },
+    )))
+    (λ (more : (body : List ℕ) × HasPending bodies body before × OpensSettled (bodies ++ body ∷ []) after).
+    let next = by.pending more.0 more.1 in
+    inr (
+      next.0,
+      record { bodies = bodies; body = more.0; leads = by.leads; has = more.1; on = next.1 },
+      inl (settled_opens (λ n. ⊥) (bodies ++ more.0 ∷ []) next.0 after (lead_more bodies more.0 empty_end end next.0 by.leads next.1) more.2),
+    ))
+    (reopens bodies by.records)
+
+-- each crash of the journal of an end opens to the end
+pub kept_opens : {D : Type 0} (seen : D → Option Image) (may_leave : D → Image → Type 0) (end : End) (journal : Journal D) → IsJournalOf seen may_leave end journal → KeepsEnd seen may_leave journal.disk end
+kept_opens seen may_leave end journal is image told c left =
+    let found = is.records image told in
+    settled_opens (λ n. ⊥) found.0 end c found.2 (has_opens seen may_leave journal found.0 c found.1 left)

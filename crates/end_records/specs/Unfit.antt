@@ -1,0 +1,20 @@
+-- A leaf whose records are no effects of an end.
+use Rattle.std.specs.Prelude.{◌≡◌, ℕ, ◌<◌, List, [], ◌∷◌, ◌++◌, length}
+use Rattle.end_records.specs.Records.{RecordLeads, RecordsLead}
+use Rattle.exchange_model.specs.End.{End, empty_end}
+use Rattle.journal.specs.Leaf.{front_of, limit_of}
+use Rattle.journal.specs.declared.version.Version.{Version}
+
+-- The leaf's first records lead to an end. The next one, whose gate is at this place, leads on to none: its body isn't
+-- that of effects, or they don't fit there.
+pub record IsUnfit (at : ℕ) (leaf : List ℕ) : Type 0 where
+  pub version : Version
+  pub bodies : List (List ℕ)
+  pub body : List ℕ
+  pub behind : List ℕ
+  pub bytes : leaf ≡ front_of version (bodies ++ body ∷ []) ++ behind
+  pub within : length (front_of version (bodies ++ body ∷ [])) < limit_of version
+  pub place : at ≡ length (front_of version bodies)
+  pub end : End
+  pub leads : RecordsLead bodies empty_end end
+  pub none : (next : End) → RecordLeads body end next → ⊥

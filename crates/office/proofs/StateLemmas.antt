@@ -1,0 +1,92 @@
+-- What an office keeps, call by call.
+use Rattle.std.proofs.Common.{◌≡◌, ◌⊎◌, inl, inr, ⊎_elim, ℕ, ◌≤◌, List, [], ◌∷◌, ◌++◌, Option, Some, None, refl, sym, ap, ◌∙◌, subst, arith}
+use Rattle.std.specs.Prelude.{IfSome}
+use Rattle.as4_disk.specs.Image.{Image}
+use Rattle.as4_disk.specs.Runs.{LeavesOnly}
+use Rattle.as4_disk.proofs.RunLemmas.{weaken}
+use Rattle.as4_values.specs.declared.mode.Mode.{Mode}
+use Rattle.exchange_model.specs.Apply.{applied}
+use Rattle.exchange_model.specs.End.{End}
+use Rattle.exchange_model.specs.Table.{Step}
+use Rattle.exchange_model.specs.declared.event.Event.{Event}
+use Rattle.exchange_model.specs.declared.outcome.Outcome.{Outcome}
+use Rattle.exchange_model.specs.declared.reply.Reply.{Reply}
+use Rattle.journal.specs.declared.journal.Journal.{Journal}
+use Rattle.end_records.specs.Opens.{IsFoldedOf, IsJournalOf, KeepsEnd, OpensFolded, OpensOnly, OpensWith}
+use Rattle.end_records.proofs.OpenLemmas.{kept_opens, opens_weaker}
+use Rattle.office.specs.Calls.{stop_of}
+use Rattle.office.specs.State.{IsInOrder}
+use Rattle.office.specs.Steps.{IsStepTo, OpensBeforeOrAfter}
+use Rattle.office.specs.declared.call.Call.{Call}
+use Rattle.office.specs.declared.call.Call.TheVariants.{Done, Stop}
+use Rattle.office.specs.declared.call.Halt.{Halt}
+use Rattle.office.proofs.CallLemmas.{stop_kept, stop_more}
+use Rattle.office.proofs.WritingLemmas.{no_write}
+
+pub none_of : {X : Type 0} (o : Option X) → ((x : X) → o ≡ Some x → ⊥) → o ≡ None
+none_of None none = refl
+none_of (Some x) none = absurd (none x refl)
+
+module _ {D : Type 0} (seen : D → Option Image) (may_leave : D → Image → Type 0) (fault_count : D → ℕ) where
+  module _ (journal : Journal D) (end : End) (halt : Option Halt) (list : List Call) (order : IsInOrder seen may_leave fault_count journal end halt list) where
+    -- without a fault among the calls each crash leaves the end
+    pub order_keeps : stop_of list ≡ None → KeepsEnd seen may_leave journal.disk end
+    order_keeps going = kept_opens seen may_leave end journal (order.kept (order.halted ∙ going))
+
+    -- a call that isn't a fault
+    pub order_goes : (after : Journal D) (next : End) (more : List Call) (call : Call) → halt ≡ None → more ≡ list ++ call ∷ [] → stop_of (call ∷ []) ≡ None
+        → IsJournalOf seen may_leave next after → IsInOrder seen may_leave fault_count after next halt more
+    order_goes after next more call going is plain kept = record {
+      halted = going ∙ sym (ap stop_of is ∙ stop_more list call (sym order.halted ∙ going) ∙ plain);
+      kept = λ same. kept;
+      counted = subst (λ (h : Option Halt). IfSome h (λ at. at.after ≤ fault_count after.disk)) (sym going) tt;
+    }
+
+    -- nothing but the disk has changed
+    pub order_stays : (after : Journal D) (next : End) → halt ≡ None → IsJournalOf seen may_leave next after → IsInOrder seen may_leave fault_count after next halt list
+    order_stays after next going kept = record {
+      halted = order.halted;
+      kept = λ same. kept;
+      counted = subst (λ (h : Option Halt). IfSome h (λ at. at.after ≤ fault_count after.disk)) (sym going) tt;
+    }
+
+    -- the disk failed
+    pub order_stops : (after : Journal D) (more : List Call) (event : Option Event) (at : Halt) → halt ≡ None → more ≡ list ++ Stop event at ∷ []
+        → at.after ≡ fault_count after.disk → IsInOrder seen may_leave fault_count after end (Some at) more
+    order_stops after more event at going is count = record {
+      halted = sym (ap stop_of is ∙ stop_more list (Stop event at) (sym order.halted ∙ going));
+      kept = λ same. absurd cc;
+      counted = omega (arith, count);
+    }
+
+    -- it failed before
+    pub order_refuses : (more : List Call) (event : Event) (r : Reply) (at : Halt) → halt ≡ Some at → more ≡ list ++ Done event r ∷ []
+        → IsInOrder seen may_leave fault_count journal end halt more
+    order_refuses more event r at stopped is = record {
+      halted = stopped ∙ sym (ap stop_of is ∙ stop_kept list (Done event r) at (sym order.halted ∙ stopped));
+      kept = λ same. absurd cc;
+      counted = order.counted;
+    }
+
+module _ {D : Type 0} (moment : D → ℕ) (left_since : D → ℕ → Image → Type 0) (seen : D → Option Image) (may_leave : D → Image → Type 0) (only_now : (disk : D) (c : Image) → left_since disk (moment disk) c → may_leave disk c) where
+  -- nothing is written
+  pub still_run : (modes : List Mode) (event : Event) (journal : Journal D) (end : End) (image : Image) → IsJournalOf seen may_leave end journal → seen journal.disk ≡ Some image
+      → LeavesOnly moment left_since journal.disk journal.disk (OpensBeforeOrAfter modes end event)
+  still_run modes event journal end image is told =
+      no_write moment left_since seen may_leave only_now journal end (IsStepTo modes end event) (λ c. (next : End) × IsStepTo modes end event next × OpensOnly c next) image is told
+
+  pub still_folded : (journal : Journal D) (end : End) (image : Image) → IsJournalOf seen may_leave end journal → seen journal.disk ≡ Some image
+      → LeavesOnly moment left_since journal.disk journal.disk (λ c. OpensFolded c end)
+  still_folded journal end image is told =
+      no_write moment left_since seen may_leave only_now journal end (λ next. ⊥) (λ c. IsFoldedOf c end) image is told
+
+-- a step's record is written
+pub step_run : {D : Type 0} (moment : D → ℕ) (left_since : D → ℕ → Image → Type 0) (modes : List Mode) (event : Event) (outcome : Outcome) (old new : D) (end : End) → Step modes end event outcome
+    → LeavesOnly moment left_since old new (λ c. OpensWith c end (λ n. n ≡ applied outcome.effects end) ⊎ OpensOnly c (applied outcome.effects end)) → LeavesOnly moment left_since old new (OpensBeforeOrAfter modes end event)
+step_run moment left_since modes event outcome old new end step run =
+    let next = applied outcome.effects end in
+    weaken moment left_since old new (λ c. OpensWith c end (λ n. n ≡ next) ⊎ OpensOnly c next) (OpensBeforeOrAfter modes end event)
+    (λ c opens. ⊎_elim
+    (λ (here : OpensWith c end (λ n. n ≡ next)). inl (opens_weaker (λ n. n ≡ next) (IsStepTo modes end event) c end (λ n is. (outcome, step, is)) here))
+    (λ (there : OpensOnly c next). inr (next, (outcome, step, refl), there)) opens)
+    run

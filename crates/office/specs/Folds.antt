@@ -1,0 +1,35 @@
+-- What a checkpoint answers, and what it leaves.
+use Rattle.std.specs.Prelude.{◌≡◌, ◌⊎◌, ℕ, ◌<◌, ◌≤◌, None, Result, Ok, Err}
+use Rattle.exchange_model.specs.Fold.{IsFoldedSize, resized}
+use Rattle.office.specs.Calls.{stop_of}
+use Rattle.office.specs.State.{OfficeState}
+use Rattle.office.specs.Steps.{Enters, EntersNothing, FindsItWorn, StandsStill, Stops}
+use Rattle.office.specs.declared.call.Call.{Call}
+use Rattle.office.specs.declared.call.Call.TheVariants.{Folded}
+use Rattle.office.specs.declared.fault.OfficeFault.{OfficeFault}
+use Rattle.office.specs.declared.fault.OfficeFault.TheVariants.{Disk, NoMemory, NotJournal, Stopped, Worn}
+use Rattle.pass_book.specs.States.{PassState}
+
+module _ {D : Type 0} (old new : OfficeState D) (pass_old pass_new : PassState Call) where
+  -- the journal's fold is shorter, and takes its place
+  pub record Shortens (size : ℕ) : Type 0 where
+    pub folded : IsFoldedSize old.end size
+    pub shorter : size < old.end.size
+    pub end : new.end ≡ resized size old.end
+    pub entered : Enters old new pass_old pass_new (Folded size)
+
+  -- the journal's fold isn't shorter, and nothing is done
+  pub record IsShortEnough (size : ℕ) : Type 0 where
+    pub present : size ≡ old.end.size
+    pub least : (other : ℕ) → IsFoldedSize old.end other → size ≤ other
+    pub same : new ≡ old
+    pub pass : pass_new ≡ pass_old
+
+  -- what is answered, by cases on the answer
+  abbrev pub Checkpoints : (D → ℕ) → Result ℕ OfficeFault → Type 0
+  Checkpoints fault_count (Ok size) = (stop_of old.list ≡ None) × (Shortens size ⊎ IsShortEnough size)
+  Checkpoints fault_count (Err (Disk before after)) = Stops old new pass_old pass_new fault_count None before after
+  Checkpoints fault_count (Err (Stopped before after)) = StandsStill old new pass_old pass_new before after × EntersNothing old new pass_old pass_new
+  Checkpoints fault_count (Err Worn) = FindsItWorn old new pass_old pass_new
+  Checkpoints fault_count (Err NoMemory) = (stop_of old.list ≡ None) × EntersNothing old new pass_old pass_new
+  Checkpoints fault_count (Err (NotJournal at)) = ⊥

@@ -1,0 +1,5 @@
+pub mod Calls
+pub mod State
+pub mod Steps
+pub mod Folds
+pub mod Opening

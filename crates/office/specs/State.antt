@@ -1,0 +1,43 @@
+-- An office as contracts see it.
+use Rattle.std.specs.Prelude.{◌≡◌, ◌≤◌, ℕ, List, Option, None, IfSome}
+use Rattle.as4_disk.specs.Image.{Image}
+use Rattle.as4_values.specs.declared.mode.Mode.{Mode}
+use Rattle.end_records.specs.Opens.{IsJournalOf}
+use Rattle.end_tables.specs.Rooms.{Rooms}
+use Rattle.exchange_model.specs.End.{End}
+use Rattle.exchange_model.specs.Table.{Step}
+use Rattle.exchange_model.specs.declared.event.Event.{Event}
+use Rattle.journal.specs.declared.journal.Journal.{Journal}
+use Rattle.msh_core.specs.Machine.{IsReady, Machine, Planned}
+use Rattle.office.specs.Calls.{stop_of}
+use Rattle.office.specs.declared.call.Call.{Call}
+use Rattle.office.specs.declared.call.Halt.{Halt}
+use Rattle.pass_book.specs.States.{Book}
+
+-- its disk, its end with the modes and what there is room for, which opening it is of, and the list of its calls
+pub record OfficeState (D : Type 0) : Type 0 where
+  pub disk : D
+  pub end : End
+  pub modes : List Mode
+  pub rooms : Rooms
+  pub book : Book
+  pub list : List Call
+
+abbrev pub machine_of : {D : Type 0} → OfficeState D → Machine
+machine_of office = record { end = office.end; modes = office.modes; rooms = office.rooms }
+
+-- What an office keeps. It stands still from the fault among its calls on; without one its journal is that of its end.
+pub record IsInOrder {D : Type 0} (seen : D → Option Image) (may_leave : D → Image → Type 0) (fault_count : D → ℕ) (journal : Journal D) (end : End) (halt : Option Halt) (list : List Call) : Type 0 where
+  pub halted : halt ≡ stop_of list
+  pub kept : halt ≡ None → IsJournalOf seen may_leave end journal
+  pub counted : IfSome halt (λ at. at.after ≤ fault_count journal.disk)
+
+-- an event with its plan
+pub record Prepared : Type 0 where
+  pub event : Event
+  pub plan : Planned
+
+-- the plan is what this office does with the event, as it stands
+pub record IsPreparedFor {D : Type 0} (office : OfficeState D) (ready : Prepared) : Type 0 where
+  pub step : Step office.modes office.end ready.event ready.plan.outcome
+  pub planned : IsReady (machine_of office) ready.plan

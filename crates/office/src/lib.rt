@@ -1,0 +1,28 @@
+//! The office: one end, its journal and the history of its calls. A step is on the disk before it is answered.
+//!
+//!     open        the end that the journal's records lead to
+//!     prepare     what the end does with an event, with all memory that it takes
+//!     enact       the record is put on the disk, the step is made, the call is entered, and then comes the reply
+//!     checkpoint  the journal is folded, where that makes it shorter
+//!
+//! After a fault of the disk the office stands still: each event is answered with the counts of that fault, until the
+//! journal is opened again.
+#![tactic(auto)]
+
+mod call;
+mod checkpoint;
+mod crossing;
+mod drill;
+mod enacting;
+mod entering;
+mod fault;
+mod office;
+mod opening;
+mod ready;
+mod small;
+
+pub use call::{Call, Halt};
+pub use fault::OfficeFault;
+pub use msh_core::Totals;
+pub use office::Office;
+pub use ready::Ready;

@@ -1,0 +1,97 @@
+//! How an office is opened.
+ghost use Rattle.std.specs.Prelude.{◌≡◌, ◌⊎◌, ℕ, ◌≤◌, ◌^◌, [], IfErr, IfOk, is_some};
+ghost use Rattle.as4_disk.specs.Runs.{FirstThen};
+ghost use Rattle.as4_flow.specs.Faults.{Rose};
+ghost use Rattle.as4_flow.specs.Told.{Told};
+ghost use Rattle.end_records.specs.Opens.{IsOld, KeepsEnd, OpensAs, ReadsAs, ReopensAs};
+ghost use Rattle.end_records.specs.Unfit.{IsUnfit};
+ghost use Rattle.exchange_model.specs.End.{End};
+ghost use Rattle.exchange_model.specs.Fold.{IsFoldedSize, resized};
+ghost use Rattle.journal.specs.Leaf.{IsBroken};
+ghost use Rattle.journal.specs.Store.{picked_leaf};
+
+use crate::call::Call;
+use crate::fault::OfficeFault;
+use crate::office::Office;
+use as4_disk::Disk;
+use end_journal::open_end;
+use end_records::no_whole_disk_is_unfit;
+use journal::Frame;
+use pass_book::{Keeper, Pass};
+use pmodes::Modes;
+use std::alloc::Global;
+
+impl<'a, D: Disk> Office<'a, D> {
+    ghost use Rattle.office.specs.Opening.{IsOpeningFault};
+
+    /// Opens the journal on this disk, with a history that has no calls yet, and a pass that has all stakes.
+    pub fn open(
+        alloc: Global,
+        disk: D,
+        modes: Modes,
+    ) -> Result<(Office<'a, D>, Pass<'a, Call>), (OfficeFault, D)>
+        ensures first { IfOk result (λ o. (o.0.list ≡ []) × (o.0.modes ≡ modes)
+            × (o.1 ≡ record { book = o.0.book; list = []; share = 0; stake = 2 ^ 63 })) }
+
+        // The end is that of the records as the disk read; where the leaf was of version 1, its journal was folded.
+        ensures end { IfOk result (λ o. Told (D.seen disk) (λ b. (end : End) × ReadsAs b end
+            × (IsOld (picked_leaf b) → (size : ℕ) × IsFoldedSize end size × (o.0.end ≡ resized size end))
+            × (¬ IsOld (picked_leaf b) → o.0.end ≡ end))) }
+        ensures safe { IfOk result (λ o. KeepsEnd D.seen D.may_leave o.0.disk o.0.end) }
+
+        // Until the journal has settled its selector and its leaf a crash leaves what it might have left before, and from
+        // then on a disk that opens as it read.
+        ensures any_moment { IfOk result (λ o. Told (D.seen disk) (λ b.
+            FirstThen D.moment D.left_since disk o.0.disk (D.may_leave disk) (ReopensAs b))) }
+        ensures failed_moment { IfErr result (λ e. Told (D.seen disk) (λ b.
+            FirstThen D.moment D.left_since disk e.1 (D.may_leave disk) (ReopensAs b))) }
+
+        ensures not_journal { IfErr result (λ e. (at : ℕ) → e.0 ≡ OfficeFault.NotJournal at → Told (D.seen disk) (λ b.
+            IsBroken at (picked_leaf b) ⊎ IsUnfit at (picked_leaf b))) }
+        ensures whole { IfErr result (λ e. (at : ℕ) → e.0 ≡ OfficeFault.NotJournal at → Told (D.seen disk) (λ b.
+            (end : End) → OpensAs b end → ⊥)) }
+        ensures faults { IfErr result (λ e. IsOpeningFault e.0) }
+        ensures cause { IfErr result (λ e. (before after : ℕ) → e.0 ≡ OfficeFault.Disk before after
+            → (before ≡ D.fault_count disk) × (after ≡ D.fault_count e.1) × Rose before after) }
+        ensures tells { IfOk result (λ o. is_some (D.seen o.0.disk) ≡ is_some (D.seen disk)) }
+        ensures counted { IfOk result (λ o. D.fault_count disk ≤ D.fault_count o.0.disk) }
+        ensures failed_count { IfErr result (λ e. D.fault_count disk ≤ D.fault_count e.1) }
+    {
+        let (keeper, pass) = match Keeper::new(alloc) {
+            Ok(opened) => opened,
+            Err(_) => {
+                drop(modes);
+                return Err((OfficeFault::NoMemory, disk));
+            }
+        };
+        let small = match Frame::of(alloc, &[0; 11]) {
+            Ok(frame) => frame,
+            Err(_) => {
+                drop(modes);
+                drop(keeper);
+                drop(pass);
+                return Err((OfficeFault::NoMemory, disk));
+            }
+        };
+        match open_end(alloc, disk, modes) {
+            Ok((journal, core)) => {
+                let office = Office {
+                    alloc,
+                    journal,
+                    core,
+                    keeper,
+                    small,
+                    halt: None,
+                };
+                Ok((office, pass))
+            }
+            Err((fault, disk)) => {
+                no_whole_disk_is_unfit();
+                drop(keeper);
+                drop(pass);
+                drop(small);
+                Err((OfficeFault::of(fault), disk))
+            }
+        }
+    }
+}
