@@ -1,13 +1,13 @@
 -- How long the fold of an end is at most, from the bytes of the records that led to it: a submission that was carried over
 -- takes at most 92 bytes more than when it was handed in, a message at most 15 more than when it came.
-use Rattle.std.proofs.Common.{◌≡◌, ℕ, zero, suc, ◌+◌, ◌*◌, ◌≤◌, List, [], ◌∷◌, ◌++◌, length, length-append, take, drop, map, refl, sym, ap, subst, ◌∙◌, arith, take-append-drop}
+use Rattle.std.proofs.Common.{◌≡◌, ℕ, zero, suc, ◌+◌, ◌*◌, ◌≤◌, List, [], ◌∷◌, ◌++◌, length, length-append, take, drop, map, refl, sym, ap, subst, arith, take-append-drop}
 use Rattle.std.specs.Prelude.{◌==◌, if◌then◌else◌, Bool, true, false}
 use Rattle.std.specs.List.{flat_map, sum_by}
 use Rattle.std.proofs.lemmas.List.Sums.{sum_by-append, sum_by-cons}
 use Rattle.as4_effects.specs.Bodies.{header_body, list_body, number_body, part_body, payload_body, route_body, text_body}
-use Rattle.as4_effects.specs.Effects.{effect_body, effects_body, submission_body, standing_body}
+use Rattle.as4_effects.specs.Effects.{effect_body, effects_body, submission_body}
 use Rattle.as4_effects.specs.Marks.{mark_body}
-use Rattle.as4_effects.specs.Sound.{delivered_body, kept_body}
+use Rattle.as4_effects.specs.Sound.{delivered_body}
 use Rattle.as4_effects.specs.declared.effect.Effect.{Effect}
 use Rattle.as4_effects.specs.declared.effect.Effect.TheVariants as effect
 use Rattle.as4_effects.specs.declared.mark.Mark.{Mark}
@@ -27,7 +27,7 @@ use Rattle.exchange_model.specs.declared.inbox_entry.InboxEntry.{InboxEntry}
 use Rattle.exchange_model.specs.declared.sent.Sent.{Sent}
 use Rattle.msh_core.proofs.FoldSizeLemmas.{whole_size}
 use Rattle.msh_core.specs.Folding.{carried_len, clock_len, delivered_len, kept_len}
-use Rattle.end_records.specs.Records.{RecordLeads, RecordsLead}
+use Rattle.end_records.specs.Records.{RecordsLead}
 
 -- ---- lengths
 

@@ -1,5 +1,5 @@
 -- The records of a fold lead to its end.
-use Rattle.std.proofs.Common.{◌≡◌, ℕ, suc, ◌≤◌, List, [], ◌∷◌, None, option_map, length, map, refl, sym, arith, subst}
+use Rattle.std.proofs.Common.{◌≡◌, List, [], ◌∷◌, None, map, refl, arith}
 use Rattle.as4_effects.specs.declared.effect.Effect.{Effect}
 use Rattle.event_code.specs.Spelled.{AreSpelled}
 use Rattle.exchange_model.specs.Apply.{applied, first_unfit}

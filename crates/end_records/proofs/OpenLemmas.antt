@@ -5,7 +5,7 @@ use Rattle.exchange_model.specs.End.{End, empty_end}
 use Rattle.journal.specs.Store.{HasPending, OpensSettled, OpensToOneOf, OpensWith as OpensRecordsWith, Reopens}
 use Rattle.journal.specs.declared.journal.Journal.{Journal}
 use Rattle.journal.proofs.JournalLaws.{has_opens}
-use Rattle.end_records.specs.Opens.{HasPendingEnd, IsJournalOf, KeepsEnd, OpensAs, OpensOnly, OpensWith, ReopensAs}
+use Rattle.end_records.specs.Opens.{IsJournalOf, KeepsEnd, OpensAs, OpensOnly, OpensWith, ReopensAs}
 use Rattle.end_records.specs.Records.{RecordLeads, RecordsLead}
 use Rattle.end_records.proofs.RecordLemmas.{lead_more}
 
@@ -22,8 +22,8 @@ opens_weaker P Q image end implies (bodies, by) = (
     records = by.records;
     leads = by.leads;
     pending = λ body has.
-    let found = by.pending body has in
-    (found.0, found.1, implies found.0 found.2);
+        let found = by.pending body has in
+        (found.0, found.1, implies found.0 found.2);
   },
 )
 
@@ -56,8 +56,8 @@ reopens_as before after reopens end (bodies, by) =
         records = same.0;
         leads = by.leads;
         pending = λ body has.
-        let found = by.pending body (same.1 body has) in
-        (found.0, found.1, record { bodies = bodies; body = body; leads = by.leads; has = same.1 body has; on = found.1 });
+            let found = by.pending body (same.1 body has) in
+            (found.0, found.1, record { bodies = bodies; body = body; leads = by.leads; has = same.1 body has; on = found.1 });
       },
     )))
     (λ (more : (body : List ℕ) × HasPending bodies body before × OpensSettled (bodies ++ body ∷ []) after).

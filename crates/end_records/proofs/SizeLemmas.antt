@@ -1,10 +1,10 @@
 -- How many bytes records have, and the ends that they lead to.
-use Rattle.std.proofs.Common.{◌≡◌, ℕ, ◌+◌, ◌*◌, ◌≤◌, List, [], ◌∷◌, length, length-append, refl, ap, ◌∙◌, arith}
+use Rattle.std.proofs.Common.{◌≡◌, ℕ, ◌+◌, ◌*◌, ◌≤◌, List, [], ◌∷◌, length, length-append, ap, arith}
 use Rattle.std.specs.Prelude.{flat_map}
 use Rattle.std.specs.List.{sum_by}
 use Rattle.std.proofs.lemmas.List.Sums.{sum_by-cons}
 use Rattle.as4_effects.specs.declared.effect.Effect.{Effect}
-use Rattle.exchange_model.specs.Apply.{after_all, applied, record_len}
+use Rattle.exchange_model.specs.Apply.{applied, record_len}
 use Rattle.exchange_model.specs.End.{End, empty_end}
 use Rattle.journal.specs.Leaf.{front_of, record_of, width_of}
 use Rattle.journal.specs.declared.version.Version.{Version}

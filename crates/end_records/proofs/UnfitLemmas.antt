@@ -1,8 +1,8 @@
 -- A whole disk has no record that leads to no end.
-use Rattle.std.proofs.Common.{◌≡◌, ◌⊎◌, inl, inr, ⊎_elim, ℕ, ◌<◌, ◌≤◌, List, [], ◌∷◌, ◌++◌, length, refl, sym, ap, subst, ◌∙◌, arith, length-append, append_assoc}
+use Rattle.std.proofs.Common.{◌≡◌, ℕ, ◌<◌, ◌≤◌, List, [], ◌∷◌, ◌++◌, length, ap, subst, ◌∙◌, arith, length-append, append_assoc}
 use Rattle.as4_disk.specs.Image.{Image}
 use Rattle.exchange_model.specs.End.{End, empty_end}
-use Rattle.journal.specs.Leaf.{Lists, front_of, width_of}
+use Rattle.journal.specs.Leaf.{front_of, width_of}
 use Rattle.journal.specs.Store.{picked_leaf}
 use Rattle.journal.specs.declared.version.Version.{Version}
 use Rattle.journal.specs.declared.version.Version.TheVariants.{One, Two}

@@ -1,5 +1,5 @@
 -- The record of one event is short: of its effects the last alone may be long.
-use Rattle.std.proofs.Common.{◌≡◌, ap, length-append, ℕ, ◌+◌, ◌*◌, ◌≤◌, ◌^◌, List, [], ◌∷◌, length, arith}
+use Rattle.std.proofs.Common.{◌≡◌, ap, length-append, ◌+◌, ◌*◌, ◌≤◌, ◌^◌, List, [], ◌∷◌, length, arith}
 use Rattle.std.specs.List.{sum_by}
 use Rattle.std.proofs.lemmas.List.Sums.{sum_by-cons}
 use Rattle.as4_effects.specs.Effects.{carried_limit, effects_body, most_bytes_of}

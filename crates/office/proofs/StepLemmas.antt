@@ -26,7 +26,7 @@ same_step fault_count old new rooms pass_old pass_new event (Ok r) is = record {
   reply = is.reply;
   end = is.end;
   still = is.still;
-  entered = record { seen = is.entered.seen; list = is.entered.list; whole = is.entered.whole; share = is.entered.share };
+  entered = record { room = is.entered.room; seen = is.entered.seen; list = is.entered.list; whole = is.entered.whole; share = is.entered.share };
 }
 same_step fault_count old new rooms pass_old pass_new event (Err (Disk before after)) is = record {
   going = is.going;
@@ -34,11 +34,11 @@ same_step fault_count old new rooms pass_old pass_new event (Err (Disk before af
   old_count = is.old_count;
   new_count = is.new_count;
   rose = is.rose;
-  entered = record { seen = is.entered.seen; list = is.entered.list; whole = is.entered.whole; share = is.entered.share };
+  entered = record { room = is.entered.room; seen = is.entered.seen; list = is.entered.list; whole = is.entered.whole; share = is.entered.share };
 }
 same_step fault_count old new rooms pass_old pass_new event (Err (Stopped before after)) is = (
   record { stopped = is.0.stopped; end = is.0.end; disk = is.0.disk },
-  record { seen = is.1.seen; list = is.1.list; whole = is.1.whole; share = is.1.share },
+  record { room = is.1.room; seen = is.1.seen; list = is.1.list; whole = is.1.whole; share = is.1.share },
 )
 same_step fault_count old new rooms pass_old pass_new event (Err Worn) is = record { full = is.full; seen = is.seen; list = is.list; end = is.end; disk = is.disk; pass = is.pass }
 same_step fault_count old new rooms pass_old pass_new event (Err NoMemory) is = (record { list = is.0.list; end = is.0.end; pass = is.0.pass }, is.1)

@@ -1,5 +1,5 @@
 -- What a checkpoint answers, and what it leaves.
-use Rattle.std.specs.Prelude.{◌≡◌, ◌⊎◌, ℕ, ◌<◌, ◌≤◌, None, Result, Ok, Err}
+use Rattle.std.specs.Prelude.{◌≡◌, ◌⊎◌, ℕ, ◌<◌, ◌≤◌, None, Result, Ok, Err, ◌^◌, length}
 use Rattle.exchange_model.specs.Fold.{IsFoldedSize, resized}
 use Rattle.office.specs.Calls.{stop_of}
 use Rattle.office.specs.State.{OfficeState}
@@ -20,6 +20,7 @@ module _ {D : Type 0} (old new : OfficeState D) (pass_old pass_new : PassState C
 
   -- the journal's fold isn't shorter, and nothing is done
   pub record IsShortEnough (size : ℕ) : Type 0 where
+    pub room : length old.list < 2 ^ 63
     pub present : size ≡ old.end.size
     pub least : (other : ℕ) → IsFoldedSize old.end other → size ≤ other
     pub same : new ≡ old
@@ -29,7 +30,7 @@ module _ {D : Type 0} (old new : OfficeState D) (pass_old pass_new : PassState C
   abbrev pub Checkpoints : (D → ℕ) → Result ℕ OfficeFault → Type 0
   Checkpoints fault_count (Ok size) = (stop_of old.list ≡ None) × (Shortens size ⊎ IsShortEnough size)
   Checkpoints fault_count (Err (Disk before after)) = Stops old new pass_old pass_new fault_count None before after
-  Checkpoints fault_count (Err (Stopped before after)) = StandsStill old new pass_old pass_new before after × EntersNothing old new pass_old pass_new
+  Checkpoints fault_count (Err (Stopped before after)) = StandsStill old new pass_old pass_new before after × EntersNothing old new pass_old pass_new × (length old.list < 2 ^ 63)
   Checkpoints fault_count (Err Worn) = FindsItWorn old new pass_old pass_new
   Checkpoints fault_count (Err NoMemory) = (stop_of old.list ≡ None) × EntersNothing old new pass_old pass_new
   Checkpoints fault_count (Err (NotJournal at)) = ⊥

@@ -1,5 +1,5 @@
 -- What a call on an office answers, and what it leaves of the office and of the caller's pass.
-use Rattle.std.specs.Prelude.{◌≡◌, ◌⊎◌, ℕ, ◌+◌, ◌^◌, List, [], ◌∷◌, ◌++◌, Option, Some, None, Result, Ok, Err, length}
+use Rattle.std.specs.Prelude.{◌≡◌, ◌⊎◌, ℕ, ◌+◌, ◌^◌, List, [], ◌∷◌, ◌++◌, Option, Some, None, Result, Ok, Err, length, ◌<◌}
 use mathlib.Core.List.{IsPrefix}
 use Rattle.as4_disk.specs.Image.{Image}
 use Rattle.as4_flow.specs.Faults.{Rose}
@@ -24,6 +24,7 @@ use Rattle.pass_book.specs.States.{PassState}
 module _ {D : Type 0} (old new : OfficeState D) (pass_old pass_new : PassState Call) where
   -- the call is entered as the last of all, which the pass has then seen, and it counts for the pass
   pub record Enters (call : Call) : Type 0 where
+    pub room : length old.list < 2 ^ 63
     pub seen : IsPrefix pass_old.list old.list
     pub list : new.list ≡ old.list ++ call ∷ []
     pub whole : pass_new.list ≡ new.list

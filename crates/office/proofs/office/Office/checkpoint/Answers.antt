@@ -32,6 +32,7 @@ returns-then-size-present-clause-folds g c =
     rw (← c.self.view_is) (
       sym c.self.invariant.0.halted ∙ c.in_default.is,
       inr (record {
+        room = omega (arith, c.len.ensures.value, c.len.ensures.limit, c.if-len.false);
         present = c.size-present.ensures;
         least = λ other folded. omega (arith, c.folded_size-size.ensures.only other folded, c.if-size-present.true);
         same = refl;
@@ -79,6 +80,7 @@ returns-in-Ok-clause-folds g c =
         shorter = shorter;
         end = c.in-Ok.ensures.end c.folded_size-size.result folded;
         entered = record {
+          room = omega (arith, c.len.ensures.value, c.len.ensures.limit, c.if-len.false);
           seen = c.enter-call.ensures.seen;
           list = c.enter-call.ensures.list;
           whole = ap (λ (p : PassState Call). p.list) c.enter-call.ensures.pass;

@@ -1,4 +1,4 @@
-use Rattle.std.proofs.Common.{[], ◌∷◌, ◌++◌, ◌≡◌, ◌∙◌, Some, refl, sym, ap, subst}
+use Rattle.std.proofs.Common.{[], ◌∷◌, ◌++◌, ◌≡◌, ◌∙◌, Some, refl, sym, ap, subst, arith}
 use Rattle.exchange_model.specs.Apply.{applied}
 use Rattle.exchange_model.specs.End.{End}
 use Rattle.exchange_model.specs.Table.{Step}
@@ -146,6 +146,7 @@ returns-in-Ok-clause-step g c =
       end = made;
       still = λ none. ap (λ (j : Journal g.row.D.Denot). j.disk) (c.write.ensures.same (no_effects_no_frame outcome.effects c.into_parts-event.result.2 c.into_parts-event.ensures.frame none));
       entered = record {
+        room = omega (arith, c.len.ensures.value, c.len.ensures.limit, c.if-len.false);
         seen = c.enter_done.ensures.seen;
         list = c.enter_done.ensures.list
             ∙ ap (λ (e : Event). o.keeper.list ++ Done e c.commit-reply.result ∷ []) c.into_parts-event.ensures.event

@@ -1,4 +1,4 @@
-use Rattle.std.proofs.Common.{[], ◌∷◌, ◌++◌, ◌≡◌, ◌∙◌, Some, refl, sym, ap, subst}
+use Rattle.std.proofs.Common.{[], ◌∷◌, ◌++◌, ◌≡◌, ◌∙◌, Some, refl, sym, ap, subst, arith}
 use Rattle.exchange_model.specs.Apply.{applied}
 use Rattle.exchange_model.specs.End.{End}
 use Rattle.msh_core.specs.Small.{IsSmallReady, PlansFor}
@@ -145,6 +145,7 @@ returns-in-Ok-clause-step g c =
           let rests = rests_only c.args.plan o.core.end planned.0 planned.1 none in
           ap (λ (j : Journal g.row.D.Denot). j.disk) (c.write_small.ensures.same rests.0 rests.1);
       entered = record {
+        room = omega (arith, c.len.ensures.value, c.len.ensures.limit, c.if-len.false);
         seen = c.enter_done.ensures.seen;
         list = c.enter_done.ensures.list ∙ ap (λ (r : Reply). o.keeper.list ++ Done c.args.event r ∷ []) (sym c.enter_done.ensures.same);
         whole = ap (λ (p : PassState Call). p.list) c.enter_done.ensures.pass;
