@@ -3,3 +3,4 @@ pub mod RunLemmas
 pub mod ImageLemmas
 pub mod MemoryLemmas
 pub mod CrashLemmas
+pub mod StopLemmas

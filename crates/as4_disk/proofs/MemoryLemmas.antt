@@ -2,7 +2,7 @@
 use Rattle.std.proofs.Common.{◌≡◌, ◌⊎◌, inl, inr, ⊎_elim, ℕ, ◌+◌, ◌<◌, ◌≤◌, List, [], ◌∷◌, ◌++◌, length, take, Option, None, Some, Result, Ok, Err, refl, sym, ◌∙◌, ap, subst, arith, length-append}
 use Rattle.std.proofs.lemmas.List.{take_all, take-append-le}
 use Rattle.std.proofs.lemmas.Bool.{cases_lt}
-use Rattle.std.specs.Prelude.{IsSome, IsNone, unwrap_or, OnOk}
+use Rattle.std.specs.Prelude.{Bool, true, false, if◌then◌else◌, IsSome, IsNone, is_ok, unwrap_or, OnOk}
 use Rattle.as4_flow.specs.Told.{Told}
 use Rattle.as4_disk.specs.declared.part.Part.{Part}
 use Rattle.as4_disk.specs.declared.files.Files.{Files}
@@ -13,8 +13,8 @@ use Rattle.as4_disk.specs.ByteLaws.{cut_same}
 use Rattle.as4_disk.specs.Runs.{Goes, Follows, Within, Elapses}
 use Rattle.as4_disk.specs.Image.{Image, same_part, On, IsOnly}
 use Rattle.as4_disk.specs.Files.{image_of}
-use Rattle.as4_disk.specs.Changes.{bytes_after, bytes_by, LeftBy, LeftByAll, LeftOf, LeftSince}
-use Rattle.as4_disk.specs.Memory.{DiskState, reads, MayLeave, changed, AnswersOrStarves}
+use Rattle.as4_disk.specs.Changes.{bytes_after, bytes_by, is_sync, LeftBy, LeftByAll, LeftOf, LeftSince}
+use Rattle.as4_disk.specs.Memory.{DiskState, reads, MayLeave, MakesChange, called, changed, failed, halted}
 use Rattle.as4_disk.specs.MemoryLaws.{if_same, if_other, if_either}
 use Rattle.as4_disk.proofs.ImageLemmas.{torn_nothing}
 
@@ -129,27 +129,23 @@ module _ (change : Change) (old new : DiskState) where
       along (λ first changes. bytes_by q changes (image_of first q) ≡ bytes_after q change (reads old q)) _ _ _ _ grew.0 grew.1
       (bytes_by-push q old.changes change (image_of old.first q))
 
-  -- a call that makes a change makes it or doesn't
-  pub went_whole : {T E : Type 0} (result : Result T E) → AnswersOrStarves (changed change) (changed change) old new result → Kept old new ⊎ Grew change old new
-  went_whole (Ok x) (inl done) = inr (ap (λ d. d.first) done.1, ap (λ d. d.changes) done.1)
-  went_whole (Ok x) (inr starves) = inl (ap (λ d. d.first) starves.1, ap (λ d. d.changes) starves.1)
-  went_whole (Err e) (inl (inl fails)) = inl (ap (λ d. d.first) fails.1, ap (λ d. d.changes) fails.1)
-  went_whole (Err e) (inl (inr stops)) = inr (ap (λ d. d.first) stops.1, ap (λ d. d.changes) stops.1)
-  went_whole (Err e) (inr starves) = inl (ap (λ d. d.first) starves.1, ap (λ d. d.changes) starves.1)
+  halted_goes : new ≡ failed (halted change (called old)) → Kept old new ⊎ Grew change old new
+  halted_goes is = elim (is_sync change) as (λ (b : Bool). new ≡ failed (if b then called old else changed change (called old)) → Kept old new ⊎ Grew change old new) [
+    | true ↦ λ same. inl (ap (λ d. d.first) same, ap (λ d. d.changes) same)
+    | false ↦ λ made. inr (ap (λ d. d.first) made, ap (λ d. d.changes) made)
+  ] is
 
-  -- a sync makes it only where it answers Ok
-  pub went_ok : {T E : Type 0} (result : Result T E) → AnswersOrStarves (changed change) (λ disk. disk) old new result → Kept old new ⊎ Grew change old new
-  went_ok (Ok x) (inl done) = inr (ap (λ d. d.first) done.1, ap (λ d. d.changes) done.1)
-  went_ok (Ok x) (inr starves) = inl (ap (λ d. d.first) starves.1, ap (λ d. d.changes) starves.1)
-  went_ok (Err e) (inl (inl fails)) = inl (ap (λ d. d.first) fails.1, ap (λ d. d.changes) fails.1)
-  went_ok (Err e) (inl (inr stops)) = inl (ap (λ d. d.first) stops.1, ap (λ d. d.changes) stops.1)
-  went_ok (Err e) (inr starves) = inl (ap (λ d. d.first) starves.1, ap (λ d. d.changes) starves.1)
+  -- a call that makes a change makes it or doesn't
+  pub went : (ok : Bool) → MakesChange change old new ok → Kept old new ⊎ Grew change old new
+  went true made = inr (ap (λ d. d.first) made.1, ap (λ d. d.changes) made.1)
+  went false (inl fails) = inl (ap (λ d. d.first) fails.1, ap (λ d. d.changes) fails.1)
+  went false (inr (inl stops)) = halted_goes stops.1
+  went false (inr (inr starves)) = inl (ap (λ d. d.first) starves, ap (λ d. d.changes) starves)
 
   -- and where it answers Ok it has made it
-  pub ok_grew : {T E : Type 0} (halted : DiskState → DiskState) (result : Result T E) → AnswersOrStarves (changed change) halted old new result → OnOk result (Grew change old new)
-  ok_grew halted (Ok x) (inl done) = (ap (λ d. d.first) done.1, ap (λ d. d.changes) done.1)
-  ok_grew halted (Ok x) (inr starves) = absurd (cc)
-  ok_grew halted (Err e) answers = tt
+  pub ok_grew : {T E : Type 0} (result : Result T E) → MakesChange change old new (is_ok result) → OnOk result (Grew change old new)
+  ok_grew (Ok x) made = (ap (λ d. d.first) made.1, ap (λ d. d.changes) made.1)
+  ok_grew (Err e) makes = tt
 
 goes_by : (old new : DiskState) (part : Part) (step : List ℕ → List ℕ → Type 0) → On part step (reads old) (reads new) → Goes (On part step) (Some (reads old)) (Some (reads new))
 goes_by old new part step on v w told_old told_new =

@@ -1,5 +1,5 @@
 -- What changes do to a disk in memory, the oldest first: to what a read gives, and to what a crash may leave.
-use Rattle.std.specs.Prelude.{◌≡◌, ℕ, ◌≤◌, Bool, false, if◌then◌else◌, List, [], ◌∷◌, length, take}
+use Rattle.std.specs.Prelude.{◌≡◌, ℕ, ◌≤◌, Bool, true, false, if◌then◌else◌, List, [], ◌∷◌, length, take}
 use Rattle.as4_disk.specs.declared.part.Part.{Part}
 use Rattle.as4_disk.specs.declared.files.Files.{Files}
 use Rattle.as4_disk.specs.declared.change.Change.{Change}
@@ -13,6 +13,10 @@ abbrev pub part_of : Change → Part
 part_of (Wrote part at bytes) = part
 part_of (WasCut part len) = part
 part_of (Synced part) = part
+
+abbrev pub is_sync : Change → Bool
+is_sync (Synced part) = true
+is_sync change = false
 
 abbrev pub is_sync_of : Part → Change → Bool
 is_sync_of q (Synced part) = same_part part q

@@ -1,5 +1,5 @@
 -- A disk in memory: what it was made with, the changes since, and how the calls that come will go.
-use Rattle.std.specs.Prelude.{◌≡◌, ◌⊎◌, ℕ, ◌-◌, Bool, true, false, if◌then◌else◌, ◌==◌, List, [], ◌∷◌, ◌++◌, Option, None, Some, Result, Ok, Err, IsErr, option_map}
+use Rattle.std.specs.Prelude.{◌≡◌, ◌⊎◌, ℕ, zero, suc, ◌-◌, Bool, true, false, if◌then◌else◌, ◌==◌, List, [], ◌∷◌, ◌++◌, Option, None, Some, Result, Ok, Err, option_map}
 use Rattle.std.specs.List.{list_any}
 use Rattle.as4_flow.specs.Faults.{one_more}
 use Rattle.as4_disk.specs.declared.files.Files.{Files}
@@ -9,7 +9,7 @@ use Rattle.as4_disk.specs.declared.change.Turn.{Turn}
 use Rattle.as4_disk.specs.declared.change.Turn.TheVariants.{Acts, Fails, Stops}
 use Rattle.as4_disk.specs.Image.{Image}
 use Rattle.as4_disk.specs.Files.{image_of}
-use Rattle.as4_disk.specs.Changes.{bytes_by, LeftOf}
+use Rattle.as4_disk.specs.Changes.{bytes_by, is_sync, LeftOf}
 use Rattle.as4_disk.specs.Picks.{pick_by}
 
 pub record DiskState : Type 0 where
@@ -69,6 +69,19 @@ Answers act halted old new (Ok _) = (turn_of old ≡ Acts) × (new ≡ act (call
 Answers act halted old new (Err _) = ((turn_of old ≡ Fails) × (new ≡ failed (called old)))
     ⊎ ((turn_of old ≡ Stops) × (new ≡ failed (halted (called old))))
 
--- or one that finds no memory, fails and does nothing
-abbrev pub AnswersOrStarves : {T E : Type 0} → (DiskState → DiskState) → (DiskState → DiskState) → DiskState → DiskState → Result T E → Type 0
-AnswersOrStarves act halted old new result = Answers act halted old new result ⊎ (IsErr result × (new ≡ starved (called old)))
+-- What a call that makes a change has done where the disk stops at it: a sync settles nothing.
+abbrev pub halted : Change → DiskState → DiskState
+halted change disk = if is_sync change then disk else changed change disk
+
+-- A call that makes a change and answers Ok; or it fails and does nothing, or acts so far and fails, or finds no memory.
+abbrev pub MakesChange : Change → DiskState → DiskState → Bool → Type 0
+MakesChange change old new true = (turn_of old ≡ Acts) × (new ≡ changed change (called old))
+MakesChange change old new false = ((turn_of old ≡ Fails) × (new ≡ failed (called old)))
+    ⊎ (((turn_of old ≡ Stops) × (new ≡ failed (halted change (called old)))) ⊎ (new ≡ starved (called old)))
+
+-- what is changed by the calls of these changes where the disk stops at the one of this number
+unfoldable pub stopped_at : ℕ → List Change → List Change
+stopped_at number [] = []
+stopped_at zero (change ∷ changes) = []
+stopped_at (suc zero) (change ∷ changes) = if is_sync change then [] else change ∷ []
+stopped_at (suc (suc number)) (change ∷ changes) = change ∷ stopped_at (suc number) changes

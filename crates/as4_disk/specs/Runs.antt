@@ -1,6 +1,6 @@
 -- What a device call does to the images of a crash, and what a run of calls does, for any type of image. A disk has a
 -- moment, and for each moment the images that a crash might have left from it on.
-use Rattle.std.specs.Prelude.{◌≡◌, ◌⊎◌, ℕ, ◌≤◌, Option, Some, Result, OnErr}
+use Rattle.std.specs.Prelude.{◌≡◌, ◌⊎◌, ℕ, ◌≤◌, Bool, true, false, List, [], ◌∷◌, Option, Some, Result, OnErr}
 use Rattle.as4_flow.specs.Faults.{Rose}
 
 -- where both are told, the step leads from one to the other
@@ -43,3 +43,9 @@ pub record Quiet {D X : Type 0} (moment : D → ℕ) (left_since : D → ℕ →
   pub same : seen new ≡ seen old
   pub within : Within (may_leave old) (may_leave new)
   pub run : LeavesOnly moment left_since old new (may_leave old)
+
+-- the calls of these changes were made, one after another, up to the first that failed, and whether none did
+abbrev pub MakesAll : {D C : Type 0} → (C → D → D → Bool → Type 0) → List C → D → D → Bool → Type 0
+MakesAll makes [] old new ok = (new ≡ old) × (ok ≡ true)
+MakesAll {D} makes (change ∷ changes) old new ok = (makes change old new false × (ok ≡ false))
+    ⊎ ((mid : D) × makes change old mid true × MakesAll makes changes mid new ok)

@@ -16,7 +16,7 @@ pub enum Change {
 }
 
 impl Change {
-    ghost use Rattle.as4_disk.specs.Changes.{part_of, is_sync_of};
+    ghost use Rattle.as4_disk.specs.Changes.{part_of, is_sync, is_sync_of};
 
     pub(crate) fn part(&self) -> Part
         ensures { result ≡ part_of self.now }
@@ -30,6 +30,13 @@ impl Change {
             Change::WasCut { part, len: _ } => *part,
             Change::Synced { part } => *part,
         }
+    }
+
+    /// Whether it is a sync.
+    pub(crate) fn is_sync(&self) -> bool
+        ensures { result ≡ is_sync self.now }
+    {
+        matches!(self, Change::Synced { .. })
     }
 
     /// Whether it is a sync of this part.

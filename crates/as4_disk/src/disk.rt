@@ -7,11 +7,13 @@
 //! A crash may come at any moment, during a call or between two. It leaves one of the disk's images: of each part some
 //! bytes. Between two syncs of a part, a range that was written and what lies past the part's old end may hold any
 //! bytes, the others stay, and the part may have any length between the least and the greatest that it had.
-ghost use Rattle.std.specs.Prelude.{◌≡◌, ℕ, ◌+◌, ◌≤◌, Option, length, take, drop, is_some, IfOk, OnOk};
+ghost use Rattle.std.specs.Prelude.{◌≡◌, ℕ, ◌+◌, ◌≤◌, Bool, Option, length, take, drop, is_ok, is_some, IfOk, OnOk};
 ghost use Rattle.as4_flow.specs.Told.{Told};
 ghost use Rattle.as4_disk.specs.Bytes.{IsOverwritten, Torn, IsCut, TornCut};
 ghost use Rattle.as4_disk.specs.Runs.{Goes, Follows, Within, Elapses, HasCause};
 ghost use Rattle.as4_disk.specs.Image.{Image, On, IsOnly};
+ghost use Rattle.as4_disk.specs.declared.change.Change.{Change};
+ghost use Rattle.as4_disk.specs.declared.change.Change.TheVariants.{Wrote, WasCut, Synced};
 
 use crate::Part;
 
@@ -34,6 +36,10 @@ pub trait Disk {
 
     /// How many faults there were, up to the last value of a `u64`.
     ghost fault_count: { Self → ℕ };
+
+    /// What the disk says of a call that makes a change, where it leads from one state to another and whether it answers
+    /// Ok. A disk that doesn't count its calls says nothing.
+    ghost makes: { Change → Self → Self → Bool → Type 0 };
 
     /// How many bytes the part has.
     fn len(&mut self, part: Part) -> Result<u64, DiskFailed>
@@ -63,6 +69,7 @@ pub trait Disk {
             (Goes (On part (IsOverwritten at bytes.now)) (seen self.old) (seen self.new)) }
         ensures tells { is_some (seen self.new) ≡ is_some (seen self.old) }
         ensures crash { Follows (On part (Torn at (length bytes.now))) (may_leave self.old) (may_leave self.new) }
+        ensures makes { makes (Wrote part at bytes.now) self.old self.new (is_ok result) }
         ensures time { Elapses (moment self.old) (moment self.new)
             (left_since self.old) (left_since self.new) (may_leave self.new) }
         ensures cause { HasCause (fault_count self.old) (fault_count self.new) result };
@@ -73,6 +80,7 @@ pub trait Disk {
         ensures written { OnOk result (Goes (On part (IsCut len)) (seen self.old) (seen self.new)) }
         ensures tells { is_some (seen self.new) ≡ is_some (seen self.old) }
         ensures crash { Follows (On part (TornCut len)) (may_leave self.old) (may_leave self.new) }
+        ensures makes { makes (WasCut part len) self.old self.new (is_ok result) }
         ensures time { Elapses (moment self.old) (moment self.new)
             (left_since self.old) (left_since self.new) (may_leave self.new) }
         ensures cause { HasCause (fault_count self.old) (fault_count self.new) result };
@@ -83,6 +91,7 @@ pub trait Disk {
         ensures durable { OnOk result (Told (seen self.old) (λ b. IsOnly part b (may_leave self.new))) }
         ensures seen { seen self.new ≡ seen self.old }
         ensures crash { Within (may_leave self.old) (may_leave self.new) }
+        ensures makes { makes (Synced part) self.old self.new (is_ok result) }
         ensures time { Elapses (moment self.old) (moment self.new)
             (left_since self.old) (left_since self.new) (may_leave self.new) }
         ensures cause { HasCause (fault_count self.old) (fault_count self.new) result };

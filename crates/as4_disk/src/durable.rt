@@ -1,9 +1,10 @@
 //! A write that is durable once it has answered.
-ghost use Rattle.std.specs.Prelude.{◌≡◌, ◌≤◌, length, is_some, OnOk};
+ghost use Rattle.std.specs.Prelude.{◌≡◌, ◌≤◌, [], ◌∷◌, length, is_ok, is_some, OnOk};
 ghost use Rattle.as4_flow.specs.Told.{Told};
 ghost use Rattle.as4_disk.specs.Bytes.{IsOverwritten, Torn};
-ghost use Rattle.as4_disk.specs.Runs.{Goes, Follows, LeavesOnly, HasCause};
+ghost use Rattle.as4_disk.specs.Runs.{Goes, Follows, LeavesOnly, HasCause, MakesAll};
 ghost use Rattle.as4_disk.specs.Image.{On, IsOnly, TornFrom};
+ghost use Rattle.as4_disk.specs.declared.change.Change.TheVariants.{Synced, Wrote};
 
 use crate::{Disk, DiskFailed, Part};
 
@@ -19,6 +20,7 @@ pub fn write_durably<D: Disk>(
     ensures written { OnOk result
         (Goes (On part (IsOverwritten at bytes.now)) (D.seen disk.old) (D.seen disk.new)) }
     ensures durable { OnOk result (Told (D.seen disk.new) (λ b. IsOnly part b (D.may_leave disk.new))) }
+    ensures calls { MakesAll D.makes (Wrote part at bytes.now ∷ Synced part ∷ []) disk.old disk.new (is_ok result) }
     ensures tells { is_some (D.seen disk.new) ≡ is_some (D.seen disk.old) }
 
     ensures any_moment { LeavesOnly D.moment D.left_since disk.old disk.new

@@ -202,6 +202,8 @@ impl Disk for FileDisk {
 
     ghost fault_count = { file_faults };
 
+    ghost makes = { λ _ _ _ _. Unit {0} };
+
     ghost reads_now = { λ disk image told. Prim.cc };
 
     ghost counts_now = { λ disk t c le left. left };

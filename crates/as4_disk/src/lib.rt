@@ -17,6 +17,6 @@ pub use disk::{Disk, DiskFailed};
 pub use durable::write_durably;
 pub use file::{FileDisk, Paths};
 pub use files::Files;
-pub use memory::{MemoryDisk, leaves_all_that_may_be};
+pub use memory::{MemoryDisk, a_stopped_run_is_known, leaves_all_that_may_be};
 pub use part::Part;
 pub use reading::{ReadFault, read_some};

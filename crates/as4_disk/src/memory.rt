@@ -2,15 +2,16 @@
 //!
 //! It keeps what it had at first and each change since, so that all its images can be named; of what it reads it has
 //! one copy, which is written in place.
-ghost use Rattle.std.specs.Prelude.{◌≡◌, ◌⊎◌, ℕ, Some, None, ◌+◌, ◌≤◌, ◌++◌, [], ◌∷◌, List, length, take, drop, is_some, IsSome, unwrap_or, IfOk, OnOk, OnErr, IsOk};
+ghost use Rattle.std.specs.Prelude.{◌≡◌, ◌⊎◌, ℕ, Bool, false, Some, None, ◌+◌, ◌≤◌, ◌++◌, [], ◌∷◌, List, length, take, drop, is_ok, is_some, IsSome, unwrap_or, IfOk, OnOk, OnErr, IsOk};
 ghost use Rattle.as4_flow.specs.Told.{Told};
 ghost use Rattle.as4_flow.specs.Faults.{one_more};
 ghost use Rattle.as4_disk.specs.Bytes.{IsOverwritten, Torn, IsCut, TornCut};
-ghost use Rattle.as4_disk.specs.Runs.{Goes, Follows, Within, Elapses, HasCause};
+ghost use Rattle.as4_disk.specs.Runs.{Goes, Follows, Within, Elapses, HasCause, MakesAll};
 ghost use Rattle.as4_disk.specs.Image.{Image, On, IsOnly};
 ghost use Rattle.as4_disk.specs.Files.{image_of};
 ghost use Rattle.as4_disk.specs.Changes.{LeftSince};
-ghost use Rattle.as4_disk.specs.Memory.{DiskState, new_disk, reads, MayLeave, picked, turn_of, called, changed, failed, starved, Answers, AnswersOrStarves};
+ghost use Rattle.as4_disk.specs.Memory.{DiskState, new_disk, reads, MayLeave, picked, turn_of, called, changed, failed, starved, Answers, MakesChange, stopped_at};
+ghost use Rattle.as4_disk.specs.declared.change.Change.{Change as ChangeValue};
 ghost use Rattle.as4_disk.specs.declared.change.Pick.{Pick};
 ghost use Rattle.as4_disk.specs.declared.change.Change.TheVariants.{Wrote, WasCut, Synced};
 
@@ -208,11 +209,16 @@ impl MemoryDisk {
 
     // A device call that makes this change.
     fn change(&mut self, change: Change) -> Result<(), DiskFailed>
-        ensures answers { AnswersOrStarves (changed change) (changed change) self.old self.new result }
+        ensures makes { MakesChange change self.old self.new (is_ok result) }
         ensures counted { self.old.faults ≤ self.new.faults }
     {
         let turn = self.turn();
-        if let Turn::Fails = turn {
+        let acts = match turn {
+            Turn::Acts => true,
+            Turn::Stops => !change.is_sync(),
+            Turn::Fails => false,
+        };
+        if !acts {
             drop(change);
             return Err(self.fail());
         }
@@ -221,18 +227,6 @@ impl MemoryDisk {
         }
         if let Turn::Stops = turn {
             return Err(self.fail());
-        }
-        Ok(())
-    }
-
-    // A device call that syncs a part.
-    fn settle(&mut self, part: Part) -> Result<(), DiskFailed>
-        ensures answers { AnswersOrStarves (changed (Synced part)) (λ disk. disk) self.old self.new result }
-        ensures counted { self.old.faults ≤ self.new.faults }
-    {
-        self.call()?;
-        if self.make(Change::Synced { part }).is_err() {
-            return Err(self.starve());
         }
         Ok(())
     }
@@ -274,6 +268,14 @@ pub fn leaves_all_that_may_be()
     ensures picks { (disk : DiskState) (choice : _ → Pick) → MayLeave disk (λ q. picked (choice q) disk q) }
 {}
 
+/// Where a disk in memory stops at one of some calls, this is what they have done, unless memory ran out.
+pub fn a_stopped_run_is_known()
+    ensures { (changes : List ChangeValue) (old new : DiskState) (ok : Bool) (call : ℕ) → MakesAll MakesChange changes old new ok
+        → old.failing ≡ [] → old.stop ≡ Some call → 1 ≤ call → call ≤ length changes
+        → (ok ≡ false) × (new.ran_out ≡ false
+        → (new.first ≡ old.first) × (new.changes ≡ old.changes ++ stopped_at call changes)) }
+{}
+
 impl Disk for MemoryDisk {
     ghost use Rattle.as4_disk.specs.MemoryLaws.{reads_now_of, counts_now_of, only_now_of};
 
@@ -286,6 +288,8 @@ impl Disk for MemoryDisk {
     ghost left_since = { λ disk t c. LeftSince disk.first disk.changes t c };
 
     ghost fault_count = { λ disk. disk.faults };
+
+    ghost makes = { λ change old new ok. MakesChange change old new ok };
 
     ghost reads_now = { reads_now_of };
 
@@ -337,8 +341,7 @@ impl Disk for MemoryDisk {
             (MayLeave self.new) }
         ensures cause { HasCause self.old.faults self.new.faults result }
 
-        ensures answers { AnswersOrStarves (changed (Wrote part at bytes.now)) (changed (Wrote part at bytes.now))
-            self.old self.new result }
+        ensures makes { MakesChange (Wrote part at bytes.now) self.old self.new (is_ok result) }
     {
         let Ok(copy) = Vec::from_slice(self.alloc, bytes) else {
             let _ = self.turn();
@@ -358,8 +361,7 @@ impl Disk for MemoryDisk {
             (MayLeave self.new) }
         ensures cause { HasCause self.old.faults self.new.faults result }
 
-        ensures answers { AnswersOrStarves (changed (WasCut part len)) (changed (WasCut part len))
-            self.old self.new result }
+        ensures makes { MakesChange (WasCut part len) self.old self.new (is_ok result) }
     {
         self.change(Change::WasCut { part, len })
     }
@@ -373,9 +375,9 @@ impl Disk for MemoryDisk {
             (MayLeave self.new) }
         ensures cause { HasCause self.old.faults self.new.faults result }
 
-        ensures answers { AnswersOrStarves (changed (Synced part)) (λ disk. disk) self.old self.new result }
+        ensures makes { MakesChange (Synced part) self.old self.new (is_ok result) }
     {
-        self.settle(part)
+        self.change(Change::Synced { part })
     }
 
     fn faults(&self) -> u64
