@@ -85,10 +85,11 @@ impl MemoryDisk {
     }
 
     /// The device call of this number, the next being 1, acts and then fails, and each later one fails without acting.
-    /// With 0 all of them do. A sync that fails settles nothing.
+    /// With 0 all of them do. A sync that fails settles nothing. No call fails by its number from here on.
     pub fn stop_at(&mut self, call: u64)
-        ensures { self.new ≡ record self.old { stop = Some call } }
+        ensures { self.new ≡ record self.old { failing = []; stop = Some call } }
     {
+        self.failing.clear();
         self.stop = Some(call);
     }
 
