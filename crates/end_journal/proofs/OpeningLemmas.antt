@@ -1,8 +1,7 @@
 -- What a journal that was opened gives back, and what the disk reopens as meanwhile.
-use Rattle.std.proofs.Common.{◌≡◌, ◌⊎◌, inl, inr, ⊎_elim, ℕ, ◌+◌, ◌*◌, ◌<◌, ◌≤◌, ◌^◌, List, [], ◌∷◌, ◌++◌, Option, Some, IsNone, length, take, get_or, refl, sym, ap, subst, ◌∙◌, arith, length-append}
+use Rattle.std.proofs.Common.{◌≡◌, ◌⊎◌, inl, inr, ⊎_elim, ℕ, ◌+◌, ◌*◌, ◌<◌, ◌≤◌, ◌^◌, List, [], ◌∷◌, ◌++◌, Option, Some, IsNone, length, take, refl, sym, ap, subst, ◌∙◌, arith}
 use Rattle.std.specs.List.{sum_by}
 use Rattle.std.proofs.lemmas.Bool.{cases_lt}
-use Rattle.std.proofs.lemmas.List.{take_at}
 use Rattle.as4_disk.specs.Image.{Image}
 use Rattle.as4_disk.specs.Runs.{FirstThen, LeavesOnly}
 use Rattle.as4_disk.proofs.RunLemmas.{then, weaken}
@@ -13,18 +12,18 @@ use Rattle.exchange_model.specs.Fold.{CarriesOver, DeliversAgain, IsFoldedSize, 
 use Rattle.fold_laws.specs.Reached.{IsReached}
 use Rattle.fold_laws.proofs.ReachedLemmas.{reached_applied, reached_first}
 use Rattle.fold_laws.proofs.SomeFold.{reached_written, some_fold}
-use Rattle.journal.specs.Leaf.{IsBroken, IsNew, Lists, front_of, limit_of, magic_of, number_of}
+use Rattle.journal.specs.Leaf.{IsNew, Lists, front_of, limit_of, magic_of, number_of}
 use Rattle.journal.specs.State.{HasRead}
 use Rattle.journal.specs.Store.{KeepsLeaf, OpensSettled, Reopens, picked_leaf}
 use Rattle.journal.specs.declared.journal.Journal.{Journal}
 use Rattle.journal.specs.declared.version.Version.{Version}
 use Rattle.journal.specs.declared.version.Version.TheVariants.{One, Two}
-use Rattle.journal.proofs.JournalLaws.{keeps_broken, keeps_lists, keeps_reopens, read_front}
-use Rattle.journal.proofs.LeafLemmas.{front_none, length-front, length-front_more, length-magic}
+use Rattle.journal.proofs.JournalLaws.{keeps_lists, keeps_reopens, read_front}
+use Rattle.journal.proofs.LeafLemmas.{front_magic, magics_differ}
 use Rattle.journal.proofs.StoreLemmas.{keeps_pending, keeps_records, lists_once, new_none, whole_lists}
 use Rattle.end_records.specs.Opens.{HasPendingEnd, IsFoldedOf, IsJournalOf, IsOld, OpensBy, OpensFolded, OpensOnly, OpensWith, ReadsAs, ReopensAs}
 use Rattle.end_records.specs.Records.{RecordsLead}
-use Rattle.end_records.specs.Unfit.{IsUnfit}
+use Rattle.end_records.specs.Unfit.{IsNoJournal}
 use Rattle.end_records.proofs.OpenLemmas.{opens_weaker, reopens_as, settled_opens}
 use Rattle.end_records.proofs.RecordLemmas.{HasOneBody, one_end}
 use Rattle.end_records.proofs.SizeLemmas.{front_len, size_of_end}
@@ -65,17 +64,12 @@ reopens_then b d c keeps reopens end (bodies, by) =
 pub reads_kept : (b d : Image) (end : End) → KeepsLeaf b d → ReadsAs d end → ReadsAs b end
 reads_kept b d end keeps (bodies, lists, leads) = (bodies, keeps_lists bodies b d keeps lists, leads)
 
-width_some : (version : Version) (bodies : List (List ℕ)) (body : List ℕ) → 9 < length (front_of version (bodies ++ body ∷ []))
-width_some One bodies body = omega (arith, length-front_more One bodies body, length-front One bodies)
-width_some Two bodies body = omega (arith, length-front_more Two bodies body, length-front Two bodies)
-
--- a new leaf has no record that leads nowhere
-pub unfit_kept : (at : ℕ) (b d : Image) → KeepsLeaf b d → IsUnfit at (picked_leaf d) → IsUnfit at (picked_leaf b)
-unfit_kept at b d (inl same) unfit =
-    let P : List ℕ → Type 0 = IsUnfit at in
-    subst P same unfit
-unfit_kept at b d (inr new) unfit =
-    absurd (omega (arith, new.1, ap length unfit.bytes, width_some unfit.version unfit.bodies unfit.body, length-append (front_of unfit.version (unfit.bodies ++ unfit.body ∷ [])) unfit.behind))
+-- what is no journal was none when the disk was opened
+pub no_journal_kept : (at : ℕ) (b d : Image) → KeepsLeaf b d → IsNoJournal at (picked_leaf d) → IsNoJournal at (picked_leaf b)
+no_journal_kept at b d (inl same) is =
+    let P : List ℕ → Type 0 = IsNoJournal at in
+    subst P same is
+no_journal_kept at b d (inr new) is = absurd (omega (arith, new.1, is.0))
 
 -- ---- while the journal is folded
 
@@ -118,14 +112,6 @@ is_two Two is = refl
 pub is_one : (version : Version) → (number_of version ≡ 2 → ⊥) → version ≡ One
 is_one One differs = refl
 is_one Two differs = absurd (differs refl)
-
-front_magic : (version : Version) (rest : List ℕ) → take 8 (front_of version [] ++ rest) ≡ magic_of version
-front_magic version rest =
-    ap (λ (l : List ℕ). take 8 (l ++ rest)) (front_none version) ∙ take_at (magic_of version) rest 8 (length-magic version)
-
-two_magics : magic_of Two ≡ magic_of One → ⊥
-unfolding magic_of
-two_magics same = absurd (omega (arith, ap (λ (l : List ℕ). get_or l 6 0) same))
 
 new_reads : (image : Image) (end : End) → IsNew (picked_leaf image) → ReadsAs image end → end ≡ empty_end
 new_reads image end new (bodies, lists, leads) =
@@ -175,8 +161,8 @@ module _ {D : Type 0} (seen : D → Option Image) (may_leave : D → Image → T
         by_keeps (inr new) (inr is) = absurd (omega (arith, old.0, new.0))
         by_keeps (inl same) (inr is) =
             let magic : magic_of journal.version ≡ magic_of One =
-            sym (front_magic journal.version front.0) ∙ ap (λ (l : List ℕ). take 8 l) (sym front.1 ∙ same) ∙ old.1 in
-            absurd (two_magics (ap (λ (v : Version). magic_of v) (sym is) ∙ magic))
+            sym (front_magic journal.version [] front.0) ∙ ap (λ (l : List ℕ). take 8 l) (sym front.1 ∙ same) ∙ old.1 in
+            absurd (magics_differ (ap (λ (v : Version). magic_of v) (sym is) ∙ magic))
 
     -- one that wasn't has version 2, or was new
     pub young_version : (IsOld (picked_leaf b) → ⊥) → (journal.version ≡ Two) ⊎ IsNew (picked_leaf b)
@@ -189,7 +175,7 @@ module _ {D : Type 0} (seen : D → Option Image) (may_leave : D → Image → T
         by_length is same (inr short) = inr short
         by_length is same (inl long) =
             let magic : take 8 (picked_leaf b) ≡ magic_of One =
-            ap (λ (l : List ℕ). take 8 l) (sym same ∙ front.1) ∙ front_magic journal.version front.0 ∙ ap (λ (v : Version). magic_of v) is in
+            ap (λ (l : List ℕ). take 8 l) (sym same ∙ front.1) ∙ front_magic journal.version [] front.0 ∙ ap (λ (v : Version). magic_of v) is in
             absurd (young (long, magic))
 
         by_keeps : KeepsLeaf b d → (journal.version ≡ One) ⊎ (journal.version ≡ Two) → (journal.version ≡ Two) ⊎ IsNew (picked_leaf b)
@@ -228,6 +214,12 @@ module _ {D : Type 0} (seen : D → Option Image) (may_leave : D → Image → T
         records = λ b told. (bodies, all.records (read b told), all.leads);
       }
 
+  -- and its end is the one that was read
+  pub read_end : (first now : Journal D) (end : End) (bodies : List (List ℕ)) → HasReplayedAll seen may_leave first now end bodies → now.version ≡ Two → HasRead seen may_leave first []
+      → Told (seen first.disk) (λ b. (x : End) × ReadsAs b x × (first.version ≡ One → (size : ℕ) × IsFoldedSize x size × (end ≡ resized size x)) × (first.version ≡ Two → end ≡ x))
+  read_end first now end bodies all two has b told =
+      (end, (bodies, all.all has b told, all.leads), λ was. let differs : One ≡ Two = sym was ∙ sym all.version ∙ two in absurd cc, λ was. refl)
+
   -- of version 1, and the fold is short
   pub short_fold : (first now : Journal D) (end : End) (bodies : List (List ℕ)) → HasReplayedAll seen may_leave first now end bodies → now.version ≡ One
       → (size : ℕ) → size ≤ 29 + 4 * sum_by length bodies → size < 2 ^ 32
@@ -244,7 +236,7 @@ module _ {D : Type 0} (seen : D → Option Image) (may_leave : D → Image → T
       → Told (seen first.disk) (λ b. (x : End) × ReadsAs b x × (first.version ≡ One → (size : ℕ) × IsFoldedSize x size × (new ≡ resized size x)) × (first.version ≡ Two → new ≡ x))
   folded_end first now end new bodies all one law has b told =
       let size = has_folded_size bodies end all.leads in
-      (end, (bodies, all.all has b told, all.leads), λ was. (size.0, size.1, law size.0 size.1), λ two. let no : One ≡ Two = sym one ∙ all.version ∙ two in absurd cc)
+      (end, (bodies, all.all has b told, all.leads), λ was. (size.0, size.1, law size.0 size.1), λ two. let differs : One ≡ Two = sym one ∙ all.version ∙ two in absurd cc)
 
 module _ {D : Type 0} (moment : D → ℕ) (left_since : D → ℕ → Image → Type 0) where
   -- while all is read
@@ -273,8 +265,3 @@ module _ {D : Type 0} (moment : D → ℕ) (left_since : D → ℕ → Image →
   opening_run old mid new may_leave b d keeps settles brings =
       first_then_next moment left_since old mid new may_leave (ReopensAs b) (settling_run old mid may_leave b settles)
       (weaken moment left_since mid new (ReopensAs d) (ReopensAs b) (λ c reopens. reopens_then b d c keeps reopens) brings)
-
--- what is wrong was wrong when the disk was opened
-pub wrong_kept : (at : ℕ) (b d : Image) → KeepsLeaf b d → IsBroken at (picked_leaf d) ⊎ IsUnfit at (picked_leaf d) → IsBroken at (picked_leaf b) ⊎ IsUnfit at (picked_leaf b)
-wrong_kept at b d keeps (inl broken) = inl (keeps_broken at b d keeps broken)
-wrong_kept at b d keeps (inr unfit) = inr (unfit_kept at b d keeps unfit)

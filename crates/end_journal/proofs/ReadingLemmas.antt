@@ -1,5 +1,5 @@
 -- What one record more that was read leads to, and what stands where it leads nowhere.
-use Rattle.std.proofs.Common.{◌≡◌, inl, ℕ, ◌+◌, ◌<◌, ◌≤◌, ◌^◌, List, [], ◌∷◌, ◌++◌, Option, Some, length, refl, sym, ap, subst, ◌∙◌, arith}
+use Rattle.std.proofs.Common.{◌≡◌, inl, inr, ℕ, ◌+◌, ◌<◌, ◌≤◌, ◌^◌, List, [], ◌∷◌, ◌++◌, Option, Some, length, refl, sym, ap, subst, ◌∙◌, arith}
 use Rattle.as4_disk.specs.Image.{Image}
 use Rattle.as4_disk.specs.Runs.{LeavesOnly}
 use Rattle.as4_disk.proofs.RunLemmas.{no_call, then}
@@ -8,17 +8,18 @@ use Rattle.as4_effects.specs.Effects.{effects_body}
 use Rattle.as4_effects.specs.declared.effect.Effect.{Effect}
 use Rattle.exchange_model.specs.Apply.{record_len}
 use Rattle.exchange_model.specs.End.{End, empty_end}
-use Rattle.journal.specs.Leaf.{front_of, limit_of, width_of}
+use Rattle.journal.specs.Leaf.{IsBroken, front_of, limit_of, width_of}
 use Rattle.journal.specs.State.{HasRead}
 use Rattle.journal.specs.Store.{Reopens, picked_leaf}
 use Rattle.journal.specs.declared.journal.Journal.{Journal}
 use Rattle.journal.specs.declared.version.Version.{Version}
 use Rattle.journal.specs.declared.version.Version.TheVariants.{One, Two}
+use Rattle.journal.proofs.BrokenLemmas.{cut_short_here}
 use Rattle.journal.proofs.JournalLaws.{keeps_reopens, read_front}
 use Rattle.journal.proofs.LeafLemmas.{front_none, length-front_more, length-magic}
 use Rattle.journal.proofs.StoreLemmas.{settled_left, settled_told}
 use Rattle.end_records.specs.Records.{RecordLeads, RecordsLead}
-use Rattle.end_records.specs.Unfit.{IsUnfit}
+use Rattle.end_records.specs.Unfit.{IsNoJournal, IsUnfit}
 use Rattle.end_records.proofs.RecordLemmas.{lead_more}
 use Rattle.end_records.proofs.SizeLemmas.{front_len, size_of_end}
 use Rattle.end_journal.specs.Reading.{HasReplayed, ReadsOn}
@@ -70,6 +71,16 @@ module _ {D : Type 0} (seen : D → Option Image) (may_leave : D → Image → T
         told = on.told ∙ so_far.told;
         read = λ has. on.read bodies (so_far.read has);
       }
+
+  -- the next record is cut short
+  pub cut_next : (old : Journal D) (bodies : List (List ℕ)) (at : ℕ) (end : End) (b : Image) → HasRead seen may_leave old bodies → at ≡ old.gate → seen old.disk ≡ Some b → RecordsLead bodies empty_end end → IsBroken at (picked_leaf b) → IsNoJournal at (picked_leaf b)
+  cut_next old bodies at end b has place told leads broken =
+      let behind = has.next ∷ has.rest in
+      let bytes = (settled_told seen may_leave old.disk old.is_second (front_of old.version bodies ++ behind) b has.settled told).2 in
+      let cut = cut_short_here at old.version bodies behind (picked_leaf b) broken bytes has.within (omega arith) (place ∙ has.place) in (
+        broken.0,
+        inr (inl (record { version = old.version; bodies = bodies; rest = cut.0; cut = cut.1; place = place ∙ has.place; end = end; leads = leads })),
+      )
 
   -- the next record leads nowhere
   pub unfit_next : (old new : Journal D) (bodies : List (List ℕ)) (body : List ℕ) (at : ℕ) (end : End) (b : Image) → HasRead seen may_leave old bodies → HasRead seen may_leave new (bodies ++ body ∷ [])

@@ -1,7 +1,7 @@
 -- Runs of device calls behind one another, and what their counts say.
-use Rattle.std.proofs.Common.{◌≡◌, inl, inr, ℕ, ◌≤◌, Option, Some, None, is_some, arith}
-use Rattle.as4_disk.specs.Runs.{FirstThen, LeavesOnly}
-use Rattle.as4_disk.proofs.RunLemmas.{then, weaken}
+use Rattle.std.proofs.Common.{◌≡◌, inl, inr, ℕ, ◌≤◌, Option, Some, None, is_some, refl, arith}
+use Rattle.as4_disk.specs.Runs.{FirstThen, LeavesOnly, Quiet}
+use Rattle.as4_disk.proofs.RunLemmas.{no_call, then, weaken}
 use Rattle.journal.specs.declared.fault.JournalFault.{JournalFault}
 use Rattle.end_journal.specs.Causes.{IsDiskSince}
 
@@ -29,6 +29,11 @@ module _ {D X : Type 0} (moment : D → ℕ) (left_since : D → ℕ → X → T
   first_all old new P Q R one two (inl first) = weaken moment left_since old new P R one first
   first_all old new P Q R one two (inr both) =
       then moment left_since old both.0 new R (weaken moment left_since old both.0 P R one both.1) (weaken moment left_since both.0 new Q R two both.2)
+
+-- before the first call nothing was written
+pub quiet_none : {D X : Type 0} (moment : D → ℕ) (left_since : D → ℕ → X → Type 0) (seen : D → Option X) (may_leave : D → X → Type 0) → ((disk : D) (c : X) → left_since disk (moment disk) c → may_leave disk c) → (disk : D) → Quiet moment left_since seen may_leave disk disk
+quiet_none moment left_since seen may_leave only_now disk =
+    record { same = refl; within = λ c left. left; run = no_call moment left_since disk (may_leave disk) (only_now disk) }
 
 -- what tells now told before
 pub told_before : {X : Type 0} (old new : Option X) (image : X) → is_some new ≡ is_some old → new ≡ Some image → (was : X) × (old ≡ Some was)

@@ -1,13 +1,12 @@
 //! How the journal of an end is opened.
-ghost use Rattle.std.specs.Prelude.{◌≡◌, ◌⊎◌, ℕ, ◌≤◌, List, [], IfErr, IfOk, IsNone, OnOk, is_some};
-ghost use Rattle.as4_disk.specs.Runs.{FirstThen, LeavesOnly};
+ghost use Rattle.std.specs.Prelude.{◌≡◌, ℕ, ◌≤◌, List, [], IfErr, IfOk, IsNone, OnOk, is_some};
+ghost use Rattle.as4_disk.specs.Runs.{FirstThen, LeavesOnly, Quiet};
 ghost use Rattle.as4_flow.specs.Told.{Told};
 ghost use Rattle.end_journal.specs.Causes.{IsDiskSince};
 ghost use Rattle.end_records.specs.Opens.{IsJournalOf, IsOld, ReadsAs, ReopensAs};
-ghost use Rattle.end_records.specs.Unfit.{IsUnfit};
+ghost use Rattle.end_records.specs.Unfit.{IsNoJournal};
 ghost use Rattle.exchange_model.specs.End.{End, empty_end};
 ghost use Rattle.exchange_model.specs.Fold.{IsFoldedSize, resized};
-ghost use Rattle.journal.specs.Leaf.{IsBroken};
 ghost use Rattle.journal.specs.State.{HasRead, IsDisk, IsOpeningFault};
 ghost use Rattle.journal.specs.Store.{picked_leaf};
 ghost use Rattle.journal.specs.declared.version.Version.TheVariants.{One, Two};
@@ -48,8 +47,10 @@ pub fn open_end<D: Disk>(
     ensures failed_moment { IfErr result (λ e. Told (D.seen disk) (λ b.
         FirstThen D.moment D.left_since disk e.1 (D.may_leave disk) (ReopensAs b))) }
 
-    ensures not_journal { IfErr result (λ e. (at : ℕ) → e.0 ≡ JournalFault.NotJournal at → Told (D.seen disk) (λ b.
-        IsBroken at (picked_leaf b) ⊎ IsUnfit at (picked_leaf b))) }
+    ensures not_journal { IfErr result (λ e. (at : ℕ) → e.0 ≡ JournalFault.NotJournal at
+        → Told (D.seen disk) (λ b. IsNoJournal at (picked_leaf b))) }
+    ensures untouched { IfErr result (λ e. (at : ℕ) → e.0 ≡ JournalFault.NotJournal at
+        → Told (D.seen disk) (λ _. Quiet D.moment D.left_since D.seen D.may_leave disk e.1)) }
     ensures faults { IfErr result (λ e. IsOpeningFault e.0) }
     ensures cause { IfErr result (λ e. IsDisk (D.fault_count disk) (D.fault_count e.1) e.0) }
     ensures tells { IfOk result (λ opened. is_some (D.seen opened.0.disk) ≡ is_some (D.seen disk)) }
@@ -92,7 +93,9 @@ fn bring_up<D: Disk>(
         LeavesOnly D.moment D.left_since journal.old.disk journal.new.disk (ReopensAs b)) }
     ensures not_journal { IfErr result (λ e. (at : ℕ) → e ≡ JournalFault.NotJournal at
         → HasRead D.seen D.may_leave journal.old [] → Told (D.seen journal.old.disk) (λ b.
-        IsBroken at (picked_leaf b) ⊎ IsUnfit at (picked_leaf b))) }
+        IsNoJournal at (picked_leaf b))) }
+    ensures untouched { IfErr result (λ e. (at : ℕ) → e ≡ JournalFault.NotJournal at
+        → Quiet D.moment D.left_since D.seen D.may_leave journal.old.disk journal.new.disk) }
     ensures faults { IfErr result IsOpeningFault }
     ensures cause { IfErr result
         (IsDiskSince (D.fault_count journal.old.disk) (D.fault_count journal.new.disk)) }

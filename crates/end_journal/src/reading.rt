@@ -1,13 +1,13 @@
 //! How the records of a journal are read, and their effects made again.
-ghost use Rattle.std.specs.Prelude.{◌≡◌, ◌⊎◌, ℕ, ◌+◌, ◌≤◌, ◌^◌, List, [], IfErr, IfOk, OnOk, is_some, length, true, false};
-ghost use Rattle.as4_disk.specs.Runs.{LeavesOnly};
+ghost use Rattle.std.specs.Prelude.{◌≡◌, ℕ, ◌+◌, ◌≤◌, ◌^◌, List, [], IfErr, IfOk, OnOk, is_some, length, true, false};
+ghost use Rattle.as4_disk.specs.Runs.{LeavesOnly, Quiet};
 ghost use Rattle.as4_flow.specs.Told.{Told};
 ghost use Rattle.end_journal.specs.Causes.{IsDiskSince};
 ghost use Rattle.end_journal.specs.Reading.{EndsReading, HasReplayedAll, ReadsOn};
 ghost use Rattle.end_records.specs.Records.{RecordLeads, RecordsLead};
-ghost use Rattle.end_records.specs.Unfit.{IsUnfit};
+ghost use Rattle.end_records.specs.Unfit.{IsNoJournal};
 ghost use Rattle.exchange_model.specs.End.{End, empty_end};
-ghost use Rattle.journal.specs.Leaf.{IsBroken, front_of};
+ghost use Rattle.journal.specs.Leaf.{front_of};
 ghost use Rattle.journal.specs.State.{HasRead, IsDisk, IsOpeningFault};
 ghost use Rattle.journal.specs.Store.{Reopens, picked_leaf};
 
@@ -32,7 +32,9 @@ pub(crate) fn read_all<D: Disk>(
         LeavesOnly D.moment D.left_since journal.old.disk journal.new.disk (Reopens b)) }
     ensures not_journal { IfErr result (λ e. (at : ℕ) → e ≡ JournalFault.NotJournal at
         → HasRead D.seen D.may_leave journal.old [] → Told (D.seen journal.old.disk) (λ b.
-        IsBroken at (picked_leaf b) ⊎ IsUnfit at (picked_leaf b))) }
+        IsNoJournal at (picked_leaf b))) }
+    ensures untouched { IfErr result (λ e. (at : ℕ) → e ≡ JournalFault.NotJournal at
+        → Quiet D.moment D.left_since D.seen D.may_leave journal.old.disk journal.new.disk) }
     ensures faults { IfErr result IsOpeningFault }
     ensures cause { IfErr result
         (IsDiskSince (D.fault_count journal.old.disk) (D.fault_count journal.new.disk)) }
@@ -53,6 +55,8 @@ fn replay_next<D: Disk>(
         × (journal.old.gate ≡ length (front_of journal.old.version bodies)) }
     ensures more { IfOk result (λ more. more ≡ true
         → ReadsOn D.seen D.may_leave journal.old journal.new core.old.end core.new.end) }
+    ensures quiet { IfOk result (λ more. more ≡ true
+        → Quiet D.moment D.left_since D.seen D.may_leave journal.old.disk journal.new.disk) }
     ensures done { IfOk result (λ more. more ≡ false
         → EndsReading D.seen D.may_leave journal.old journal.new × (core.new.end ≡ core.old.end)) }
     ensures modes { core.new.modes ≡ core.old.modes }
@@ -62,7 +66,9 @@ fn replay_next<D: Disk>(
     ensures not_journal { IfErr result (λ e. (at : ℕ) → e ≡ JournalFault.NotJournal at
         → (bodies : List (List ℕ)) → HasRead D.seen D.may_leave journal.old bodies
         → RecordsLead bodies empty_end core.old.end → Told (D.seen journal.old.disk) (λ b.
-        IsBroken at (picked_leaf b) ⊎ IsUnfit at (picked_leaf b))) }
+        IsNoJournal at (picked_leaf b))) }
+    ensures untouched { IfErr result (λ e. (at : ℕ) → e ≡ JournalFault.NotJournal at
+        → Quiet D.moment D.left_since D.seen D.may_leave journal.old.disk journal.new.disk) }
     ensures faults { IfErr result IsOpeningFault }
     ensures cause { IfErr result
         (IsDisk (D.fault_count journal.old.disk) (D.fault_count journal.new.disk)) }

@@ -4,3 +4,5 @@ pub mod OpenLemmas
 pub mod UnfitLemmas
 pub mod FoldLemmas
 pub mod BoundLemmas
+pub mod PutLemmas
+pub mod StopLemmas

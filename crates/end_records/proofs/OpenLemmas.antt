@@ -1,11 +1,15 @@
 -- What a disk opens to, from the records that it opens to.
-use Rattle.std.proofs.Common.{◌≡◌, ◌⊎◌, inl, inr, ⊎_elim, ℕ, List, [], ◌∷◌, ◌++◌, Option, refl, sym, subst}
+use Rattle.std.proofs.Common.{◌≡◌, ◌⊎◌, inl, inr, ⊎_elim, ℕ, ◌<◌, List, [], ◌∷◌, ◌++◌, Option, length, take, refl, sym, ap, subst, ◌∙◌}
 use Rattle.as4_disk.specs.Image.{Image}
 use Rattle.exchange_model.specs.End.{End, empty_end}
-use Rattle.journal.specs.Store.{HasPending, OpensSettled, OpensToOneOf, OpensWith as OpensRecordsWith, Reopens}
+use Rattle.journal.specs.Leaf.{front_of, limit_of}
+use Rattle.journal.specs.Store.{HasPending, OpensSettled, OpensToOneOf, OpensWith as OpensRecordsWith, Reopens, picked_leaf}
 use Rattle.journal.specs.declared.journal.Journal.{Journal}
-use Rattle.journal.proofs.JournalLaws.{has_opens}
-use Rattle.end_records.specs.Opens.{IsJournalOf, KeepsEnd, OpensAs, OpensOnly, OpensWith, ReopensAs}
+use Rattle.journal.specs.declared.version.Version.TheVariants.{Two}
+use Rattle.journal.proofs.JournalLaws.{as_two}
+use Rattle.journal.proofs.LeafLemmas.{front_magic, magics_differ}
+use Rattle.journal.proofs.StoreLemmas.{closed_opens, settled_left}
+use Rattle.end_records.specs.Opens.{IsAt, IsJournalOf, IsOld, KeepsEnd, OpensOnly, OpensWith, ReopensAs}
 use Rattle.end_records.specs.Records.{RecordLeads, RecordsLead}
 use Rattle.end_records.proofs.RecordLemmas.{lead_more}
 
@@ -27,21 +31,22 @@ opens_weaker P Q image end implies (bodies, by) = (
   },
 )
 
-pub opens_whole : (P : End → Type 0) (image : Image) (end : End) → OpensWith image end P → OpensAs image end
-opens_whole P image end opens = opens_weaker P (λ next. Unit {0}) image end (λ next is. tt) opens
+-- one record is pending at most
+pub pending_only : (bodies : List (List ℕ)) (body : List ℕ) (end next : End) (image : Image) → RecordsLead bodies empty_end end → RecordLeads body end next
+    → OpensRecordsWith bodies (λ other. other ≡ body) image → OpensWith image end (λ n. n ≡ next)
+pending_only bodies body end next image leads more opens = (
+  bodies,
+  record {
+    records = opens.0;
+    leads = leads;
+    pending = λ other has. (next, subst (λ (b : List ℕ). RecordLeads b end next) (sym (opens.1 other has)) more, refl);
+  },
+)
 
 -- a record is being added
 pub one_of_opens : (bodies : List (List ℕ)) (body : List ℕ) (end next : End) (image : Image) → RecordsLead bodies empty_end end → RecordLeads body end next
     → OpensToOneOf bodies body image → OpensWith image end (λ n. n ≡ next) ⊎ OpensOnly image next
-one_of_opens bodies body end next image leads more (inl without) =
-    inl (
-      bodies,
-      record {
-        records = without.0;
-        leads = leads;
-        pending = λ other has. (next, subst (λ (b : List ℕ). RecordLeads b end next) (sym (without.1 other has)) more, refl);
-      },
-    )
+one_of_opens bodies body end next image leads more (inl without) = inl (pending_only bodies body end next image leads more without)
 one_of_opens bodies body end next image leads more (inr with_it) =
     inr (settled_opens (λ n. ⊥) (bodies ++ body ∷ []) next image (lead_more bodies body empty_end end next leads more) with_it)
 
@@ -69,8 +74,20 @@ reopens_as before after reopens end (bodies, by) =
     ))
     (reopens bodies by.records)
 
--- each crash of the journal of an end opens to the end
+-- a leaf of version 2 isn't one of version 1
+pub not_old : (bodies : List (List ℕ)) (rest : List ℕ) (image : Image) → picked_leaf image ≡ front_of Two bodies ++ rest → IsOld (picked_leaf image) → ⊥
+not_old bodies rest image bytes old =
+    magics_differ (sym (front_magic Two bodies rest) ∙ ap (λ (l : List ℕ). take 8 l) (sym bytes) ∙ old.1)
+
+-- records of version 2 with a gate 0 behind them
+pub is_at : (bodies : List (List ℕ)) (rest : List ℕ) (end : End) (image : Image) → length (front_of Two bodies) < limit_of Two → picked_leaf image ≡ front_of Two bodies ++ 0 ∷ rest → RecordsLead bodies empty_end end → IsAt image end
+is_at bodies rest end image within bytes leads =
+    (settled_opens (λ n. ⊥) bodies end image leads (closed_opens Two bodies rest image within bytes), not_old bodies (0 ∷ rest) image bytes)
+
+-- each crash of the journal of an end is at the end
 pub kept_opens : {D : Type 0} (seen : D → Option Image) (may_leave : D → Image → Type 0) (end : End) (journal : Journal D) → IsJournalOf seen may_leave end journal → KeepsEnd seen may_leave journal.disk end
 kept_opens seen may_leave end journal is image told c left =
     let found = is.records image told in
-    settled_opens (λ n. ⊥) found.0 end c found.2 (has_opens seen may_leave journal found.0 c found.1 left)
+    let has = found.1 in
+    let two = as_two seen may_leave journal found.0 is.version has in
+    is_at found.0 has.rest end c two.2 (settled_left seen may_leave journal.disk journal.is_second (front_of Two found.0 ++ 0 ∷ has.rest) c two.0 left).2 found.2

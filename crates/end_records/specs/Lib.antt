@@ -1,3 +1,4 @@
 pub mod Records
 pub mod Opens
 pub mod Unfit
+pub mod Puts

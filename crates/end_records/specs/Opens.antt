@@ -62,9 +62,14 @@ ReadsAs image end = (bodies : List (List ℕ)) × Lists bodies (picked_leaf imag
 abbrev pub IsOld : List ℕ → Type 0
 IsOld leaf = (9 < length leaf) × (take 8 leaf ≡ magic_of One)
 
--- on a disk that tells, each crash leaves one that opens to this end, with nothing pending
+-- the disk is at this end: it opens to it, nothing is pending, and its leaf isn't of version 1, so that opening it folds
+-- nothing
+abbrev pub IsAt : Image → End → Type 0
+IsAt image end = OpensOnly image end × (IsOld (picked_leaf image) → ⊥)
+
+-- on a disk that tells, each crash leaves one that is at this end
 abbrev pub KeepsEnd : {D : Type 0} → (D → Option Image) → (D → Image → Type 0) → D → End → Type 0
-KeepsEnd seen may_leave disk end = Told (seen disk) (λ _. (c : Image) → may_leave disk c → OpensOnly c end)
+KeepsEnd seen may_leave disk end = Told (seen disk) (λ _. (c : Image) → may_leave disk c → IsAt c end)
 
 -- The journal of an end: of version 2, as long as the end says, and no fold is open. On a disk that tells it has records
 -- that lead to the end.

@@ -1,32 +1,31 @@
 -- What the layer above may cite of a journal's state, and of the images that a crash leaves.
-use Rattle.std.proofs.Common.{◌≡◌, inl, inr, ⊎_elim, ℕ, ◌<◌, List, [], ◌∷◌, ◌++◌, Option, Some, length, sym, ◌∙◌, subst, arith}
+use Rattle.std.proofs.Common.{◌≡◌, inl, inr, ⊎_elim, ℕ, ◌<◌, List, [], ◌∷◌, ◌++◌, Option, Some, length, subst}
 use Rattle.as4_disk.specs.Image.{Image}
 use Rattle.journal.specs.declared.version.Version.{Version}
+use Rattle.journal.specs.declared.version.Version.TheVariants.{Two}
 use Rattle.journal.specs.declared.journal.Journal.{Journal}
-use Rattle.journal.specs.Leaf.{limit_of, front_of, Lists, IsBroken}
+use Rattle.journal.specs.Leaf.{limit_of, front_of, Lists}
 use Rattle.journal.specs.Store.{picked_leaf, HasPending, OpensWith, OpensSettled, Reopens, KeepsLeaf}
+use Rattle.journal.specs.Settled.{IsSettled}
 use Rattle.journal.specs.State.{HasRead, HasRecords}
-use Rattle.journal.proofs.LeafLemmas.{reached}
-use Rattle.journal.proofs.StoreLemmas.{new_none, closed_opens, keeps_records, keeps_pending, settled_told, settled_left}
+use Rattle.journal.proofs.StoreLemmas.{new_none, keeps_records, keeps_pending, settled_told}
 
 -- ---- a journal
 
 module _ {D : Type 0} (seen : D → Option Image) (may_leave : D → Image → Type 0) (journal : Journal D) (bodies : List (List ℕ)) where
-  -- each crash from now on leaves the records, and none is pending
-  pub has_opens : (c : Image) → HasRecords seen may_leave journal bodies → may_leave journal.disk c → OpensSettled bodies c
-  has_opens c has left =
-      closed_opens journal.version bodies has.rest c has.within (settled_left seen may_leave journal.disk journal.is_second (front_of journal.version bodies ++ 0 ∷ has.rest) c has.settled left).2
-
   -- the disk begins with what was read of it
   pub read_front : (b : Image) → HasRead seen may_leave journal bodies → seen journal.disk ≡ Some b → (rest : List ℕ) × (picked_leaf b ≡ front_of journal.version bodies ++ rest) × (length (front_of journal.version bodies) < limit_of journal.version)
   read_front b read told =
       (read.next ∷ read.rest, (settled_told seen may_leave journal.disk journal.is_second (front_of journal.version bodies ++ read.next ∷ read.rest) b read.settled told).2, read.within)
 
--- ---- what keeps the leaf
+-- a journal of version 2
+pub as_two : {D : Type 0} (seen : D → Option Image) (may_leave : D → Image → Type 0) (journal : Journal D) (bodies : List (List ℕ)) → journal.version ≡ Two → (has : HasRecords seen may_leave journal bodies)
+    → IsSettled seen may_leave journal.disk journal.is_second (front_of Two bodies ++ 0 ∷ has.rest) × (journal.gate ≡ length (front_of Two bodies)) × (length (front_of Two bodies) < limit_of Two)
+as_two seen may_leave journal bodies is_two has =
+    let P : Version → Type 0 = λ v. IsSettled seen may_leave journal.disk journal.is_second (front_of v bodies ++ 0 ∷ has.rest) × (journal.gate ≡ length (front_of v bodies)) × (length (front_of v bodies) < limit_of v) in
+    subst P is_two (has.settled, has.place, has.within)
 
-pub keeps_back : (b c : Image) → KeepsLeaf b c → KeepsLeaf c b
-keeps_back b c (inl same) = inl (sym same)
-keeps_back b c (inr new) = inr (new.1, new.0)
+-- ---- what keeps the leaf
 
 -- it keeps the records, and what is pending was pending
 pub keeps_reopens : (b c : Image) → KeepsLeaf b c → Reopens b c
@@ -40,30 +39,10 @@ keeps_then b d c keeps reopens bodies opens =
     (λ (more : (body : List ℕ) × HasPending bodies body d × OpensSettled (bodies ++ body ∷ []) c). inr (more.0, keeps_pending b d keeps bodies more.0 more.1, more.2))
     (reopens bodies (keeps_records b d keeps bodies opens))
 
--- what is no journal after was none before
-pub keeps_broken : (at : ℕ) (b c : Image) → KeepsLeaf b c → IsBroken at (picked_leaf c) → IsBroken at (picked_leaf b)
-keeps_broken at b c (inl same) broken =
-    let P : List ℕ → Type 0 = IsBroken at in
-    subst P same broken
-keeps_broken at b c (inr new) broken = absurd (omega (arith, new.1, broken.0))
-
--- and its list of records was its list
+-- and the list of records that the leaf has it had before
 pub keeps_lists : (bodies : List (List ℕ)) (b c : Image) → KeepsLeaf b c → Lists bodies (picked_leaf c) → Lists bodies (picked_leaf b)
 keeps_lists bodies b c (inl same) lists =
     let P : List ℕ → Type 0 = Lists bodies in
     subst P same lists
 keeps_lists bodies b c (inr new) (inl none) = inl (new.0, none.1)
 keeps_lists bodies b c (inr new) (inr is) = inl (new.0, new_none is.0 bodies is.1 is.2 (picked_leaf c) is.3 new.1)
-
--- and the other way round
-pub keeps_lists_back : (bodies : List (List ℕ)) (b c : Image) → KeepsLeaf b c → Lists bodies (picked_leaf b) → Lists bodies (picked_leaf c)
-keeps_lists_back bodies b c keeps = keeps_lists bodies c b (keeps_back b c keeps)
-
--- ---- what was read
-
--- the records that a leaf begins with are the first of its list
-pub listed_front : (version : Version) (read all : List (List ℕ)) (x leaf : List ℕ) → leaf ≡ front_of version read ++ x → length (front_of version read) < limit_of version → 9 < length leaf → Lists all leaf → (more : List (List ℕ)) × (all ≡ read ++ more)
-listed_front version read all x leaf begins within long (inl none) = absurd (omega (arith, long, none.0))
-listed_front version read all x leaf begins within long (inr (w, gate, rest, is)) =
-    let found = reached version w read all x gate rest within is.within is.closed (sym begins ∙ is.bytes) in
-    (found.1, found.2)

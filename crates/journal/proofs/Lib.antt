@@ -10,3 +10,4 @@ pub mod OtherLemmas
 pub mod JournalLaws
 pub mod LoopLemmas
 pub mod BrokenLemmas
+pub mod CallLemmas

@@ -1,10 +1,10 @@
 -- The leaf that isn't picked.
-use Rattle.std.proofs.Common.{◌≡◌, ◌≢◌, inl, inr, ℕ, ◌+◌, Bool, true, false, not, is_some, List, [], ◌∷◌, ◌++◌, Option, Some, length, drop, refl, sym, ◌∙◌, ap, subst, arith}
+use Rattle.std.proofs.Common.{◌≡◌, ◌≢◌, inl, inr, ℕ, ◌+◌, Bool, true, false, not, is_some, List, ◌++◌, Option, Some, length, drop, sym, ◌∙◌, ap, subst, arith}
 use Rattle.as4_disk.specs.declared.part.Part.{Part}
 use Rattle.as4_disk.specs.declared.part.Part.TheVariants.{Selector}
 use Rattle.as4_disk.specs.Bytes.{overwritten}
 use Rattle.as4_disk.specs.Image.{Image, On}
-use Rattle.std.proofs.lemmas.List.{take_all, drop_all}
+use Rattle.std.proofs.lemmas.List.{append-nil, take_all, drop_all}
 use Rattle.as4_disk.specs.Runs.{Goes, Follows, FirstThen}
 use Rattle.as4_disk.proofs.RunLemmas.{weaken}
 use Rattle.as4_disk.proofs.ImageLemmas.{only_elsewhere}
@@ -59,11 +59,7 @@ pub extended : (at : ℕ) (bytes other : List ℕ) → at ≡ length other → o
 extended at bytes other place =
     ap (λ (l : List ℕ). l ++ bytes ++ drop (at + length bytes) other) (take_all at other (omega (arith, place)))
     ∙ ap (λ (l : List ℕ). other ++ bytes ++ l) (drop_all (at + length bytes) other (omega (arith, place)))
-    ∙ nothing (other ++ bytes)
-  where
-    nothing : (l : List ℕ) → l ++ [] ≡ l
-    nothing [] = refl
-    nothing (x ∷ l) = ap (λ (k : List ℕ). x ∷ k) (nothing l)
+    ∙ append-nil (other ++ bytes)
 
 -- runs of two kinds, said weaker
 pub first_weaken : {D X : Type 0} (moment : D → ℕ) (left_since : D → ℕ → X → Type 0) (old new : D) (P Q R S : X → Type 0) → ((c : X) → P c → R c) → ((c : X) → Q c → S c) → FirstThen moment left_since old new P Q → FirstThen moment left_since old new R S

@@ -2,6 +2,7 @@
 use Rattle.std.proofs.Common.{◌≡◌, ◌≢◌, ◌⊎◌, inl, inr, ⊎_elim, ℕ, ◌<◌, Bool, true, false, is_some, List, [], ◌∷◌, ◌++◌, Option, Some, None, length, drop, get_or, refl, sym, ◌∙◌, ap, subst, arith, append_assoc, length-append}
 use Rattle.std.specs.Prelude.{flat_map}
 use Rattle.std.proofs.lemmas.Bool.{cases_eq}
+use Rattle.std.proofs.lemmas.List.{append-nil}
 use Rattle.as4_disk.specs.declared.part.Part.{Part}
 use Rattle.as4_disk.specs.declared.part.Part.TheVariants.{Selector}
 use Rattle.as4_disk.specs.Bytes.{IsOverwritten, Torn}
@@ -33,18 +34,14 @@ new_none version (body ∷ bodies) gate rest leaf is new =
       length-append (record_of version body) [],
     ))
 
-nothing : (bodies : List (List ℕ)) → bodies ++ [] ≡ bodies
-nothing [] = refl
-nothing (body ∷ bodies) = ap (λ (l : List (List ℕ)). body ∷ l) (nothing bodies)
-
 -- of one leaf
 pub one_leaf : (v w : Version) (read all : List (List ℕ)) (g h : ℕ) (x y leaf : List ℕ) → IsLeaf v read g x leaf → IsLeaf w all h y leaf → (v ≡ w) × (read ≡ all) × (g ≡ h) × (x ≡ y)
 one_leaf v w read all g h x y leaf first other =
     let found = reached v w read all (g ∷ x) h y first.within other.within other.closed (sym first.bytes ∙ other.bytes) in
-    none found.1 found.0 found.2 found.3
+    none found.1.0 found.0 found.1.1 found.1.2
   where
     none : (more : List (List ℕ)) → v ≡ w → all ≡ read ++ more → g ∷ x ≡ flat_map (record_of v) more ++ h ∷ y → (v ≡ w) × (read ≡ all) × (g ≡ h) × (x ≡ y)
-    none [] versions bodies same = (versions, sym (bodies ∙ nothing read), ap (λ (l : List ℕ). get_or l 0 0) same, ap (λ (l : List ℕ). drop 1 l) same)
+    none [] versions bodies same = (versions, sym (bodies ∙ append-nil read), ap (λ (l : List ℕ). get_or l 0 0) same, ap (λ (l : List ℕ). drop 1 l) same)
     none (body ∷ more) versions bodies same =
         absurd (first.closed (ap (λ (l : List ℕ). get_or l 0 0) (same ∙ append_assoc (record_of v body) (flat_map (record_of v) more) (h ∷ y) ∙ record_at v body (flat_map (record_of v) more ++ h ∷ y))))
 
@@ -107,7 +104,7 @@ closed_opens version bodies rest image within bytes =
     (inr (version, 0, rest, here, inl refl), λ body has. (pending_here version bodies 0 rest body image here has).0 refl)
 
 -- a whole record behind a closed gate is pending, and no other is
-pending_opens : (version : Version) (bodies : List (List ℕ)) (body rest : List ℕ) (gate : ℕ) (image : Image) → IsLeaf version bodies gate rest (picked_leaf image) → IsPending version bodies body rest → OpensWith bodies (λ other. other ≡ body) image
+pub pending_opens : (version : Version) (bodies : List (List ℕ)) (body rest : List ℕ) (gate : ℕ) (image : Image) → IsLeaf version bodies gate rest (picked_leaf image) → IsPending version bodies body rest → OpensWith bodies (λ other. other ≡ body) image
 pending_opens version bodies body rest gate image here pending = (
   inr (version, gate, rest, here, inr (body, pending)),
   λ other has. one_pending version bodies other body rest (pending_here version bodies gate rest other image here has).1 pending,
@@ -188,6 +185,17 @@ pub tells_some : (o : Option Image) → is_some o ≡ true → (image : Image) �
 tells_some (Some image) is = (image, refl)
 tells_some None is = absurd cc
 
+-- a call on the picked leaf changes its bytes, and the same leaf is picked
+pub picked_on : (part : Part) (is_second : Bool) (step : List ℕ → List ℕ → Type 0) (c d : Image) → part ≡ leaf_of is_second → is_second_of c ≡ is_second → On part step c d → (is_second_of d ≡ is_second) × step (picked_leaf c) (picked_leaf d)
+picked_on part is_second step c d is_part picked on =
+    let P : Part → Type 0 = λ p. Selector ≢ p in
+    let other : Selector ≢ part = subst P (sym is_part) (leaf_not_selector is_second) in
+    let still : is_second_of d ≡ is_second = ap picks (on.elsewhere Selector other) ∙ picked in
+    let was : c part ≡ picked_leaf c = ap c is_part ∙ sym (picked_at c is_second picked) in
+    let now : d part ≡ picked_leaf d = ap d is_part ∙ sym (picked_at d is_second still) in
+    let Q : List ℕ → Type 0 = λ l. step l (d part) in
+    (still, subst (step (picked_leaf c)) now (subst Q was on.there))
+
 module _ {D : Type 0} (seen : D → Option Image) (may_leave : D → Image → Type 0) where
   -- what a read gives is what is settled
   pub settled_told : (disk : D) (is_second : Bool) (leaf : List ℕ) (image : Image) → IsSettled seen may_leave disk is_second leaf → seen disk ≡ Some image → (is_second_of image ≡ is_second) × (image (leaf_of is_second) ≡ leaf) × (picked_leaf image ≡ leaf)
@@ -238,11 +246,6 @@ module _ {D : Type 0} (seen : D → Option Image) (may_leave : D → Image → T
   -- and what a crash leaves in the middle of it
   pub torn_picked : (old : D) (part : Part) (is_second : Bool) (at n : ℕ) (leaf : List ℕ) (c : Image) → part ≡ leaf_of is_second → IsSettled seen may_leave old is_second leaf → TornFrom part at n (may_leave old) c → Torn at n leaf (picked_leaf c)
   torn_picked old part is_second at n leaf c is_part is from =
-      let P : Part → Type 0 = λ p. Selector ≢ p in
-      let other : Selector ≢ part = subst P (sym is_part) (leaf_not_selector is_second) in
       let was = settled_left old is_second leaf from.0 is from.1 in
-      let picked : is_second_of c ≡ is_second = ap picks (from.2.elsewhere Selector other) ∙ was.0 in
-      let there : c part ≡ picked_leaf c = ap c is_part ∙ sym (picked_at c is_second picked) in
-      let Q : List ℕ → Type 0 = λ l. Torn at n l (c part) in
-      let R : List ℕ → Type 0 = λ l. Torn at n leaf l in
-      subst R there (subst Q (ap from.0 is_part ∙ was.1) from.2.there)
+      let P : List ℕ → Type 0 = λ l. Torn at n l (picked_leaf c) in
+      subst P was.2 (picked_on part is_second (Torn at n) from.0 c is_part was.0 from.2).1

@@ -4,3 +4,4 @@ pub mod Store
 pub mod Settled
 pub mod State
 pub mod Passing
+pub mod Calls

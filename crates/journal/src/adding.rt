@@ -1,7 +1,7 @@
 //! How a record is appended.
-ghost use Rattle.std.specs.Prelude.{◌≡◌, ◌+◌, ◌<◌, ◌≤◌, ◌^◌, ◌++◌, [], ◌∷◌, List, ℕ, IfOk, IfErr, OnOk, IsErr, IsNone, length, is_some};
+ghost use Rattle.std.specs.Prelude.{◌≡◌, ◌+◌, ◌<◌, ◌≤◌, ◌^◌, ◌++◌, [], ◌∷◌, List, ℕ, IfOk, IfErr, OnOk, IsErr, IsNone, length, is_ok, is_some};
 ghost use Rattle.as4_flow.specs.Told.{Told};
-ghost use Rattle.as4_disk.specs.Runs.{LeavesOnly};
+ghost use Rattle.as4_disk.specs.Runs.{LeavesOnly, MakesAll};
 
 use crate::store::add_record;
 use crate::version::Version;
@@ -9,7 +9,8 @@ use crate::{Frame, Journal, JournalFault};
 use as4_disk::{Disk, DiskFailed};
 
 impl<D: Disk> Journal<D> {
-    ghost use Rattle.journal.specs.Store.{OpensToOneOf};
+    ghost use Rattle.journal.specs.Calls.{record_calls};
+    ghost use Rattle.journal.specs.Store.{OpensToOneOf, leaf_of};
     ghost use Rattle.journal.specs.State.{HasRecords, IsDisk, IsAppendFault};
 
     /// Appends a record, and answers the place of its gate. All records have been read, the leaf has version 2, and no
@@ -24,6 +25,9 @@ impl<D: Disk> Journal<D> {
             → HasRecords D.seen D.may_leave self.new (bodies ++ frame.now ∷ [])) }
         ensures any_moment { (bodies : _) → HasRecords D.seen D.may_leave self.old bodies
             → LeavesOnly D.moment D.left_since self.old.disk self.new.disk (OpensToOneOf bodies frame.now) }
+        ensures calls { self.old.gate + 1 + (length frame.now + 9) ≤ 2 ^ 32 → MakesAll D.makes
+            (record_calls (leaf_of self.old.is_second) self.old.gate frame.now)
+            self.old.disk self.new.disk (is_ok result) }
         ensures kept { (self.new.version ≡ self.old.version) × (self.new.fold ≡ self.old.fold) }
         ensures gate { IfOk result (λ gate. gate ≡ self.old.gate) }
         ensures grows { OnOk result (self.new.gate ≡ self.old.gate + (length frame.now + 9)) }

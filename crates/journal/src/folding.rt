@@ -15,6 +15,8 @@ impl<D: Disk> Journal<D> {
     /// Opens a fold, which has no records yet. All records have been read, and no call has answered Disk. It takes no
     /// memory.
     pub fn fold_start(&mut self) -> Result<(), JournalFault>
+        requires settled { Told (D.seen self.old.disk) (λ _. (bodies : List (List ℕ))
+            × HasRecords D.seen D.may_leave self.old bodies) }
         requires no_fold { IsNone self.old.fold }
         ensures open { OnOk result ((bodies : _) → HasRecords D.seen D.may_leave self.old bodies
             → HasFold D.seen D.may_leave self.new bodies []) }

@@ -7,7 +7,7 @@
 //! gate is opened; so a crash leaves the records before it, and this one or not.
 ghost use Rattle.std.specs.Prelude.{◌≡◌, ◌+◌, ◌<◌, ◌≤◌, ◌^◌, [], ◌++◌, ◌∷◌, IfOk, IfErr, IsNone, unwrap_or, is_some};
 ghost use Rattle.as4_flow.specs.Told.{Told};
-ghost use Rattle.as4_disk.specs.Runs.{FirstThen};
+ghost use Rattle.as4_disk.specs.Runs.{FirstThen, Quiet};
 
 use crate::JournalFault;
 use crate::starting::start;
@@ -33,7 +33,7 @@ pub struct Journal<D> {
 }
 
 impl<D: Disk> Journal<D> {
-    ghost use Rattle.journal.specs.Leaf.{number_of, IsBroken};
+    ghost use Rattle.journal.specs.Leaf.{number_of, IsBroken, IsNew};
     ghost use Rattle.journal.specs.Store.{KeepsLeaf, picked_leaf};
     ghost use Rattle.journal.specs.State.{HasRead, IsDisk, IsOpeningFault};
 
@@ -54,6 +54,13 @@ impl<D: Disk> Journal<D> {
 
         ensures not_journal { IfErr result (λ e. (at : _) → e.0 ≡ JournalFault.NotJournal at
             → (at ≡ 0) × Told (D.seen disk) (λ b. IsBroken 0 (picked_leaf b))) }
+
+        // Nothing was written, unless the leaf was a new one.
+        ensures quiet { IfOk result (λ j. Told (D.seen disk) (λ b. (IsNew (picked_leaf b) → ⊥)
+            → Quiet D.moment D.left_since D.seen D.may_leave disk j.disk)) }
+        ensures untouched { IfErr result (λ e. (at : _) → e.0 ≡ JournalFault.NotJournal at
+            → Quiet D.moment D.left_since D.seen D.may_leave disk e.1) }
+
         ensures faults { IfErr result (λ e. IsOpeningFault e.0) }
         ensures cause { IfErr result (λ e. IsDisk (D.fault_count disk) (D.fault_count e.1) e.0) }
         ensures tells { IfOk result (λ j. is_some (D.seen j.disk) ≡ is_some (D.seen disk)) }

@@ -1,7 +1,7 @@
 //! The records of a journal, read one after the other, and one of them by its gate.
 ghost use Rattle.std.specs.Prelude.{◌≡◌, ◌+◌, ◌<◌, ◌≤◌, ◌^◌, ◌++◌, [], ◌∷◌, IfOk, IfErr, IfSome, IfNone, OnErr, IsErrOf, length, is_some};
 ghost use Rattle.as4_flow.specs.Told.{Told};
-ghost use Rattle.as4_disk.specs.Runs.{LeavesOnly};
+ghost use Rattle.as4_disk.specs.Runs.{LeavesOnly, Quiet};
 
 use crate::passing::pass;
 use crate::reading::Next;
@@ -39,6 +39,12 @@ impl<D: Disk> Journal<D> {
         ensures not_journal { IfErr result (λ e. (at : _) → e ≡ JournalFault.NotJournal at
             → (at ≡ self.old.gate) × ((bodies : _) → HasRead D.seen D.may_leave self.old bodies
             → Told (D.seen self.old.disk) (λ b. IsBroken at (picked_leaf b)))) }
+        // Nothing was written.
+        ensures quiet { IfOk result (λ next. IfSome next (λ _.
+            Quiet D.moment D.left_since D.seen D.may_leave self.old.disk self.new.disk)) }
+        ensures untouched { IfErr result (λ e. (at : _) → e ≡ JournalFault.NotJournal at
+            → Quiet D.moment D.left_since D.seen D.may_leave self.old.disk self.new.disk) }
+
         ensures starved { IsErrOf result JournalFault.NoMemory
             → (bodies : _) → HasRead D.seen D.may_leave self.old bodies → HasRead D.seen D.may_leave self.new bodies }
         ensures not_passed { OnErr result (self.new.gate ≡ self.old.gate) }

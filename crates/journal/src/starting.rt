@@ -3,7 +3,7 @@ ghost use Rattle.std.specs.Prelude.{◌≡◌, ◌≤◌, ◌++◌, [], IfOk, If
 ghost use Rattle.as4_flow.specs.Told.{Told};
 ghost use Rattle.as4_flow.specs.Faults.{Rose};
 ghost use Rattle.as4_disk.specs.Runs.{FirstThen, LeavesOnly, Quiet};
-ghost use Rattle.journal.specs.Leaf.{magic_of, IsBroken};
+ghost use Rattle.journal.specs.Leaf.{magic_of, IsBroken, IsNew};
 ghost use Rattle.journal.specs.Store.{KeepsLeaf, picked_leaf, picks, is_second_of};
 ghost use Rattle.journal.specs.Settled.{IsSettled, IsStart};
 
@@ -26,6 +26,10 @@ pub(crate) fn start<D: Disk>(
     ensures read { IfOk result (λ found. IfSome found (λ s. Told (D.seen disk.old) (λ b.
         IsStart D.seen D.may_leave disk.new s.0 s.1 × Told (D.seen disk.new) (KeepsLeaf b)))) }
     ensures none { IfOk result (λ found. IfNone found (Told (D.seen disk.old) (λ b. IsBroken 0 (picked_leaf b)))) }
+    ensures quiet { IfOk result (λ found. IfSome found (λ _. Told (D.seen disk.old) (λ b. (IsNew (picked_leaf b) → ⊥)
+        → Quiet D.moment D.left_since D.seen D.may_leave disk.old disk.new))) }
+    ensures untouched { IfOk result (λ found. IfNone found
+        (Quiet D.moment D.left_since D.seen D.may_leave disk.old disk.new)) }
 
     ensures any_moment { Told (D.seen disk.old) (λ b.
         FirstThen D.moment D.left_since disk.old disk.new (D.may_leave disk.old) (KeepsLeaf b)) }
@@ -92,6 +96,11 @@ fn known<D: Disk>(
         → IsStart D.seen D.may_leave disk.new is_second version × Told (D.seen disk.new) (KeepsLeaf b)))) }
     ensures none { IfOk result (λ found. IfNone found ((leaf : List ℕ)
         → IsSettled D.seen D.may_leave disk.old is_second leaf → IsBroken 0 leaf)) }
+    ensures quiet { IfOk result (λ found. IfSome found (λ _. (leaf : List ℕ) → Told (D.seen disk.old) (λ _.
+        IsSettled D.seen D.may_leave disk.old is_second leaf → (IsNew leaf → ⊥)
+        → Quiet D.moment D.left_since D.seen D.may_leave disk.old disk.new))) }
+    ensures untouched { IfOk result (λ found. IfNone found
+        (Quiet D.moment D.left_since D.seen D.may_leave disk.old disk.new)) }
 
     ensures any_moment { (leaf : List ℕ) → Told (D.seen disk.old) (λ b.
         IsSettled D.seen D.may_leave disk.old is_second leaf

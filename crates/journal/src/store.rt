@@ -1,8 +1,10 @@
 //! What a journal does to its disk: writes to the picked leaf that are durable once they have answered.
-ghost use Rattle.std.specs.Prelude.{◌≡◌, ℕ, ◌+◌, ◌<◌, ◌≤◌, ◌^◌, List, [], ◌∷◌, ◌++◌, length, drop, OnOk, is_some};
+ghost use Rattle.std.specs.Prelude.{◌≡◌, ℕ, ◌+◌, ◌<◌, ◌≤◌, ◌^◌, List, [], ◌∷◌, ◌++◌, length, drop, OnOk, is_ok, is_some};
 ghost use Rattle.as4_flow.specs.Told.{Told};
 ghost use Rattle.as4_disk.specs.Bytes.{Torn};
-ghost use Rattle.as4_disk.specs.Runs.{LeavesOnly, HasCause};
+ghost use Rattle.as4_disk.specs.Runs.{LeavesOnly, HasCause, MakesAll};
+ghost use Rattle.as4_disk.specs.declared.change.Change.TheVariants.{Synced, Wrote};
+ghost use Rattle.journal.specs.Calls.{record_calls};
 ghost use Rattle.journal.specs.Store.{leaf_of, picked_leaf, OpensToOneOf};
 ghost use Rattle.journal.specs.Leaf.{front_of, limit_of};
 ghost use Rattle.journal.specs.Settled.{IsSettled};
@@ -33,6 +35,8 @@ pub(crate) fn write_picked<D: Disk>(
     ensures any_moment { (leaf : List ℕ) → IsSettled D.seen D.may_leave disk.old is_second leaf
         → LeavesOnly D.moment D.left_since disk.old disk.new
         (λ c. Torn at (length bytes.now) leaf (picked_leaf c)) }
+    ensures calls { MakesAll D.makes (Wrote (leaf_of is_second) at bytes.now ∷ Synced (leaf_of is_second) ∷ [])
+        disk.old disk.new (is_ok result) }
     ensures tells { is_some (D.seen disk.new) ≡ is_some (D.seen disk.old) }
     ensures cause { HasCause (D.fault_count disk.old) (D.fault_count disk.new) result }
 {
@@ -58,6 +62,8 @@ pub(crate) fn add_record<D: Disk>(
         → length (front_of Version.Two (bodies ++ frame.now ∷ [])) < limit_of Version.Two
         → IsSettled D.seen D.may_leave disk.old is_second (front_of Version.Two bodies ++ 0 ∷ rest)
         → LeavesOnly D.moment D.left_since disk.old disk.new (OpensToOneOf bodies frame.now) }
+    ensures calls { MakesAll D.makes (record_calls (leaf_of is_second) gate frame.now)
+        disk.old disk.new (is_ok result) }
     ensures tells { is_some (D.seen disk.new) ≡ is_some (D.seen disk.old) }
     ensures cause { HasCause (D.fault_count disk.old) (D.fault_count disk.new) result }
 {

@@ -12,7 +12,10 @@ use Rattle.exchange_model.specs.declared.event.Event.{Event}
 use Rattle.exchange_model.specs.declared.outcome.Outcome.{Outcome}
 use Rattle.exchange_model.specs.declared.reply.Reply.{Reply}
 use Rattle.exchange_model.specs.declared.reply.Reply.TheVariants.{Stopped}
+use Rattle.as4_disk.specs.Image.{Image}
+use Rattle.end_records.specs.Opens.{IsAt}
 use Rattle.office.specs.Calls.{IsRefusedAt, Leads, stop_of}
+use Rattle.office.specs.Left.{IsLeft}
 use Rattle.office.specs.declared.call.Call.{Call}
 use Rattle.office.specs.declared.call.Call.TheVariants.{Done, Folded, Stop}
 use Rattle.office.specs.declared.call.Halt.{Halt}
@@ -30,6 +33,32 @@ stop_kept [] call halt stopped = absurd cc
 stop_kept (Done event reply ∷ calls) call halt stopped = stop_kept calls call halt stopped
 stop_kept (Folded size ∷ calls) call halt stopped = stop_kept calls call halt stopped
 stop_kept (Stop event at ∷ calls) call halt stopped = stopped
+
+-- ---- what a crash leaves
+
+-- without a fault among the calls it is the end
+pub left_going : (modes : List Mode) (end : End) (calls : List Call) (image : Image) → stop_of calls ≡ None → IsAt image end → IsLeft modes end calls image
+left_going modes end [] image going here = here
+left_going modes end (Done event reply ∷ calls) image going here = left_going modes end calls image going here
+left_going modes end (Folded size ∷ calls) image going here = left_going modes end calls image going here
+left_going modes end (Stop event halt ∷ calls) image going here = absurd cc
+
+-- behind them the next call says what it is
+pub left_more : (modes : List Mode) (end : End) (calls : List Call) (call : Call) (image : Image) → stop_of calls ≡ None → IsLeft modes end (call ∷ []) image → IsLeft modes end (calls ++ call ∷ []) image
+left_more modes end [] call image going left = left
+left_more modes end (Done event reply ∷ calls) call image going left = left_more modes end calls call image going left
+left_more modes end (Folded size ∷ calls) call image going left = left_more modes end calls call image going left
+left_more modes end (Stop event halt ∷ calls) call image going left = absurd cc
+
+-- behind a fault it stays what it was
+pub left_kept : (modes : List Mode) (end : End) (calls : List Call) (call : Call) (halt : Halt) (image : Image) → stop_of calls ≡ Some halt → IsLeft modes end calls image → IsLeft modes end (calls ++ call ∷ []) image
+left_kept modes end [] call halt image stopped left = absurd cc
+left_kept modes end (Done event reply ∷ calls) call halt image stopped left = left_kept modes end calls call halt image stopped left
+left_kept modes end (Folded size ∷ calls) call halt image stopped left = left_kept modes end calls call halt image stopped left
+left_kept modes end (Stop (Some event) at ∷ calls) call halt image stopped left = left
+left_kept modes end (Stop None at ∷ calls) call halt image stopped left = left
+
+-- ---- what the calls lead to
 
 pub leads_more : (modes : List Mode) (calls : List Call) (call : Call) (start end next : End) → stop_of calls ≡ None → Leads modes start calls end
     → Leads modes end (call ∷ []) next → Leads modes start (calls ++ call ∷ []) next

@@ -1,6 +1,9 @@
 pub mod CallLemmas
+pub mod HistoryLemmas
 pub mod FoldLemmas
 pub mod WritingLemmas
 pub mod SmallLemmas
 pub mod StateLemmas
+pub mod HandlingLemmas
 pub mod StepLemmas
+pub mod DrillLemmas

@@ -1,5 +1,5 @@
 -- The records of ticks and confirmations.
-use Rattle.std.proofs.Common.{◌≡◌, ℕ, ◌<◌, ◌^◌, List, [], ◌∷◌, None, true, nat_le, nat_lt, length, refl, sym, ap, ◌∙◌, arith}
+use Rattle.std.proofs.Common.{◌≡◌, ◌≢◌, ℕ, ◌<◌, ◌^◌, List, [], ◌∷◌, None, true, nat_le, nat_lt, length, refl, sym, ap, ◌∙◌, arith}
 use Rattle.std.specs.Prelude.{◌&&◌}
 use Rattle.std.proofs.lemmas.Bool.{le-leb, lt-ltb}
 use Rattle.as4_effects.specs.Effects.{effects_body}
@@ -11,8 +11,6 @@ use Rattle.exchange_model.specs.Apply.{applied, first_unfit, is_fit}
 use Rattle.exchange_model.specs.End.{End}
 use Rattle.exchange_model.specs.declared.outcome.Outcome.{Outcome}
 use Rattle.msh_core.specs.Small.{CanGo, StandsFor}
-use Rattle.exchange_model.specs.declared.reply.Reply.{Reply}
-use Rattle.msh_core.specs.declared.small.SmallPlan.{SmallPlan}
 use Rattle.msh_core.specs.declared.small.SmallPlan.TheVariants as plan
 use Rattle.end_records.specs.Records.{IsBodyOf, RecordLeads}
 
@@ -39,18 +37,12 @@ confirm_leads upto body end outcome small bytes goes is =
     let fits : (nat_le end.confirmed upto && nat_lt upto (length end.inbox)) ≡ true = rw (first, next) refl in
     alone_leads (effect.Confirmed upto) body end outcome small bytes fits (ap (λ (o : Outcome). o.effects) is)
 
-pub rest_leads : (end : End) (outcome : Outcome) → outcome.effects ≡ [] → end ≡ applied outcome.effects end
-unfolding applied
-rest_leads end outcome none = let same : end ≡ applied [] end = refl in same ∙ ap (λ (effects : List Effect). applied effects end) (sym none)
+some : (e : Effect) → e ∷ [] ≡ [] → ⊥
+some e same = cc
 
--- a plan without effects rests
-pub rests_only : (p : SmallPlan) (end : End) (outcome : Outcome) → StandsFor end p outcome → outcome.effects ≡ [] → (r : Reply) × (p ≡ plan.Rest r)
-rests_only (plan.Tick moment) end outcome (tick, same, is) none = absurd (some (effect.Ticked tick) (sym (ap (λ (o : Outcome). o.effects) is) ∙ none))
-  where
-    some : (e : Effect) → e ∷ [] ≡ [] → ⊥
-    some e same = cc
-rests_only (plan.Confirm upto) end outcome is none = absurd (some (effect.Confirmed upto) (sym (ap (λ (o : Outcome). o.effects) is) ∙ none))
-  where
-    some : (e : Effect) → e ∷ [] ≡ [] → ⊥
-    some e same = cc
-rests_only (plan.Rest r) end outcome is none = (r, refl)
+-- a plan that doesn't rest has effects
+pub tick_some : (moment : ℕ) (end : End) (outcome : Outcome) → StandsFor end (plan.Tick moment) outcome → outcome.effects ≢ []
+tick_some moment end outcome (tick, same, is) none = some (effect.Ticked tick) (sym (ap (λ (o : Outcome). o.effects) is) ∙ none)
+
+pub confirm_some : (upto : ℕ) (end : End) (outcome : Outcome) → StandsFor end (plan.Confirm upto) outcome → outcome.effects ≢ []
+confirm_some upto end outcome is none = some (effect.Confirmed upto) (sym (ap (λ (o : Outcome). o.effects) is) ∙ none)

@@ -4,6 +4,8 @@ use Rattle.std.specs.Prelude.{IfSome}
 use Rattle.as4_disk.specs.Image.{Image}
 use Rattle.as4_disk.specs.Runs.{LeavesOnly}
 use Rattle.as4_disk.proofs.RunLemmas.{weaken}
+use Rattle.as4_flow.specs.Faults.{Rose}
+use Rattle.as4_flow.specs.Told.{Told}
 use Rattle.as4_values.specs.declared.mode.Mode.{Mode}
 use Rattle.exchange_model.specs.Apply.{applied}
 use Rattle.exchange_model.specs.End.{End}
@@ -16,11 +18,11 @@ use Rattle.end_records.specs.Opens.{IsFoldedOf, IsJournalOf, KeepsEnd, OpensFold
 use Rattle.end_records.proofs.OpenLemmas.{kept_opens, opens_weaker}
 use Rattle.office.specs.Calls.{stop_of}
 use Rattle.office.specs.State.{IsInOrder}
-use Rattle.office.specs.Steps.{IsStepTo, OpensBeforeOrAfter}
+use Rattle.office.specs.Left.{IsLeft, IsStepTo, OpensBeforeOrAfter}
 use Rattle.office.specs.declared.call.Call.{Call}
 use Rattle.office.specs.declared.call.Call.TheVariants.{Done, Stop}
 use Rattle.office.specs.declared.call.Halt.{Halt}
-use Rattle.office.proofs.CallLemmas.{stop_kept, stop_more}
+use Rattle.office.proofs.CallLemmas.{left_going, left_kept, left_more, stop_kept, stop_more}
 use Rattle.office.proofs.WritingLemmas.{no_write}
 
 pub none_of : {X : Type 0} (o : Option X) → ((x : X) → o ≡ Some x → ⊥) → o ≡ None
@@ -28,43 +30,57 @@ none_of None none = refl
 none_of (Some x) none = absurd (none x refl)
 
 module _ {D : Type 0} (seen : D → Option Image) (may_leave : D → Image → Type 0) (fault_count : D → ℕ) where
-  module _ (journal : Journal D) (end : End) (halt : Option Halt) (list : List Call) (order : IsInOrder seen may_leave fault_count journal end halt list) where
+  module _ (journal : Journal D) (end : End) (modes : List Mode) (halt : Option Halt) (list : List Call) (order : IsInOrder seen may_leave fault_count journal end modes halt list) where
     -- without a fault among the calls each crash leaves the end
     pub order_keeps : stop_of list ≡ None → KeepsEnd seen may_leave journal.disk end
     order_keeps going = kept_opens seen may_leave end journal (order.kept (order.halted ∙ going))
 
+    no_halt : (after : Journal D) → halt ≡ None → IfSome halt (λ at. Rose at.before at.after × (at.after ≤ fault_count after.disk))
+    no_halt after going =
+        subst (λ (h : Option Halt). IfSome h (λ at. Rose at.before at.after × (at.after ≤ fault_count after.disk))) (sym going) tt
+
     -- a call that isn't a fault
     pub order_goes : (after : Journal D) (next : End) (more : List Call) (call : Call) → halt ≡ None → more ≡ list ++ call ∷ [] → stop_of (call ∷ []) ≡ None
-        → IsJournalOf seen may_leave next after → IsInOrder seen may_leave fault_count after next halt more
-    order_goes after next more call going is plain kept = record {
-      halted = going ∙ sym (ap stop_of is ∙ stop_more list call (sym order.halted ∙ going) ∙ plain);
-      kept = λ same. kept;
-      counted = subst (λ (h : Option Halt). IfSome h (λ at. at.after ≤ fault_count after.disk)) (sym going) tt;
-    }
+        → IsJournalOf seen may_leave next after → IsInOrder seen may_leave fault_count after next modes halt more
+    order_goes after next more call going is plain kept =
+        let goes : stop_of more ≡ None = ap stop_of is ∙ stop_more list call (sym order.halted ∙ going) ∙ plain in
+        record {
+          halted = going ∙ sym goes;
+          kept = λ same. kept;
+          left = λ image told c may. left_going modes next more c goes (kept_opens seen may_leave next after kept image told c may);
+          counted = no_halt after going;
+        }
 
     -- nothing but the disk has changed
-    pub order_stays : (after : Journal D) (next : End) → halt ≡ None → IsJournalOf seen may_leave next after → IsInOrder seen may_leave fault_count after next halt list
-    order_stays after next going kept = record {
+    pub order_stays : (after : Journal D) → halt ≡ None → IsJournalOf seen may_leave end after → IsInOrder seen may_leave fault_count after end modes halt list
+    order_stays after going kept = record {
       halted = order.halted;
       kept = λ same. kept;
-      counted = subst (λ (h : Option Halt). IfSome h (λ at. at.after ≤ fault_count after.disk)) (sym going) tt;
+      left = λ image told c may. left_going modes end list c (sym order.halted ∙ going) (kept_opens seen may_leave end after kept image told c may);
+      counted = no_halt after going;
     }
 
     -- the disk failed
     pub order_stops : (after : Journal D) (more : List Call) (event : Option Event) (at : Halt) → halt ≡ None → more ≡ list ++ Stop event at ∷ []
-        → at.after ≡ fault_count after.disk → IsInOrder seen may_leave fault_count after end (Some at) more
-    order_stops after more event at going is count = record {
+        → Rose at.before at.after → at.after ≡ fault_count after.disk
+        → Told (seen after.disk) (λ _. (c : Image) → may_leave after.disk c → IsLeft modes end (Stop event at ∷ []) c)
+        → IsInOrder seen may_leave fault_count after end modes (Some at) more
+    order_stops after more event at going is rose count left = record {
       halted = sym (ap stop_of is ∙ stop_more list (Stop event at) (sym order.halted ∙ going));
       kept = λ same. absurd cc;
-      counted = omega (arith, count);
+      left = λ image told c may. subst (λ (l : List Call). IsLeft modes end l c) (sym is)
+          (left_more modes end list (Stop event at) c (sym order.halted ∙ going) (left image told c may));
+      counted = (rose, omega (arith, count));
     }
 
     -- it failed before
     pub order_refuses : (more : List Call) (event : Event) (r : Reply) (at : Halt) → halt ≡ Some at → more ≡ list ++ Done event r ∷ []
-        → IsInOrder seen may_leave fault_count journal end halt more
+        → IsInOrder seen may_leave fault_count journal end modes halt more
     order_refuses more event r at stopped is = record {
       halted = stopped ∙ sym (ap stop_of is ∙ stop_kept list (Done event r) at (sym order.halted ∙ stopped));
       kept = λ same. absurd cc;
+      left = λ image told c may. subst (λ (l : List Call). IsLeft modes end l c) (sym is)
+          (left_kept modes end list (Done event r) at c (sym order.halted ∙ stopped) (order.left image told c may));
       counted = order.counted;
     }
 

@@ -1,18 +1,21 @@
 -- The record of a step is written, or there is none.
-use Rattle.std.proofs.Common.{◌≡◌, ◌⊎◌, inl, ℕ, ◌+◌, ◌≤◌, ◌^◌, List, [], ◌∷◌, Option, Some, None, IsNone, true, length, refl, ap, subst, arith}
+use Rattle.std.proofs.Common.{◌≡◌, ◌≢◌, ◌⊎◌, inl, inr, ℕ, ◌+◌, ◌≤◌, ◌^◌, Bool, List, [], ◌∷◌, Option, Some, None, true, length, refl, sym, ap, ◌∙◌, subst, arith}
 use Rattle.as4_disk.specs.Image.{Image}
 use Rattle.as4_disk.specs.Runs.{LeavesOnly}
+use Rattle.as4_disk.specs.declared.change.Change.{Change}
 use Rattle.as4_disk.proofs.RunLemmas.{no_call}
 use Rattle.as4_effects.specs.declared.effect.Effect.{Effect}
 use Rattle.exchange_model.specs.Apply.{after_all, applied, first_unfit, record_len}
 use Rattle.exchange_model.specs.End.{End}
 use Rattle.exchange_model.specs.Table.{has_room}
+use Rattle.exchange_model.specs.declared.outcome.Outcome.{Outcome}
 use Rattle.journal.specs.declared.journal.Journal.{Journal}
 use Rattle.msh_core.proofs.RecordLemmas.{are_some, room_to_grow, size_kept}
 use Rattle.end_journal.specs.Frames.{IsFrameOf}
-use Rattle.end_records.specs.Opens.{IsJournalOf, OpensWith}
+use Rattle.end_records.specs.Opens.{IsJournalOf, OpensOnly, OpensWith}
 use Rattle.end_records.specs.Records.{RecordLeads}
 use Rattle.end_records.proofs.OpenLemmas.{kept_opens, opens_weaker}
+use Rattle.office.specs.Recording.{PutsBehind, RecordsStep}
 
 -- where there is a record, it has room, and leads to the end behind the effects
 pub frame_room : (effects : List Effect) (body : List ℕ) (end : End) → IsFrameOf effects (Some body) → has_room end effects ≡ true → end.size + (length body + 9) ≤ 2 ^ 32
@@ -25,25 +28,45 @@ pub frame_leads : (effects : List Effect) (body : List ℕ) (end : End) → IsFr
 frame_leads [] body end is fits = absurd is
 frame_leads (e ∷ effects) body end is fits = (e ∷ effects, is, fits, refl)
 
--- where there is none, nothing changes
-pub no_frame_leads : (effects : List Effect) (end : End) → IsFrameOf effects None → end ≡ applied effects end
+-- where there are no effects, nothing changes
+rest_leads : (end : End) (outcome : Outcome) → outcome.effects ≡ [] → end ≡ applied outcome.effects end
 unfolding applied
-no_frame_leads [] end is = refl
-no_frame_leads (e ∷ effects) end is = absurd is
+rest_leads end outcome none = let same : end ≡ applied [] end = refl in same ∙ ap (λ (effects : List Effect). applied effects end) (sym none)
 
 module _ {D : Type 0} (moment : D → ℕ) (left_since : D → ℕ → Image → Type 0) (seen : D → Option Image) (may_leave : D → Image → Type 0) where
-  pub no_frame_kept : (journal : Journal D) (effects : List Effect) (end : End) → IsFrameOf effects None → IsJournalOf seen may_leave end journal → IsJournalOf seen may_leave (applied effects end) journal
-  no_frame_kept journal effects end none is = subst (λ (e : End). IsJournalOf seen may_leave e journal) (no_frame_leads effects end none) is
-
   -- no device call was made
   pub no_write : (only_now : (disk : D) (c : Image) → left_since disk (moment disk) c → may_leave disk c) (journal : Journal D) (end : End) (P : End → Type 0) (also : Image → Type 0) (image : Image)
       → IsJournalOf seen may_leave end journal → seen journal.disk ≡ Some image → LeavesOnly moment left_since journal.disk journal.disk (λ c. OpensWith c end P ⊎ also c)
   no_write only_now journal end P also image is told =
       no_call moment left_since journal.disk (λ (c : Image). OpensWith c end P ⊎ also c)
-      (λ c left. inl (opens_weaker (λ next. ⊥) P c end (λ next none. absurd none) (kept_opens seen may_leave end journal is image told c (only_now journal.disk c left))))
+      (λ c left. inl (opens_weaker (λ next. ⊥) P c end (λ next none. absurd none) (kept_opens seen may_leave end journal is image told c (only_now journal.disk c left)).0))
 
--- where there are no effects there is no record
-pub no_effects_no_frame : (effects : List Effect) (frame : Option (List ℕ)) → IsFrameOf effects frame → effects ≡ [] → IsNone frame
-no_effects_no_frame [] None is none = refl
-no_effects_no_frame [] (Some body) is none = absurd is
-no_effects_no_frame (e ∷ effects) frame is none = absurd cc
+module _ {D : Type 0} (seen : D → Option Image) (may_leave : D → Image → Type 0) (moment : D → ℕ) (left_since : D → ℕ → Image → Type 0) (makes : Change → D → D → Bool → Type 0) where
+  -- a step with effects is recorded as its record is put there
+  pub records_some : (old new : Journal D) (end : End) (outcome : Outcome) (ok : Bool) → outcome.effects ≢ [] → PutsBehind seen may_leave moment left_since makes old new end (applied outcome.effects end) ok
+      → RecordsStep seen may_leave moment left_since makes old new end outcome ok
+  records_some old new end outcome ok some puts = record { kept = puts.kept; any_moment = puts.any_moment; recorded = inr (some, puts.writes) }
+
+  -- one without leaves all as it is
+  pub records_none : (only_now : (disk : D) (c : Image) → left_since disk (moment disk) c → may_leave disk c) (journal : Journal D) (end : End) (outcome : Outcome) → outcome.effects ≡ [] → IsJournalOf seen may_leave end journal
+      → RecordsStep seen may_leave moment left_since makes journal journal end outcome true
+  records_none only_now journal end outcome none is = record {
+    kept = λ ok. subst (λ (e : End). IsJournalOf seen may_leave e journal) (rest_leads end outcome none) is;
+    any_moment = λ image told. no_write moment left_since seen may_leave only_now journal end (λ n. n ≡ applied outcome.effects end) (λ c. OpensOnly c (applied outcome.effects end)) image is told;
+    recorded = inl (none, refl, refl);
+  }
+
+-- which work has a record
+pub large_none : (outcome : Outcome) → IsFrameOf outcome.effects None → outcome.effects ≡ []
+large_none outcome is = no_frame outcome.effects is
+  where
+    no_frame : (effects : List Effect) → IsFrameOf effects None → effects ≡ []
+    no_frame [] is = refl
+    no_frame (e ∷ effects) is = absurd is
+
+pub large_some : (outcome : Outcome) (body : List ℕ) → IsFrameOf outcome.effects (Some body) → outcome.effects ≢ []
+large_some outcome body is none = framed outcome.effects is none
+  where
+    framed : (effects : List Effect) → IsFrameOf effects (Some body) → effects ≡ [] → ⊥
+    framed [] is none = absurd is
+    framed (e ∷ effects) is none = cc

@@ -1,6 +1,8 @@
 -- An office as contracts see it.
 use Rattle.std.specs.Prelude.{◌≡◌, ◌≤◌, ℕ, List, Option, None, IfSome}
 use Rattle.as4_disk.specs.Image.{Image}
+use Rattle.as4_flow.specs.Faults.{Rose}
+use Rattle.as4_flow.specs.Told.{Told}
 use Rattle.as4_values.specs.declared.mode.Mode.{Mode}
 use Rattle.end_records.specs.Opens.{IsJournalOf}
 use Rattle.end_tables.specs.Rooms.{Rooms}
@@ -10,6 +12,7 @@ use Rattle.exchange_model.specs.declared.event.Event.{Event}
 use Rattle.journal.specs.declared.journal.Journal.{Journal}
 use Rattle.msh_core.specs.Machine.{IsReady, Machine, Planned}
 use Rattle.office.specs.Calls.{stop_of}
+use Rattle.office.specs.Left.{IsLeft}
 use Rattle.office.specs.declared.call.Call.{Call}
 use Rattle.office.specs.declared.call.Halt.{Halt}
 use Rattle.pass_book.specs.States.{Book}
@@ -26,11 +29,13 @@ pub record OfficeState (D : Type 0) : Type 0 where
 abbrev pub machine_of : {D : Type 0} → OfficeState D → Machine
 machine_of office = record { end = office.end; modes = office.modes; rooms = office.rooms }
 
--- What an office keeps. It stands still from the fault among its calls on; without one its journal is that of its end.
-pub record IsInOrder {D : Type 0} (seen : D → Option Image) (may_leave : D → Image → Type 0) (fault_count : D → ℕ) (journal : Journal D) (end : End) (halt : Option Halt) (list : List Call) : Type 0 where
+-- What an office keeps. It stands still from the fault among its calls on; without one its journal is that of its end, and
+-- with one the disk is as that call left it.
+pub record IsInOrder {D : Type 0} (seen : D → Option Image) (may_leave : D → Image → Type 0) (fault_count : D → ℕ) (journal : Journal D) (end : End) (modes : List Mode) (halt : Option Halt) (list : List Call) : Type 0 where
   pub halted : halt ≡ stop_of list
   pub kept : halt ≡ None → IsJournalOf seen may_leave end journal
-  pub counted : IfSome halt (λ at. at.after ≤ fault_count journal.disk)
+  pub left : Told (seen journal.disk) (λ _. (c : Image) → may_leave journal.disk c → IsLeft modes end list c)
+  pub counted : IfSome halt (λ at. Rose at.before at.after × (at.after ≤ fault_count journal.disk))
 
 -- an event with its plan
 pub record Prepared : Type 0 where

@@ -1,10 +1,12 @@
 -- What a call on an office answers, and what it leaves of the office and of the caller's pass.
-use Rattle.std.specs.Prelude.{◌≡◌, ◌⊎◌, ℕ, ◌+◌, ◌^◌, List, [], ◌∷◌, ◌++◌, Option, Some, None, Result, Ok, Err, length, ◌<◌}
+use Rattle.std.specs.Prelude.{◌≡◌, ◌≤◌, ℕ, ◌+◌, ◌^◌, Bool, true, false, [], ◌∷◌, ◌++◌, Option, Some, None, Result, Ok, Err, is_some, length, ◌<◌}
 use mathlib.Core.List.{IsPrefix}
 use Rattle.as4_disk.specs.Image.{Image}
+use Rattle.as4_disk.specs.Runs.{LeavesOnly}
+use Rattle.as4_disk.specs.declared.change.Change.{Change}
 use Rattle.as4_flow.specs.Faults.{Rose}
-use Rattle.as4_values.specs.declared.mode.Mode.{Mode}
-use Rattle.end_records.specs.Opens.{OpensOnly, OpensWith}
+use Rattle.as4_flow.specs.Told.{Told}
+use Rattle.end_records.specs.Opens.{KeepsEnd}
 use Rattle.exchange_model.specs.Apply.{applied}
 use Rattle.exchange_model.specs.End.{End}
 use Rattle.exchange_model.specs.Table.{Step}
@@ -13,7 +15,9 @@ use Rattle.exchange_model.specs.declared.event.Event.{Event}
 use Rattle.exchange_model.specs.declared.reply.Reply.{Reply}
 use Rattle.exchange_model.specs.declared.reply.Reply.TheVariants as reply
 use Rattle.exchange_model.specs.declared.what.What.TheVariants as what
-use Rattle.office.specs.Calls.{stop_of}
+use Rattle.office.specs.Calls.{Leads, stop_of}
+use Rattle.office.specs.Left.{IsLeft, OpensBeforeOrAfter}
+use Rattle.office.specs.Recording.{IsRecorded}
 use Rattle.office.specs.State.{OfficeState}
 use Rattle.office.specs.declared.call.Call.{Call}
 use Rattle.office.specs.declared.call.Call.TheVariants.{Done, Stop}
@@ -45,16 +49,11 @@ module _ {D : Type 0} (old new : OfficeState D) (pass_old pass_new : PassState C
     pub disk : new.disk ≡ old.disk
     pub pass : pass_new ≡ record pass_old { list = old.list }
 
-  -- the event's step is made, and its reply answered
-  pub record Replies (event : Event) (r : Reply) : Type 0 where
-    pub going : stop_of old.list ≡ None
-    pub outcome : Outcome
-    pub step : Step old.modes old.end event outcome
-    pub reply : r ≡ outcome.reply
-    pub end : new.end ≡ applied outcome.effects old.end
-    -- without effects the disk isn't touched
-    pub still : outcome.effects ≡ [] → new.disk ≡ old.disk
-    pub entered : Enters (Done event r)
+  -- the office stands still, and the disk isn't touched
+  pub record StandsStill (before after : ℕ) : Type 0 where
+    pub stopped : stop_of old.list ≡ Some (record { before = before; after = after })
+    pub end : new.end ≡ old.end
+    pub disk : new.disk ≡ old.disk
 
   -- the disk failed: the end is as before, and from now on the office stands still
   pub record Stops (fault_count : D → ℕ) (event : Option Event) (before after : ℕ) : Type 0 where
@@ -65,20 +64,54 @@ module _ {D : Type 0} (old new : OfficeState D) (pass_old pass_new : PassState C
     pub rose : Rose before after
     pub entered : Enters (Stop event (record { before = before; after = after }))
 
-  -- the office stands still, and the disk isn't touched
-  pub record StandsStill (before after : ℕ) : Type 0 where
-    pub stopped : stop_of old.list ≡ Some (record { before = before; after = after })
-    pub end : new.end ≡ old.end
-    pub disk : new.disk ≡ old.disk
+-- what every call keeps, whatever it answers
+pub record Keeps {D : Type 0} (seen : D → Option Image) (may_leave : D → Image → Type 0) (fault_count : D → ℕ) (old new : OfficeState D) (pass_old pass_new : PassState Call) : Type 0 where
+  pub modes : new.modes ≡ old.modes
+  pub book : new.book ≡ old.book
+  pub pass_book : pass_new.book ≡ pass_old.book
+  pub stake : pass_new.stake ≡ pass_old.stake
+  -- the calls lead to the end, from wherever they led to it before
+  pub legal : (start : End) → Leads old.modes start old.list old.end → Leads old.modes start new.list new.end
+  -- without a fault among the calls each crash leaves the end, and with one what that call may have left
+  pub safe : stop_of new.list ≡ None → KeepsEnd seen may_leave new.disk new.end
+  pub left : Told (seen new.disk) (λ _. (c : Image) → may_leave new.disk c → IsLeft new.modes new.end new.list c)
+  pub tells : is_some (seen new.disk) ≡ is_some (seen old.disk)
+  pub counted : fault_count old.disk ≤ fault_count new.disk
+
+module _ {D : Type 0} (seen : D → Option Image) (may_leave : D → Image → Type 0) (moment : D → ℕ) (left_since : D → ℕ → Image → Type 0) (fault_count : D → ℕ) (makes : Change → D → D → Bool → Type 0) (old new : OfficeState D) (pass_old pass_new : PassState Call) where
+  -- the event's step is made, its record is on the disk, and its reply is answered
+  pub record Replies (event : Event) (r : Reply) : Type 0 where
+    pub going : stop_of old.list ≡ None
+    pub outcome : Outcome
+    pub step : Step old.modes old.end event outcome
+    pub reply : r ≡ outcome.reply
+    pub end : new.end ≡ applied outcome.effects old.end
+    pub recorded : IsRecorded seen may_leave makes old.disk new.disk old.end outcome true
+    pub kept : KeepsEnd seen may_leave new.disk new.end
+    pub entered : Enters old new pass_old pass_new (Done event r)
+
+  -- the disk failed while the record of the event's step was put there
+  pub record StopsAt (event : Event) (before after : ℕ) : Type 0 where
+    pub stops : Stops old new pass_old pass_new fault_count (Some event) before after
+    pub outcome : Outcome
+    pub step : Step old.modes old.end event outcome
+    pub recorded : IsRecorded seen may_leave makes old.disk new.disk old.end outcome false
 
   -- what is answered to an event, by cases on the answer
-  abbrev pub Steps : (D → ℕ) → Event → Result Reply OfficeFault → Type 0
-  Steps fault_count event (Ok r) = Replies event r
-  Steps fault_count event (Err (Disk before after)) = Stops fault_count (Some event) before after
-  Steps fault_count event (Err (Stopped before after)) = StandsStill before after × Enters (Done event (reply.Stopped before after))
-  Steps fault_count event (Err Worn) = FindsItWorn
-  Steps fault_count event (Err NoMemory) = EntersNothing × (new.disk ≡ old.disk)
-  Steps fault_count event (Err (NotJournal at)) = ⊥
+  abbrev pub Steps : Event → Result Reply OfficeFault → Type 0
+  Steps event (Ok r) = Replies event r
+  Steps event (Err (Disk before after)) = StopsAt event before after
+  Steps event (Err (Stopped before after)) = StandsStill old new pass_old pass_new before after × Enters old new pass_old pass_new (Done event (reply.Stopped before after))
+  Steps event (Err Worn) = FindsItWorn old new pass_old pass_new
+  Steps event (Err NoMemory) = EntersNothing old new pass_old pass_new × (new.disk ≡ old.disk)
+  Steps event (Err (NotJournal at)) = ⊥
+
+  -- What becomes of an event. While it is handled a crash leaves the end before its step, or the one behind it.
+  pub record Handles (event : Event) (result : Result Reply OfficeFault) : Type 0 where
+    pub answer : Steps event result
+    pub any_moment : stop_of old.list ≡ None
+        → Told (seen old.disk) (λ _. LeavesOnly moment left_since old.disk new.disk (OpensBeforeOrAfter old.modes old.end event))
+    pub keeps : Keeps seen may_leave fault_count old new pass_old pass_new
 
 -- a tick to this moment, as the office makes it
 abbrev pub IsTickTo : ℕ → Event → Type 0
@@ -87,13 +120,3 @@ IsTickTo stamp event = (event.what ≡ what.Tick) × (event.stamp ≡ stamp) × 
 -- a confirmation of the messages up to this one
 abbrev pub IsConfirmationOf : ℕ → Event → Type 0
 IsConfirmationOf upto event = (event.what ≡ what.Confirm upto) × (event.stamp ≡ 0) × (event.nonce ≡ 0)
-
--- the event's step leads from one end to the other
-abbrev pub IsStepTo : List Mode → End → Event → End → Type 0
-IsStepTo modes end event next = (outcome : Outcome) × Step modes end event outcome × (next ≡ applied outcome.effects end)
-
--- a disk opens to the end before the event's step, and what is pending is that step; or to the end behind it, and
--- nothing is pending
-abbrev pub OpensBeforeOrAfter : List Mode → End → Event → Image → Type 0
-OpensBeforeOrAfter modes end event image =
-    OpensWith image end (IsStepTo modes end event) ⊎ ((next : End) × IsStepTo modes end event next × OpensOnly image next)

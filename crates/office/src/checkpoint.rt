@@ -1,11 +1,5 @@
 //! The journal is folded, where that makes it shorter.
-ghost use Rattle.std.specs.Prelude.{◌≡◌, ◌⊎◌, ℕ, ◌≤◌, None, is_some};
-ghost use Rattle.as4_disk.specs.Image.{Image};
-ghost use Rattle.as4_disk.specs.Runs.{LeavesOnly};
-ghost use Rattle.as4_flow.specs.Told.{Told};
-ghost use Rattle.end_records.specs.Opens.{KeepsEnd, OpensFolded};
-ghost use Rattle.exchange_model.specs.End.{End};
-ghost use Rattle.office.specs.Calls.{Leads, stop_of};
+ghost use Rattle.std.specs.Prelude.{◌≡◌};
 ghost use Rattle.office.specs.Folds.{Checkpoints};
 
 use crate::call::{Call, Halt};
@@ -22,23 +16,15 @@ impl<'a, D: Disk> Office<'a, D> {
     /// leaf that isn't picked may differ, and all else stays.
     pub fn checkpoint(&mut self, pass: &mut Pass<'_, Call>) -> Result<u64, OfficeFault>
         requires book { pass.old.book ≡ self.old.book }
-        ensures folds { Checkpoints self.old self.new pass.old pass.new D.fault_count result }
-        ensures stays { (self.new.modes ≡ self.old.modes) × (self.new.book ≡ self.old.book)
-            × (pass.new.book ≡ pass.old.book) × (pass.new.stake ≡ pass.old.stake) }
-        ensures any_moment { stop_of self.old.list ≡ None → Told (D.seen self.old.disk) (λ _.
-            LeavesOnly D.moment D.left_since self.old.disk self.new.disk
-            (λ (c : Image). OpensFolded c self.old.end)) }
-        ensures safe { stop_of self.new.list ≡ None → KeepsEnd D.seen D.may_leave self.new.disk self.new.end }
-        ensures legal { (start : End) → Leads self.old.modes start self.old.list self.old.end
-            → Leads self.old.modes start self.new.list self.new.end }
-        ensures tells { is_some (D.seen self.new.disk) ≡ is_some (D.seen self.old.disk) }
-        ensures counted { D.fault_count self.old.disk ≤ D.fault_count self.new.disk }
+        ensures { Checkpoints D.seen D.may_leave D.moment D.left_since D.fault_count self.old self.new pass.old pass.new
+            result }
     {
         if self.keeper.len() == MAX_ENTRIES {
             self.keeper.show(pass);
             return Err(OfficeFault::Worn);
         }
-        if let Some(Halt { before, after }) = self.halt {
+        if let Some(halt) = self.halt {
+            let Halt { before, after } = halt;
             return Err(OfficeFault::Stopped { before, after });
         }
         let size = self.core.folded_size();

@@ -16,13 +16,15 @@ mod drill;
 mod enacting;
 mod entering;
 mod fault;
+mod laws;
 mod office;
 mod opening;
 mod ready;
-mod small;
+mod work;
 
 pub use call::{Call, Halt};
 pub use fault::OfficeFault;
+pub use laws::{a_history_may_happen, what_came_stays_over_calls};
 pub use msh_core::Totals;
 pub use office::Office;
 pub use ready::Ready;

@@ -1,9 +1,14 @@
 //! One end with its journal and its history.
 ghost use Rattle.std.specs.Prelude.{◌≡◌, ◌≤◌, ◌^◌, IfSome, None, length};
 ghost use mathlib.Core.List.{IsPrefix};
+ghost use Rattle.as4_disk.specs.Image.{Image};
+ghost use Rattle.as4_flow.specs.Faults.{Rose};
+ghost use Rattle.as4_flow.specs.Told.{Told};
 ghost use Rattle.end_records.specs.Opens.{KeepsEnd};
 ghost use Rattle.end_tables.specs.Totals.{AreTotals};
 ghost use Rattle.office.specs.Calls.{stop_of};
+ghost use Rattle.office.specs.Left.{IsLeft};
+ghost use Rattle.office.specs.State.{machine_of};
 
 use crate::call::{Call, Halt};
 use as4_disk::Disk;
@@ -42,7 +47,7 @@ impl<'a, D: Disk> Model for Office<'a, D> {
     } };
 
     ghost invariant = { λ o.
-        IsInOrder D.seen D.may_leave D.fault_count o.journal o.core.end o.halt o.keeper.list × (length o.small ≡ 11) };
+        IsInOrder D.seen D.may_leave D.fault_count o.journal o.core.end o.core.modes o.halt o.keeper.list × (length o.small ≡ 11) };
 }
 
 impl<'a, D: Disk> Office<'a, D> {
@@ -58,6 +63,13 @@ impl<'a, D: Disk> Office<'a, D> {
         self.keeper.show(pass);
     }
 
+    /// The end with its modes, to be read.
+    pub fn core(&self) -> &Core
+        ensures { result.now ≡ machine_of self.now }
+    {
+        &self.core
+    }
+
     /// How many submissions, receipts, failures, refusals and deliveries there are.
     pub fn totals(&self) -> Totals
         ensures { AreTotals self.now.end result }
@@ -65,11 +77,22 @@ impl<'a, D: Disk> Office<'a, D> {
         self.core.totals()
     }
 
-    /// Gives the disk back. Without a fault among the calls each crash leaves one that opens to the end.
+    /// The fault of the disk since which the office stands still.
+    pub fn halt(&self) -> Option<Halt>
+        ensures { result ≡ stop_of self.now.list }
+    {
+        self.halt
+    }
+
+    /// Gives the disk back. Without a fault among the calls each crash leaves one that opens to the end; with one, what
+    /// that call may have left.
     pub fn into_disk(self) -> D
         ensures disk { result ≡ self.entry.disk }
         ensures safe { stop_of self.entry.list ≡ None → KeepsEnd D.seen D.may_leave result self.entry.end }
-        ensures stopped { IfSome (stop_of self.entry.list) (λ halt. halt.after ≤ D.fault_count result) }
+        ensures left { Told (D.seen result) (λ _. (c : Image) → D.may_leave result c
+            → IsLeft self.entry.modes self.entry.end self.entry.list c) }
+        ensures stopped { IfSome (stop_of self.entry.list) (λ halt. Rose halt.before halt.after
+            × (halt.after ≤ D.fault_count result)) }
     {
         let Office {
             alloc: _,

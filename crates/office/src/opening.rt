@@ -1,13 +1,12 @@
 //! How an office is opened.
 ghost use Rattle.std.specs.Prelude.{◌≡◌, ◌⊎◌, ℕ, ◌≤◌, ◌^◌, [], IfErr, IfOk, is_some};
-ghost use Rattle.as4_disk.specs.Runs.{FirstThen};
+ghost use Rattle.as4_disk.specs.Runs.{FirstThen, Quiet};
 ghost use Rattle.as4_flow.specs.Faults.{Rose};
 ghost use Rattle.as4_flow.specs.Told.{Told};
-ghost use Rattle.end_records.specs.Opens.{IsOld, KeepsEnd, OpensAs, ReadsAs, ReopensAs};
-ghost use Rattle.end_records.specs.Unfit.{IsUnfit};
+ghost use Rattle.end_records.specs.Opens.{IsOld, KeepsEnd, ReadsAs, ReopensAs};
+ghost use Rattle.end_records.specs.Unfit.{IsNoJournal};
 ghost use Rattle.exchange_model.specs.End.{End};
 ghost use Rattle.exchange_model.specs.Fold.{IsFoldedSize, resized};
-ghost use Rattle.journal.specs.Leaf.{IsBroken};
 ghost use Rattle.journal.specs.Store.{picked_leaf};
 
 use crate::call::Call;
@@ -46,10 +45,13 @@ impl<'a, D: Disk> Office<'a, D> {
         ensures failed_moment { IfErr result (λ e. Told (D.seen disk) (λ b.
             FirstThen D.moment D.left_since disk e.1 (D.may_leave disk) (ReopensAs b))) }
 
+        // At the place of `NotJournal` stands no record of the end, and nothing was written.
         ensures not_journal { IfErr result (λ e. (at : ℕ) → e.0 ≡ OfficeFault.NotJournal at → Told (D.seen disk) (λ b.
-            IsBroken at (picked_leaf b) ⊎ IsUnfit at (picked_leaf b))) }
+            IsNoJournal at (picked_leaf b))) }
+        ensures untouched { IfErr result (λ e. (at : ℕ) → e.0 ≡ OfficeFault.NotJournal at → Told (D.seen disk) (λ _.
+            Quiet D.moment D.left_since D.seen D.may_leave disk e.1)) }
         ensures whole { IfErr result (λ e. (at : ℕ) → e.0 ≡ OfficeFault.NotJournal at → Told (D.seen disk) (λ b.
-            (end : End) → OpensAs b end → ⊥)) }
+            (end : End) → ReadsAs b end → ⊥)) }
         ensures faults { IfErr result (λ e. IsOpeningFault e.0) }
         ensures cause { IfErr result (λ e. (before after : ℕ) → e.0 ≡ OfficeFault.Disk before after
             → (before ≡ D.fault_count disk) × (after ≡ D.fault_count e.1) × Rose before after) }

@@ -1,8 +1,12 @@
 //! An event with its plan, and its record with all memory for it.
-ghost use Rattle.std.specs.Prelude.{◌≡◌, IfOk, None};
-ghost use Rattle.end_records.specs.Opens.{KeepsEnd};
-ghost use Rattle.office.specs.Calls.{stop_of};
+ghost use Rattle.std.specs.Prelude.{◌≡◌, IfOk, IsOk};
+ghost use Rattle.exchange_model.specs.Table.{Step};
+ghost use Rattle.exchange_model.specs.declared.outcome.Outcome.{Outcome};
+ghost use Rattle.machine_rows.specs.Free.{IsFree};
 ghost use Rattle.office.specs.State.{IsPreparedFor};
+ghost use Rattle.office.specs.Steps.{Keeps};
+ghost use Rattle.office.specs.declared.call.Call.{Call};
+ghost use Rattle.pass_book.specs.States.{PassState};
 
 use crate::office::Office;
 use as4_disk::Disk;
@@ -11,6 +15,7 @@ use end_journal::frame_of;
 use exchange_model::{Event, Reply};
 use journal::Frame;
 use msh_core::Plan;
+use outcome_laws::an_event_has_one_outcome;
 use std::marker::Model;
 
 /// What an office is about to do with an event. `Office::prepare` alone makes one.
@@ -56,10 +61,13 @@ impl Ready {
 
 impl<'a, D: Disk> Office<'a, D> {
     /// What the end does with an event, and its record, with all the memory that they take. Nothing changes but room.
+    /// Where nothing is to change, and the reply has no text in it, no memory is taken.
     pub fn prepare(&mut self, event: Event) -> Result<Ready, NoMemory>
         ensures ready { IfOk result (λ ready. (ready.event ≡ event) × IsPreparedFor self.new ready) }
         ensures same { self.new ≡ record self.old { rooms = self.new.rooms } }
-        ensures safe { stop_of self.new.list ≡ None → KeepsEnd D.seen D.may_leave self.new.disk self.new.end }
+        ensures free { (outcome : Outcome) → Step self.old.modes self.old.end event outcome → IsFree outcome
+            → IsOk result }
+        ensures keeps { (pass : PassState Call) → Keeps D.seen D.may_leave D.fault_count self.old self.new pass pass }
     {
         let plan = match self.core.prepare(&event) {
             Ok(plan) => plan,
@@ -68,6 +76,15 @@ impl<'a, D: Disk> Office<'a, D> {
                 return Err(error);
             }
         };
+        if plan.effects().items().is_empty() {
+            return Ok(Ready {
+                event,
+                plan,
+                frame: None,
+            });
+        }
+        // So no other outcome takes no memory.
+        an_event_has_one_outcome();
         match frame_of(self.alloc, plan.effects()) {
             Ok(frame) => Ok(Ready { event, plan, frame }),
             Err(error) => {

@@ -1,3 +1,5 @@
+use Rattle.std.proofs.Common.{arith}
+use Rattle.std.proofs.lemmas.Result.{err_from_is_err_and}
 use Rattle.end_journal.proofs.AddingLemmas.{added_kept, added_run}
 use Rattle.end_journal.proofs.adding.add_record.Goals as goal
 
@@ -8,6 +10,12 @@ returns-in_err-append-clause-any_moment g c end next is leads =
 pub returns-clause-any_moment : goal.returns-clause-any_moment
 returns-clause-any_moment g c end next is leads =
     added_run g.D.Disk.moment g.D.Disk.left_since g.D.Disk.seen g.D.Disk.may_leave c.args.journal.now c.append.new.self c.args.frame.now end next c.append.ensures.any_moment is leads
+
+pub returns-in_err-append-clause-calls : goal.returns-in_err-append-clause-calls
+returns-in_err-append-clause-calls g c =
+    let ready = c.requires.ready in
+    let failed = err_from_is_err_and c.from_residual.result c.from_residual.ensures.1 in
+    rw failed.1 (c.in_err-append.ensures.calls (omega (arith, ready.1.size, ready.2)))
 
 pub returns-clause-kept : goal.returns-clause-kept
 returns-clause-kept g c end next is leads =

@@ -2,7 +2,7 @@ use Rattle.std.proofs.Common.{◌≡◌, ℕ, sym, ◌∙◌}
 use Rattle.std.proofs.lemmas.Result.{on_ok_weaker}
 use Rattle.exchange_model.specs.Fold.{IsFoldedSize, resized}
 use Rattle.journal.specs.declared.version.Version.TheVariants.{One, Two}
-use Rattle.end_journal.proofs.OpeningLemmas.{folded_end, has_folded_size, is_one, is_two, refolded_run, reread_run, short_fold, whole_journal}
+use Rattle.end_journal.proofs.OpeningLemmas.{folded_end, has_folded_size, is_one, is_two, read_end, refolded_run, reread_run, short_fold, whole_journal}
 use Rattle.end_journal.proofs.RunLemmas.{told_before}
 use Rattle.end_journal.proofs.opening.bring_up.Goals as goal
 
@@ -18,6 +18,13 @@ returns-then-version-eq-WRITTEN_VERSION-clause-kept g c =
     let two : now.version ≡ Two = is_two now.version (sym c.version.ensures ∙ c.if-version-eq-WRITTEN_VERSION.true) in
     whole_journal g.D.Disk.seen g.D.Disk.may_leave first now c.read_all.new.core.end all.0 all.1 two c.requires.new.2
     (λ b told. let was = told_before (g.D.Disk.seen first.disk) (g.D.Disk.seen now.disk) b c.read_all.ensures.tells told in c.requires.read was.0 was.1)
+
+pub returns-then-version-eq-WRITTEN_VERSION-clause-end : goal.returns-then-version-eq-WRITTEN_VERSION-clause-end
+returns-then-version-eq-WRITTEN_VERSION-clause-end g c =
+    let now = c.read_all.new.journal in
+    let all = c.in_ok-read_all.ensures.read in
+    let two : now.version ≡ Two = is_two now.version (sym c.version.ensures ∙ c.if-version-eq-WRITTEN_VERSION.true) in
+    read_end g.D.Disk.seen g.D.Disk.may_leave c.args.journal.now now c.read_all.new.core.end all.0 all.1 two
 
 pub returns-then-version-eq-WRITTEN_VERSION-clause-any_moment : goal.returns-then-version-eq-WRITTEN_VERSION-clause-any_moment
 returns-then-version-eq-WRITTEN_VERSION-clause-any_moment g c has b told =

@@ -1,8 +1,12 @@
 use Rattle.std.proofs.Common.{◌≤◌, ℕ, sym, subst, arith}
-use Rattle.as4_disk.specs.Runs.{FirstThen}
+use Rattle.as4_disk.specs.Runs.{FirstThen, Quiet}
+use Rattle.as4_disk.proofs.RunLemmas.{quiet_then}
 use Rattle.journal.specs.State.{IsDisk}
+use Rattle.journal.specs.Store.{picked_leaf}
 use Rattle.end_records.specs.Opens.{ReopensAs}
-use Rattle.end_journal.proofs.OpeningLemmas.{opened_end, opening_run, settling_run, wrong_kept}
+use Rattle.end_records.specs.Unfit.{IsNoJournal}
+use Rattle.end_records.proofs.UnfitLemmas.{broken_no_journal}
+use Rattle.end_journal.proofs.OpeningLemmas.{no_journal_kept, opened_end, opening_run, settling_run}
 use Rattle.end_journal.proofs.RunLemmas.{since_earlier, told_before}
 use Rattle.end_journal.proofs.opening.open_end.Goals as goal
 
@@ -44,12 +48,27 @@ returns-in-Err-bring_up-clause-failed_moment g c b told =
     (opening_run g.D.Disk.moment g.D.Disk.left_since c.args.disk c.in-Ok.journal.disk c.bring_up.new.journal.disk (g.D.Disk.may_leave c.args.disk) b d (opened.1 d read.settled.told)
     (c.in-Ok.ensures.any_moment b told) (c.bring_up.ensures.any_moment read d read.settled.told))
 
+pub returns-in-Err-clause-not_journal : goal.returns-in-Err-clause-not_journal
+returns-in-Err-clause-not_journal g c at is b told =
+    let found = c.in-Err.ensures.not_journal at is in
+    let P : ℕ → Type 0 = λ n. IsNoJournal n (picked_leaf b) in
+    subst P (sym found.0) (broken_no_journal (picked_leaf b) (found.1 b told))
+
 pub returns-in-Err-bring_up-clause-not_journal : goal.returns-in-Err-bring_up-clause-not_journal
 returns-in-Err-bring_up-clause-not_journal g c at is b told =
     let opened = c.in-Ok.ensures.read b told in
     let read = opened.0 in
     let d = read.settled.image in
-    wrong_kept at b d (opened.1 d read.settled.told) (c.in-Err-bring_up.ensures.not_journal at (c.since.ensures.not_journal at is) read d read.settled.told)
+    no_journal_kept at b d (opened.1 d read.settled.told) (c.in-Err-bring_up.ensures.not_journal at (c.since.ensures.not_journal at is) read d read.settled.told)
+
+pub returns-in-Err-bring_up-clause-untouched : goal.returns-in-Err-bring_up-clause-untouched
+returns-in-Err-bring_up-clause-untouched g c at is b told =
+    let wrong = returns-in-Err-bring_up-clause-not_journal g c at is b told in
+    let P : g.row.D.Denot → Type 0 = λ last. Quiet g.D.Disk.moment g.D.Disk.left_since g.D.Disk.seen g.D.Disk.may_leave c.args.disk last in
+    subst P (sym c.into_disk.ensures)
+    (quiet_then g.D.Disk.moment g.D.Disk.left_since g.D.Disk.seen g.D.Disk.may_leave c.args.disk c.in-Ok.journal.disk c.bring_up.new.journal.disk
+    (c.in-Ok.ensures.quiet b told (λ new. omega (arith, new, wrong.0)))
+    (c.in-Err-bring_up.ensures.untouched at (c.since.ensures.not_journal at is)))
 
 pub returns-in-Err-bring_up-clause-cause : goal.returns-in-Err-bring_up-clause-cause
 returns-in-Err-bring_up-clause-cause g c =

@@ -1,7 +1,10 @@
 use Rattle.std.proofs.Common.{[], ◌∷◌, ◌++◌, refl, sym, subst, ◌∙◌, arith}
+use Rattle.std.proofs.lemmas.Result.{err_from_is_err_and}
+use Rattle.as4_disk.proofs.RunLemmas.{quiet_then}
 use Rattle.exchange_model.specs.End.{End}
 use Rattle.end_journal.specs.Reading.{HasReplayed, ReadsOn}
 use Rattle.end_journal.proofs.ReadingLemmas.{read_none, read_on, run_on, still_run}
+use Rattle.end_journal.proofs.RunLemmas.{quiet_none}
 use Rattle.end_journal.proofs.reading.read_all.Goals as goal
 
 pub records-init : goal.records-init
@@ -12,6 +15,7 @@ records-init g c =
       replayed = ([], subst P (sym c.requires.new.0) (read_none g.D.Disk.seen g.D.Disk.may_leave first c.requires.new.1));
       modes = refl;
       run = λ has b told. still_run g.D.Disk.moment g.D.Disk.left_since g.D.Disk.seen g.D.Disk.may_leave g.met.D.Disk.only_now first b has told;
+      quiet = quiet_none g.D.Disk.moment g.D.Disk.left_since g.D.Disk.seen g.D.Disk.may_leave g.met.D.Disk.only_now first.disk;
       counted = omega arith;
     }
 
@@ -19,6 +23,18 @@ pub returns-in_err-replay_next-clause-any_moment : goal.returns-in_err-replay_ne
 returns-in_err-replay_next-clause-any_moment g c =
     let so_far = c.records.invariant in
     run_on g.D.Disk.moment g.D.Disk.left_since g.D.Disk.seen g.D.Disk.may_leave c.args.journal.now c.records.journal c.replay_next.new.journal c.records.core.end so_far.replayed.0 so_far.replayed.1 so_far.run c.replay_next.ensures.any_moment
+
+pub returns-in_err-replay_next-clause-not_journal : goal.returns-in_err-replay_next-clause-not_journal
+returns-in_err-replay_next-clause-not_journal g c =
+    let p = err_from_is_err_and c.from_residual.result c.from_residual.ensures.1 in
+    let so_far = c.records.invariant.replayed in
+    rw (p.1, p.2) (λ at is has b told. c.in_err-replay_next.ensures.not_journal at is so_far.0 (so_far.1.read has) so_far.1.leads b (so_far.1.told ∙ told))
+
+pub returns-in_err-replay_next-clause-untouched : goal.returns-in_err-replay_next-clause-untouched
+returns-in_err-replay_next-clause-untouched g c =
+    let p = err_from_is_err_and c.from_residual.result c.from_residual.ensures.1 in
+    rw (p.1, p.2) (λ at is.
+    quiet_then g.D.Disk.moment g.D.Disk.left_since g.D.Disk.seen g.D.Disk.may_leave c.args.journal.now.disk c.records.journal.disk c.replay_next.new.journal.disk c.records.invariant.quiet (c.in_err-replay_next.ensures.untouched at is))
 
 pub returns-clause-any_moment : goal.returns-clause-any_moment
 returns-clause-any_moment g c =
@@ -37,5 +53,6 @@ records-preserved g c =
       );
       modes = c.replay_next.ensures.modes ∙ so_far.modes;
       run = run_on g.D.Disk.moment g.D.Disk.left_since g.D.Disk.seen g.D.Disk.may_leave c.args.journal.now c.records.journal c.replay_next.new.journal c.records.core.end bodies so_far.replayed.1 so_far.run c.replay_next.ensures.any_moment;
+      quiet = quiet_then g.D.Disk.moment g.D.Disk.left_since g.D.Disk.seen g.D.Disk.may_leave c.args.journal.now.disk c.records.journal.disk c.replay_next.new.journal.disk so_far.quiet (c.in_ok-replay_next.ensures.quiet c.if-branch.true);
       counted = omega (arith, so_far.counted, c.replay_next.ensures.counted);
     }

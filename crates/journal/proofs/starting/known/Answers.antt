@@ -56,6 +56,12 @@ returns-in_default-clause-read g c leaf b told is =
       λ after told_after. inr (omega (arith, short_leaf, ap length here.2), omega (arith, ap length (sym new_leaf), ap length (settled_told g.D.Disk.seen g.D.Disk.may_leave c.write_picked.new.disk c.args.is_second (front_of Two [] ++ 0 ∷ []) after settled told_after).2)),
     )
 
+pub returns-in_default-clause-quiet : goal.returns-in_default-clause-quiet
+returns-in_default-clause-quiet g c leaf b told is long =
+    let short : length (b c.leaf_part.result) < 10 = grind (arith, common_steps) in
+    let bytes = (settled_told g.D.Disk.seen g.D.Disk.may_leave c.args.disk.now c.args.is_second leaf b is told).1 in
+    absurd (long (omega (arith, short, ap length bytes, ap (λ p. length (b p)) c.leaf_part.ensures)))
+
 pub returns-in_default-clause-any_moment : goal.returns-in_default-clause-any_moment
 returns-in_default-clause-any_moment g c leaf b told is =
     let short : length (b c.leaf_part.result) < 10 = grind (arith, common_steps) in

@@ -1,12 +1,14 @@
-use Rattle.std.proofs.Common.{◌≡◌, ℕ, ◌+◌, Bool, List, [], ◌∷◌, ◌++◌, Option, length, drop, sym, ap, subst, ◌∙◌, arith, append_assoc, length-append}
+use Rattle.std.proofs.Common.{◌≡◌, ℕ, ◌+◌, Bool, true, false, List, [], ◌∷◌, ◌++◌, Option, length, drop, sym, ap, subst, ◌∙◌, arith, append_assoc, length-append}
+use Rattle.std.proofs.lemmas.Result.{err_from_is_err_and}
 use Rattle.as4_disk.specs.Bytes.{Torn}
 use Rattle.as4_disk.specs.Image.{Image}
 use Rattle.as4_disk.proofs.RunLemmas.{then, weaken}
 use Rattle.journal.specs.declared.version.Version.TheVariants.{Two}
 use Rattle.journal.specs.Leaf.{front_of}
-use Rattle.journal.specs.Store.{picked_leaf, OpensToOneOf}
+use Rattle.journal.specs.Store.{leaf_of, picked_leaf, OpensToOneOf}
 use Rattle.journal.specs.Settled.{IsSettled}
 use Rattle.journal.proofs.AddLemmas.{tail_of, frame_tail, torn_tail, torn_open, after_tail, after_gate}
+use Rattle.journal.proofs.CallLemmas.{record_made}
 use Rattle.journal.proofs.store.add_record.Goals as goal
 
 -- the first write settles a closed gate, the rest of the record and what is left behind it
@@ -63,3 +65,14 @@ returns-clause-settled g c bodies rest place is =
       drop (length tail) rest,
       subst P (after_gate bodies c.args.frame.now rest (drop (length tail) rest)) written,
     )
+
+pub returns-in_err-write_picked-2-clause-calls : goal.returns-in_err-write_picked-2-clause-calls
+returns-in_err-write_picked-2-clause-calls g c =
+    let failed = err_from_is_err_and c.from_residual-in_err-write_picked-2.result c.from_residual-in_err-write_picked-2.ensures.1 in
+    rw failed.1 (record_made g.D.Disk.makes (leaf_of c.args.is_second) c.args.gate c.args.frame.now c.tail.result.now c.args.disk.now c.write_picked.new.disk c.write_picked-2.new.disk false
+    c.tail.ensures c.in_ok-write_picked.ensures.calls c.in_err-write_picked-2.ensures.calls)
+
+pub returns-clause-calls : goal.returns-clause-calls
+returns-clause-calls g c =
+    record_made g.D.Disk.makes (leaf_of c.args.is_second) c.args.gate c.args.frame.now c.tail.result.now c.args.disk.now c.write_picked.new.disk c.write_picked-2.new.disk true
+    c.tail.ensures c.in_ok-write_picked.ensures.calls c.in_ok-write_picked-2.ensures.calls

@@ -1,23 +1,14 @@
-use Rattle.std.proofs.Common.{◌≡◌, ◌+◌, ◌<◌, ℕ, inl, List, [], ◌∷◌, ◌++◌, Option, length, sym, ap, subst, ◌∙◌, arith}
-use Rattle.as4_disk.specs.Image.{Image}
+use Rattle.std.proofs.Common.{◌≡◌, ◌+◌, ◌<◌, ℕ, inl, [], ◌∷◌, ◌++◌, length, sym, ap, subst, ◌∙◌, arith}
 use Rattle.as4_disk.proofs.RunLemmas.{no_call}
 use Rattle.journal.specs.declared.version.Version.{Version}
 use Rattle.journal.specs.declared.version.Version.TheVariants.{Two}
-use Rattle.journal.specs.declared.journal.Journal.{Journal}
 use Rattle.journal.specs.Leaf.{front_of, limit_of}
 use Rattle.journal.specs.Store.{OpensToOneOf}
 use Rattle.journal.specs.Settled.{IsSettled}
-use Rattle.journal.specs.State.{HasRecords}
+use Rattle.journal.proofs.JournalLaws.{as_two}
 use Rattle.journal.proofs.LeafLemmas.{length-front_more}
 use Rattle.journal.proofs.StoreLemmas.{settled_left, settled_opens, closed_opens}
 use Rattle.journal.proofs.journal.Journal.append.Goals as goal
-
--- a journal of version 2
-as_two : {D : Type 0} (seen : D → Option Image) (may_leave : D → Image → Type 0) (journal : Journal D) (bodies : List (List ℕ)) → journal.version ≡ Two → (has : HasRecords seen may_leave journal bodies)
-    → IsSettled seen may_leave journal.disk journal.is_second (front_of Two bodies ++ 0 ∷ has.rest) × (journal.gate ≡ length (front_of Two bodies))
-as_two seen may_leave journal bodies is_two has =
-    let P : Version → Type 0 = λ v. IsSettled seen may_leave journal.disk journal.is_second (front_of v bodies ++ 0 ∷ has.rest) × (journal.gate ≡ length (front_of v bodies)) in
-    subst P is_two (has.settled, has.place)
 
 pub returns-then-size-need-clause-any_moment : goal.returns-then-size-need-clause-any_moment
 returns-then-size-need-clause-any_moment g c bodies has =

@@ -1,55 +1,77 @@
-use Rattle.std.proofs.Common.{inl, inr, ◌<◌, ◌^◌, ◌∙◌, Some, Err, refl, sym, ap, subst, arith}
+use Rattle.std.proofs.Common.{inl, inr, ◌<◌, ◌^◌, ◌∙◌, List, None, Some, Err, length, refl, sym, ap, subst, arith}
 use Rattle.std.proofs.lemmas.Grind.{common_steps}
+use Rattle.as4_disk.proofs.RunLemmas.{at_end}
 use Rattle.as4_flow.specs.Faults.{Rose}
-use Rattle.exchange_model.specs.End.{End}
-use Rattle.end_records.specs.Opens.{IsJournalOf, KeepsEnd}
+use Rattle.as4_values.specs.declared.mode.Mode.{Mode}
+use Rattle.end_records.specs.Opens.{OpensFolded}
 use Rattle.msh_core.specs.Machine.{Machine}
-use Rattle.office.specs.Calls.{stop_of}
 use Rattle.office.specs.State.{IsInOrder}
 use Rattle.office.specs.declared.call.Call.{Call}
+use Rattle.office.specs.declared.call.Halt.{Halt}
+use Rattle.office.specs.declared.call.Call.TheVariants.{Folded, Stop}
 use Rattle.pass_book.specs.States.{PassState}
 use Rattle.office.proofs.CallLemmas.{folded_leads, stop_leads}
-use Rattle.office.proofs.StateLemmas.{order_goes, order_keeps, order_stays, order_stops, still_folded}
 use Rattle.office.proofs.FoldLemmas.{fold_run, folded_size_is}
+use Rattle.office.proofs.HandlingLemmas.{enters, keeps, not_both, told_before}
+use Rattle.office.proofs.StateLemmas.{order_goes, order_stays, order_stops, still_folded}
 use Rattle.office.proofs.office.Office.checkpoint.Goals as goal
 
 -- nothing is done, since the history is full
-pub returns-then-len-clause-any_moment : goal.returns-then-len-clause-any_moment
-returns-then-len-clause-any_moment g c =
+pub returns-then-len : goal.returns-then-len
+returns-then-len g c =
     let o = c.self.inside in
-    rw (← c.self.view_is) (λ going image told. still_folded g.D.Disk.moment g.D.Disk.left_since g.D.Disk.seen g.D.Disk.may_leave g.met.D.Disk.only_now o.journal o.core.end image
-    (c.self.invariant.0.kept (c.self.invariant.0.halted ∙ going)) told)
+    let order = c.self.invariant.0 in
+    rw (← c.self.view_is, c.show.ensures.same) (record {
+      answer = record {
+        full = omega (arith, c.len.ensures.value, c.if-len.true);
+        seen = c.show.ensures.begins;
+        list = refl;
+        end = refl;
+        disk = refl;
+        pass = c.show.ensures.whole;
+      };
+      any_moment = λ going image told. still_folded g.D.Disk.moment g.D.Disk.left_since g.D.Disk.seen g.D.Disk.may_leave g.met.D.Disk.only_now o.journal o.core.end image (order.kept (order.halted ∙ going)) told;
+      keeps = keeps g.D.Disk.seen g.D.Disk.may_leave g.D.Disk.fault_count o.journal o.journal o.core.end o.core.end o.core.modes o.core.modes o.core.rooms o.core.rooms o.keeper.book o.keeper.book o.keeper.list o.keeper.list c.args.pass.now c.show.new.pass
+          o.halt order refl refl (ap (λ (p : PassState Call). p.book) c.show.ensures.whole) (ap (λ (p : PassState Call). p.stake) c.show.ensures.whole) (λ start leads. leads) refl (omega arith);
+    })
 
-pub returns-then-len-clause-safe : goal.returns-then-len-clause-safe
-returns-then-len-clause-safe g c going =
+-- the disk failed before
+pub returns-in-Some : goal.returns-in-Some
+returns-in-Some g c =
     let o = c.self.inside in
-    order_keeps g.D.Disk.seen g.D.Disk.may_leave g.D.Disk.fault_count o.journal o.core.end o.halt o.keeper.list c.self.invariant.0 (ap (λ k. stop_of k.list) (sym c.show.ensures.same) ∙ going)
+    let order = c.self.invariant.0 in
+    let halt = c.in-Some.halt in
+    rw (← c.self.view_is) (record {
+      answer = (
+        record { stopped = sym order.halted ∙ c.in-Some.is; end = refl; disk = refl },
+        record { list = refl; end = refl; pass = refl },
+        omega (arith, c.len.ensures.value, c.len.ensures.limit, c.if-len.false),
+      );
+      any_moment = λ going. absurd (not_both o.halt halt c.in-Some.is (order.halted ∙ going));
+      keeps = keeps g.D.Disk.seen g.D.Disk.may_leave g.D.Disk.fault_count o.journal o.journal o.core.end o.core.end o.core.modes o.core.modes o.core.rooms o.core.rooms o.keeper.book o.keeper.book o.keeper.list o.keeper.list c.args.pass.now c.args.pass.now
+          o.halt order refl refl refl refl (λ start leads. leads) refl (omega arith);
+    })
 
 -- nothing is done, since the fold isn't shorter
-pub returns-then-size-present-clause-folds : goal.returns-then-size-present-clause-folds
-returns-then-size-present-clause-folds g c =
+pub returns-then-size-present : goal.returns-then-size-present
+returns-then-size-present g c =
     let o = c.self.inside in
-    rw (← c.self.view_is) (
-      sym c.self.invariant.0.halted ∙ c.in_default.is,
-      inr (record {
-        room = omega (arith, c.len.ensures.value, c.len.ensures.limit, c.if-len.false);
-        present = c.size-present.ensures;
-        least = λ other folded. omega (arith, c.folded_size-size.ensures.only other folded, c.if-size-present.true);
-        same = refl;
-        pass = refl;
-      }),
-    )
-
-pub returns-then-size-present-clause-any_moment : goal.returns-then-size-present-clause-any_moment
-returns-then-size-present-clause-any_moment g c =
-    let o = c.self.inside in
-    rw (← c.self.view_is) (λ going image told. still_folded g.D.Disk.moment g.D.Disk.left_since g.D.Disk.seen g.D.Disk.may_leave g.met.D.Disk.only_now o.journal o.core.end image
-    (c.self.invariant.0.kept (c.self.invariant.0.halted ∙ going)) told)
-
-pub returns-then-size-present-clause-safe : goal.returns-then-size-present-clause-safe
-returns-then-size-present-clause-safe g c =
-    let o = c.self.inside in
-    rw (← c.self.view_is) (order_keeps g.D.Disk.seen g.D.Disk.may_leave g.D.Disk.fault_count o.journal o.core.end o.halt o.keeper.list c.self.invariant.0)
+    let order = c.self.invariant.0 in
+    rw (← c.self.view_is) (record {
+      answer = (
+        sym order.halted ∙ c.in_default.is,
+        inr (record {
+          room = omega (arith, c.len.ensures.value, c.len.ensures.limit, c.if-len.false);
+          present = c.size-present.ensures;
+          least = λ other folded. omega (arith, c.folded_size-size.ensures.only other folded, c.if-size-present.true);
+          same = refl;
+          pass = refl;
+        }),
+      );
+      any_moment = λ going image told. still_folded g.D.Disk.moment g.D.Disk.left_since g.D.Disk.seen g.D.Disk.may_leave g.met.D.Disk.only_now o.journal o.core.end image (order.kept (order.halted ∙ going)) told;
+      keeps = keeps g.D.Disk.seen g.D.Disk.may_leave g.D.Disk.fault_count o.journal o.journal o.core.end o.core.end o.core.modes o.core.modes o.core.rooms o.core.rooms o.keeper.book o.keeper.book o.keeper.list o.keeper.list c.args.pass.now c.args.pass.now
+          o.halt order refl refl refl refl (λ start leads. leads) refl (omega arith);
+    })
 
 -- the journal is folded
 pub fold_end-requires-clause-short : goal.fold_end-requires-clause-short
@@ -61,110 +83,116 @@ fold_end-requires-clause-short g c size folded =
 pub invariant_of-self-in-Ok : goal.invariant_of-self-in-Ok
 invariant_of-self-in-Ok g c =
     let o = c.self.inside in
-    (order_goes g.D.Disk.seen g.D.Disk.may_leave g.D.Disk.fault_count o.journal o.core.end o.halt o.keeper.list c.self.invariant.0 c.fold_end.new.journal c.fold_end.new.core.end c.enter-call.new.keeper.list _ c.in_default.is c.enter-call.ensures.list refl c.in-Ok.ensures.kept, c.self.invariant.1)
+    let now = order_goes g.D.Disk.seen g.D.Disk.may_leave g.D.Disk.fault_count o.journal o.core.end o.core.modes o.halt o.keeper.list c.self.invariant.0 c.fold_end.new.journal c.fold_end.new.core.end c.enter-call.new.keeper.list _ c.in_default.is c.enter-call.ensures.list refl c.in-Ok.ensures.kept in
+    (subst (λ (m : List Mode). IsInOrder g.D.Disk.seen g.D.Disk.may_leave g.D.Disk.fault_count c.fold_end.new.journal c.fold_end.new.core.end m o.halt c.enter-call.new.keeper.list) (sym c.fold_end.ensures.modes) now, c.self.invariant.1)
 
-pub returns-in-Ok-clause-folds : goal.returns-in-Ok-clause-folds
-returns-in-Ok-clause-folds g c =
+pub returns-in-Ok : goal.returns-in-Ok
+returns-in-Ok g c =
     let o = c.self.inside in
-    let short : c.folded_size-size.result < 2 ^ 32 =
+    let order = c.self.invariant.0 in
+    let after = c.fold_end.new.journal in
+    let core = c.fold_end.new.core in
+    let more = c.enter-call.new.keeper.list in
+    let going = sym order.halted ∙ c.in_default.is in
     let less : c.folded_size-size.result < c.size-present.result = grind (arith, common_steps) in
-    omega (arith, less, c.size-present.ensures, (c.self.invariant.0.kept c.in_default.is).size, o.journal.in_range) in
+    let short : c.folded_size-size.result < 2 ^ 32 = omega (arith, less, c.size-present.ensures, (order.kept c.in_default.is).size, o.journal.in_range) in
     let folded = folded_size_is o.core.end c.folded_size-size.result c.folded_size-size.ensures.size short in
-    let shorter : c.folded_size-size.result < o.core.end.size =
-    let less : c.folded_size-size.result < c.size-present.result = grind (arith, common_steps) in
-    omega (arith, less, c.size-present.ensures) in
-    rw (← c.self.view_is) (
-      sym c.self.invariant.0.halted ∙ c.in_default.is,
-      inl (record {
-        folded = folded;
-        shorter = shorter;
-        end = c.in-Ok.ensures.end c.folded_size-size.result folded;
-        entered = record {
-          room = omega (arith, c.len.ensures.value, c.len.ensures.limit, c.if-len.false);
-          seen = c.enter-call.ensures.seen;
-          list = c.enter-call.ensures.list;
-          whole = ap (λ (p : PassState Call). p.list) c.enter-call.ensures.pass;
-          share = ap (λ (p : PassState Call). p.share) c.enter-call.ensures.pass;
-        };
-      }),
-    )
-
-pub returns-in-Ok-clause-any_moment : goal.returns-in-Ok-clause-any_moment
-returns-in-Ok-clause-any_moment g c =
-    let o = c.self.inside in
+    let shorter : c.folded_size-size.result < o.core.end.size = omega (arith, less, c.size-present.ensures) in
+    let ends = c.in-Ok.ensures.end c.folded_size-size.result folded in
     let size = c.folded_size-size.ensures.size in
-    rw (← c.self.view_is) (λ going image told.
-    let had = (c.self.invariant.0.kept c.in_default.is).records image told in
-    fold_run g.D.Disk.moment g.D.Disk.left_since o.journal.disk c.fold_end.new.journal.disk had.0 o.core.end size.0 had.2 size.1 (c.fold_end.ensures.any_moment had.0 size.0 had.1 size.1))
-
-pub returns-in-Ok-clause-safe : goal.returns-in-Ok-clause-safe
-returns-in-Ok-clause-safe g c going =
-    let o = c.self.inside in
-    let order = order_goes g.D.Disk.seen g.D.Disk.may_leave g.D.Disk.fault_count o.journal o.core.end o.halt o.keeper.list c.self.invariant.0 c.fold_end.new.journal c.fold_end.new.core.end c.enter-call.new.keeper.list _ c.in_default.is c.enter-call.ensures.list refl c.in-Ok.ensures.kept in
-    order_keeps g.D.Disk.seen g.D.Disk.may_leave g.D.Disk.fault_count c.fold_end.new.journal c.fold_end.new.core.end o.halt c.enter-call.new.keeper.list order going
-
-pub returns-in-Ok-clause-legal : goal.returns-in-Ok-clause-legal
-returns-in-Ok-clause-legal g c =
-    let o = c.self.inside in
-    let short : c.folded_size-size.result < 2 ^ 32 =
-    let less : c.folded_size-size.result < c.size-present.result = grind (arith, common_steps) in
-    omega (arith, less, c.size-present.ensures, (c.self.invariant.0.kept c.in_default.is).size, o.journal.in_range) in
-    let folded = folded_size_is o.core.end c.folded_size-size.result c.folded_size-size.ensures.size short in
-    let shorter : c.folded_size-size.result < o.core.end.size =
-    let less : c.folded_size-size.result < c.size-present.result = grind (arith, common_steps) in
-    omega (arith, less, c.size-present.ensures) in
-    rw (← c.self.view_is) (folded_leads o.core.modes o.keeper.list c.enter-call.new.keeper.list c.folded_size-size.result o.core.end c.fold_end.new.core.end (sym c.self.invariant.0.halted ∙ c.in_default.is) c.enter-call.ensures.list folded shorter (c.in-Ok.ensures.end c.folded_size-size.result folded))
+    let room : length o.keeper.list < 2 ^ 63 = omega (arith, c.len.ensures.value, c.len.ensures.limit, c.if-len.false) in
+    rw (← c.self.view_is) (record {
+      answer = (
+        going,
+        inl (record {
+          folded = folded;
+          shorter = shorter;
+          end = ends;
+          entered = enters g.D.Disk.seen g.D.Disk.may_leave g.D.Disk.fault_count o.journal after o.core.end core.end o.core.modes core.modes o.core.rooms core.rooms o.keeper.book c.enter-call.new.keeper.book o.keeper.list more c.args.pass.now c.enter-call.new.pass
+              (Folded c.folded_size-size.result) room c.enter-call.ensures.seen c.enter-call.ensures.list c.enter-call.ensures.pass;
+        }),
+      );
+      any_moment = λ goes image told.
+          let had = (order.kept c.in_default.is).records image told in
+          fold_run g.D.Disk.moment g.D.Disk.left_since o.journal.disk after.disk had.0 o.core.end size.0 had.2 size.1 (c.fold_end.ensures.any_moment had.0 size.0 had.1 size.1);
+      keeps = keeps g.D.Disk.seen g.D.Disk.may_leave g.D.Disk.fault_count o.journal after o.core.end core.end o.core.modes core.modes o.core.rooms core.rooms o.keeper.book c.enter-call.new.keeper.book o.keeper.list more c.args.pass.now c.enter-call.new.pass
+          o.halt (invariant_of-self-in-Ok g c).0 c.fold_end.ensures.modes c.enter-call.ensures.book (ap (λ (p : PassState Call). p.book) c.enter-call.ensures.pass) (ap (λ (p : PassState Call). p.stake) c.enter-call.ensures.pass)
+          (folded_leads o.core.modes o.keeper.list more c.folded_size-size.result o.core.end core.end going c.enter-call.ensures.list folded shorter ends) c.fold_end.ensures.tells c.fold_end.ensures.counted;
+    })
 
 -- there was no memory
 pub invariant_of-self-in-Err-NoMemory : goal.invariant_of-self-in-Err-NoMemory
 invariant_of-self-in-Err-NoMemory g c =
-    let o = c.self.inside in (
-      order_stays g.D.Disk.seen g.D.Disk.may_leave g.D.Disk.fault_count o.journal o.core.end o.halt o.keeper.list c.self.invariant.0 c.fold_end.new.journal c.fold_end.new.core.end c.in_default.is
-          (subst (λ (e : End). IsJournalOf g.D.Disk.seen g.D.Disk.may_leave e c.fold_end.new.journal) (sym (ap (λ (m : Machine). m.end) c.in-Err-NoMemory.ensures.same)) (c.in-Err-NoMemory.ensures.starved (ap (λ e. Err e) c.in-Err-NoMemory.field-0-is) o.core.end (c.self.invariant.0.kept c.in_default.is))),
-      c.self.invariant.1,
-    )
-
-pub returns-in-Err-NoMemory-clause-any_moment : goal.returns-in-Err-NoMemory-clause-any_moment
-returns-in-Err-NoMemory-clause-any_moment g c =
     let o = c.self.inside in
+    let after = c.fold_end.new.journal in
+    let P : Machine → Type 0 = λ m. IsInOrder g.D.Disk.seen g.D.Disk.may_leave g.D.Disk.fault_count after m.end m.modes o.halt o.keeper.list in
+    let now = order_stays g.D.Disk.seen g.D.Disk.may_leave g.D.Disk.fault_count o.journal o.core.end o.core.modes o.halt o.keeper.list c.self.invariant.0 after c.in_default.is
+    (c.in-Err-NoMemory.ensures.starved (ap (λ e. Err e) c.in-Err-NoMemory.field-0-is) o.core.end (c.self.invariant.0.kept c.in_default.is)) in
+    (subst P (sym c.in-Err-NoMemory.ensures.same) now, c.self.invariant.1)
+
+pub returns-in-Err-NoMemory : goal.returns-in-Err-NoMemory
+returns-in-Err-NoMemory g c =
+    let o = c.self.inside in
+    let order = c.self.invariant.0 in
+    let after = c.fold_end.new.journal in
     let size = c.folded_size-size.ensures.size in
-    rw (← c.self.view_is) (λ going image told.
-    let had = (c.self.invariant.0.kept c.in_default.is).records image told in
-    fold_run g.D.Disk.moment g.D.Disk.left_since o.journal.disk c.fold_end.new.journal.disk had.0 o.core.end size.0 had.2 size.1 (c.fold_end.ensures.any_moment had.0 size.0 had.1 size.1))
-
-pub returns-in-Err-NoMemory-clause-safe : goal.returns-in-Err-NoMemory-clause-safe
-returns-in-Err-NoMemory-clause-safe g c going =
-    let o = c.self.inside in
-    let order = order_stays g.D.Disk.seen g.D.Disk.may_leave g.D.Disk.fault_count o.journal o.core.end o.halt o.keeper.list c.self.invariant.0 c.fold_end.new.journal c.fold_end.new.core.end c.in_default.is
-    (subst (λ (e : End). IsJournalOf g.D.Disk.seen g.D.Disk.may_leave e c.fold_end.new.journal) (sym (ap (λ (m : Machine). m.end) c.in-Err-NoMemory.ensures.same)) (c.in-Err-NoMemory.ensures.starved (ap (λ e. Err e) c.in-Err-NoMemory.field-0-is) o.core.end (c.self.invariant.0.kept c.in_default.is))) in
-    order_keeps g.D.Disk.seen g.D.Disk.may_leave g.D.Disk.fault_count c.fold_end.new.journal c.fold_end.new.core.end o.halt o.keeper.list order going
+    let now = order_stays g.D.Disk.seen g.D.Disk.may_leave g.D.Disk.fault_count o.journal o.core.end o.core.modes o.halt o.keeper.list order after c.in_default.is
+    (c.in-Err-NoMemory.ensures.starved (ap (λ e. Err e) c.in-Err-NoMemory.field-0-is) o.core.end (order.kept c.in_default.is)) in
+    rw (← c.self.view_is, c.in-Err-NoMemory.ensures.same) (record {
+      answer = (sym order.halted ∙ c.in_default.is, record { list = refl; end = refl; pass = refl });
+      any_moment = λ goes image told.
+          let had = (order.kept c.in_default.is).records image told in
+          fold_run g.D.Disk.moment g.D.Disk.left_since o.journal.disk after.disk had.0 o.core.end size.0 had.2 size.1 (c.fold_end.ensures.any_moment had.0 size.0 had.1 size.1);
+      keeps = keeps g.D.Disk.seen g.D.Disk.may_leave g.D.Disk.fault_count o.journal after o.core.end o.core.end o.core.modes o.core.modes o.core.rooms o.core.rooms o.keeper.book o.keeper.book o.keeper.list o.keeper.list c.args.pass.now c.args.pass.now
+          o.halt now refl refl refl refl (λ start leads. leads) c.fold_end.ensures.tells c.fold_end.ensures.counted;
+    })
 
 -- the disk failed
 pub invariant_of-self-in-Err-Disk : goal.invariant_of-self-in-Err-Disk
 invariant_of-self-in-Err-Disk g c =
     let o = c.self.inside in
-    let order = order_stops g.D.Disk.seen g.D.Disk.may_leave g.D.Disk.fault_count o.journal o.core.end o.halt o.keeper.list c.self.invariant.0 c.fold_end.new.journal c.enter_stop.new.keeper.list _ (record { before = c.in-Err-Disk.before; after = c.in-Err-Disk.after }) c.in_default.is c.enter_stop.ensures.list (c.in-Err-Disk.ensures.cause c.in-Err-Disk.before c.in-Err-Disk.after c.in-Err-Disk.field-0-is).1 in
-    let P : End → Type 0 = λ e. IsInOrder g.D.Disk.seen g.D.Disk.may_leave g.D.Disk.fault_count c.fold_end.new.journal e (Some (record { before = c.in-Err-Disk.before; after = c.in-Err-Disk.after })) c.enter_stop.new.keeper.list in
-    (subst P (sym (ap (λ (m : Machine). m.end) c.in-Err-Disk.ensures.same)) order, c.self.invariant.1)
-
-pub returns-in-Err-Disk-clause-any_moment : goal.returns-in-Err-Disk-clause-any_moment
-returns-in-Err-Disk-clause-any_moment g c =
-    let o = c.self.inside in
-    let size = c.folded_size-size.ensures.size in
-    rw (← c.self.view_is) (λ going image told.
-    let had = (c.self.invariant.0.kept c.in_default.is).records image told in
-    fold_run g.D.Disk.moment g.D.Disk.left_since o.journal.disk c.fold_end.new.journal.disk had.0 o.core.end size.0 had.2 size.1 (c.fold_end.ensures.any_moment had.0 size.0 had.1 size.1))
-
-pub returns-in-Err-Disk-clause-safe : goal.returns-in-Err-Disk-clause-safe
-returns-in-Err-Disk-clause-safe g c going =
-    let o = c.self.inside in
-    let order = order_stops g.D.Disk.seen g.D.Disk.may_leave g.D.Disk.fault_count o.journal o.core.end o.halt o.keeper.list c.self.invariant.0 c.fold_end.new.journal c.enter_stop.new.keeper.list _ (record { before = c.in-Err-Disk.before; after = c.in-Err-Disk.after }) c.in_default.is c.enter_stop.ensures.list (c.in-Err-Disk.ensures.cause c.in-Err-Disk.before c.in-Err-Disk.after c.in-Err-Disk.field-0-is).1 in
-    subst (λ (e : End). KeepsEnd g.D.Disk.seen g.D.Disk.may_leave c.fold_end.new.journal.disk e) (sym (ap (λ (m : Machine). m.end) c.in-Err-Disk.ensures.same))
-    (order_keeps g.D.Disk.seen g.D.Disk.may_leave g.D.Disk.fault_count c.fold_end.new.journal o.core.end _ c.enter_stop.new.keeper.list order going)
-
-pub returns-in-Err-Disk-clause-legal : goal.returns-in-Err-Disk-clause-legal
-returns-in-Err-Disk-clause-legal g c =
-    let o = c.self.inside in
-    let counts = (c.in-Err-Disk.ensures.cause c.in-Err-Disk.before c.in-Err-Disk.after c.in-Err-Disk.field-0-is) in
+    let order = c.self.invariant.0 in
+    let after = c.fold_end.new.journal in
+    let halt : Halt = record { before = c.in-Err-Disk.before; after = c.in-Err-Disk.after } in
+    let counts = c.in-Err-Disk.ensures.cause c.in-Err-Disk.before c.in-Err-Disk.after c.in-Err-Disk.field-0-is in
     let rose : Rose c.in-Err-Disk.before c.in-Err-Disk.after = omega (arith, counts.0, counts.1, counts.2) in
-    rw (← c.self.view_is, ap (λ (m : Machine). m.end) c.in-Err-Disk.ensures.same) (stop_leads o.core.modes o.keeper.list c.enter_stop.new.keeper.list _ (record { before = c.in-Err-Disk.before; after = c.in-Err-Disk.after }) o.core.end (sym c.self.invariant.0.halted ∙ c.in_default.is) c.enter_stop.ensures.list rose)
+    let size = c.folded_size-size.ensures.size in
+    let now = order_stops g.D.Disk.seen g.D.Disk.may_leave g.D.Disk.fault_count o.journal o.core.end o.core.modes o.halt o.keeper.list order after c.enter_stop.new.keeper.list None halt c.in_default.is c.enter_stop.ensures.list rose counts.1
+    (λ image told left may.
+    let was = told_before (g.D.Disk.seen o.journal.disk) (g.D.Disk.seen after.disk) image c.fold_end.ensures.tells told in
+    let had = (order.kept c.in_default.is).records was.0 was.1 in
+    at_end g.D.Disk.moment g.D.Disk.left_since o.journal.disk after.disk (λ i. OpensFolded i o.core.end) (g.D.Disk.may_leave after.disk) (g.met.D.Disk.counts_now after.disk)
+    (fold_run g.D.Disk.moment g.D.Disk.left_since o.journal.disk after.disk had.0 o.core.end size.0 had.2 size.1 (c.fold_end.ensures.any_moment had.0 size.0 had.1 size.1)) left may) in
+    let P : Machine → Type 0 = λ m. IsInOrder g.D.Disk.seen g.D.Disk.may_leave g.D.Disk.fault_count after m.end m.modes (Some halt) c.enter_stop.new.keeper.list in
+    (subst P (sym c.in-Err-Disk.ensures.same) now, c.self.invariant.1)
+
+pub returns-in-Err-Disk : goal.returns-in-Err-Disk
+returns-in-Err-Disk g c =
+    let o = c.self.inside in
+    let order = c.self.invariant.0 in
+    let after = c.fold_end.new.journal in
+    let more = c.enter_stop.new.keeper.list in
+    let halt : Halt = record { before = c.in-Err-Disk.before; after = c.in-Err-Disk.after } in
+    let going = sym order.halted ∙ c.in_default.is in
+    let counts = c.in-Err-Disk.ensures.cause c.in-Err-Disk.before c.in-Err-Disk.after c.in-Err-Disk.field-0-is in
+    let rose : Rose c.in-Err-Disk.before c.in-Err-Disk.after = omega (arith, counts.0, counts.1, counts.2) in
+    let size = c.folded_size-size.ensures.size in
+    let room : length o.keeper.list < 2 ^ 63 = omega (arith, c.len.ensures.value, c.len.ensures.limit, c.if-len.false) in
+    let P : Machine → Type 0 = λ m. IsInOrder g.D.Disk.seen g.D.Disk.may_leave g.D.Disk.fault_count after m.end m.modes (Some halt) more in
+    rw (← c.self.view_is, c.enter_stop.ensures.fault, c.in-Err-Disk.ensures.same) (record {
+      answer = record {
+        going = going;
+        end = refl;
+        old_count = counts.0;
+        new_count = counts.1;
+        rose = rose;
+        entered = enters g.D.Disk.seen g.D.Disk.may_leave g.D.Disk.fault_count o.journal after o.core.end o.core.end o.core.modes o.core.modes o.core.rooms o.core.rooms o.keeper.book c.enter_stop.new.keeper.book o.keeper.list more c.args.pass.now c.enter_stop.new.pass
+            (Stop None halt) room c.enter_stop.ensures.seen c.enter_stop.ensures.list c.enter_stop.ensures.pass;
+      };
+      any_moment = λ goes image told.
+          let had = (order.kept c.in_default.is).records image told in
+          fold_run g.D.Disk.moment g.D.Disk.left_since o.journal.disk after.disk had.0 o.core.end size.0 had.2 size.1 (c.fold_end.ensures.any_moment had.0 size.0 had.1 size.1);
+      keeps = keeps g.D.Disk.seen g.D.Disk.may_leave g.D.Disk.fault_count o.journal after o.core.end o.core.end o.core.modes o.core.modes o.core.rooms o.core.rooms o.keeper.book c.enter_stop.new.keeper.book o.keeper.list more c.args.pass.now c.enter_stop.new.pass
+          (Some halt) (subst P c.in-Err-Disk.ensures.same (invariant_of-self-in-Err-Disk g c).0) refl c.enter_stop.ensures.book (ap (λ (p : PassState Call). p.book) c.enter_stop.ensures.pass) (ap (λ (p : PassState Call). p.stake) c.enter_stop.ensures.pass)
+          (stop_leads o.core.modes o.keeper.list more None halt o.core.end going c.enter_stop.ensures.list rose) c.fold_end.ensures.tells c.fold_end.ensures.counted;
+    })

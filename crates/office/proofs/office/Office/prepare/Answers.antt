@@ -1,18 +1,52 @@
-use Rattle.std.proofs.Common.{sym, subst}
+use Rattle.std.proofs.Common.{◌≡◌, ◌==◌, ◌∙◌, ℕ, [], List, true, false, length, refl, sym, ap, subst, arith}
+use Rattle.as4_values.specs.declared.mode.Mode.{Mode}
 use Rattle.exchange_model.specs.End.{End}
-use Rattle.end_records.specs.Opens.{KeepsEnd}
-use Rattle.office.proofs.StateLemmas.{order_keeps}
+use Rattle.exchange_model.specs.declared.outcome.Outcome.{Outcome}
+use Rattle.office.specs.Calls.{Leads}
+use Rattle.office.specs.State.{IsInOrder}
+use Rattle.office.proofs.HandlingLemmas.{keeps}
 use Rattle.office.proofs.office.Office.prepare.Goals as goal
 
--- the core has made room, and its end is as before
-pub returns-in-Err-clause-safe : goal.returns-in-Err-clause-safe
-returns-in-Err-clause-safe g c going =
-    let o = c.self.inside in
-    subst (λ (e : End). KeepsEnd g.D.Disk.seen g.D.Disk.may_leave o.journal.disk e) (sym c.prepare.ensures.end)
-    (order_keeps g.D.Disk.seen g.D.Disk.may_leave g.D.Disk.fault_count o.journal o.core.end o.halt o.keeper.list c.self.invariant.0 going)
+pub returns-in-Err-clause-free : goal.returns-in-Err-clause-free
+returns-in-Err-clause-free g c = rw (← c.self.view_is) c.in-Err.ensures.free
 
-pub returns-clause-safe : goal.returns-clause-safe
-returns-clause-safe g c going =
+-- the core has made room, and its end is as before
+pub returns-in-Err-clause-keeps : goal.returns-in-Err-clause-keeps
+returns-in-Err-clause-keeps g c =
     let o = c.self.inside in
-    subst (λ (e : End). KeepsEnd g.D.Disk.seen g.D.Disk.may_leave o.journal.disk e) (sym c.prepare.ensures.end)
-    (order_keeps g.D.Disk.seen g.D.Disk.may_leave g.D.Disk.fault_count o.journal o.core.end o.halt o.keeper.list c.self.invariant.0 going)
+    let core = c.prepare.new.self in
+    let order = subst (λ (e : End). IsInOrder g.D.Disk.seen g.D.Disk.may_leave g.D.Disk.fault_count o.journal e core.modes o.halt o.keeper.list) (sym c.prepare.ensures.end)
+    (subst (λ (m : List Mode). IsInOrder g.D.Disk.seen g.D.Disk.may_leave g.D.Disk.fault_count o.journal o.core.end m o.halt o.keeper.list) (sym c.prepare.ensures.modes) c.self.invariant.0) in
+    rw (← c.self.view_is) (λ pass. keeps g.D.Disk.seen g.D.Disk.may_leave g.D.Disk.fault_count o.journal o.journal o.core.end core.end o.core.modes core.modes o.core.rooms core.rooms o.keeper.book o.keeper.book o.keeper.list o.keeper.list pass pass
+    o.halt order c.prepare.ensures.modes refl refl refl (λ start leads. subst (λ (e : End). Leads o.core.modes start o.keeper.list e) (sym c.prepare.ensures.end) leads) refl (omega arith))
+
+pub returns-then-is_empty-clause-keeps : goal.returns-then-is_empty-clause-keeps
+returns-then-is_empty-clause-keeps g c =
+    let o = c.self.inside in
+    let core = c.prepare.new.self in
+    let order = subst (λ (e : End). IsInOrder g.D.Disk.seen g.D.Disk.may_leave g.D.Disk.fault_count o.journal e core.modes o.halt o.keeper.list) (sym c.prepare.ensures.end)
+    (subst (λ (m : List Mode). IsInOrder g.D.Disk.seen g.D.Disk.may_leave g.D.Disk.fault_count o.journal o.core.end m o.halt o.keeper.list) (sym c.prepare.ensures.modes) c.self.invariant.0) in
+    rw (← c.self.view_is) (λ pass. keeps g.D.Disk.seen g.D.Disk.may_leave g.D.Disk.fault_count o.journal o.journal o.core.end core.end o.core.modes core.modes o.core.rooms core.rooms o.keeper.book o.keeper.book o.keeper.list o.keeper.list pass pass
+    o.halt order c.prepare.ensures.modes refl refl refl (λ start leads. subst (λ (e : End). Leads o.core.modes start o.keeper.list e) (sym c.prepare.ensures.end) leads) refl (omega arith))
+
+true_not_false : true ≡ false → ⊥
+true_not_false same = cc
+
+-- there are effects, so it isn't free
+pub returns-clause-free : goal.returns-clause-free
+returns-clause-free g c =
+    rw (← c.self.view_is) (λ outcome step free.
+    let same : outcome ≡ c.in-Ok.plan.outcome = c.an_event_has_one_outcome.ensures _ _ _ _ _ step c.in-Ok.ensures.step in
+    let none : c.in-Ok.plan.outcome.effects ≡ [] = sym (ap (λ (o : Outcome). o.effects) same) ∙ free.rests in
+    let empty : c.is_empty.result ≡ true = c.is_empty.ensures ∙ ap (λ (n : ℕ). n == 0) (ap length (c.items.ensures ∙ c.effects.ensures ∙ none)) in
+    let some : c.is_empty.result ≡ false = c.if-is_empty.false in
+    absurd (true_not_false (sym empty ∙ some)))
+
+pub returns-clause-keeps : goal.returns-clause-keeps
+returns-clause-keeps g c =
+    let o = c.self.inside in
+    let core = c.prepare.new.self in
+    let order = subst (λ (e : End). IsInOrder g.D.Disk.seen g.D.Disk.may_leave g.D.Disk.fault_count o.journal e core.modes o.halt o.keeper.list) (sym c.prepare.ensures.end)
+    (subst (λ (m : List Mode). IsInOrder g.D.Disk.seen g.D.Disk.may_leave g.D.Disk.fault_count o.journal o.core.end m o.halt o.keeper.list) (sym c.prepare.ensures.modes) c.self.invariant.0) in
+    rw (← c.self.view_is) (λ pass. keeps g.D.Disk.seen g.D.Disk.may_leave g.D.Disk.fault_count o.journal o.journal o.core.end core.end o.core.modes core.modes o.core.rooms core.rooms o.keeper.book o.keeper.book o.keeper.list o.keeper.list pass pass
+    o.halt order c.prepare.ensures.modes refl refl refl (λ start leads. subst (λ (e : End). Leads o.core.modes start o.keeper.list e) (sym c.prepare.ensures.end) leads) refl (omega arith))

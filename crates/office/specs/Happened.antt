@@ -1,0 +1,15 @@
+-- What happened at an end by the calls of its office.
+use Rattle.std.specs.Prelude.{◌≡◌, List, [], ◌∷◌}
+use Rattle.as4_values.specs.declared.mode.Mode.{Mode}
+use Rattle.exchange_model.specs.World.{Does, Folds, Happening, Side}
+use Rattle.office.specs.declared.call.Call.{Call}
+use Rattle.office.specs.declared.call.Call.TheVariants.{Done, Folded, Stop}
+
+-- each event that was made, with its reply, and each fold; from a fault of the disk on nothing happened
+abbrev pub Happened : Side → List Mode → List Call → List Happening → Type 0
+Happened side modes [] all = all ≡ []
+Happened side modes (Done event reply ∷ calls) (Does act ∷ all) =
+    (act.side ≡ side) × (act.modes ≡ modes) × (act.event ≡ event) × (act.outcome.reply ≡ reply) × Happened side modes calls all
+Happened side modes (Folded size ∷ calls) (Folds at left ∷ all) = (at ≡ side) × (left ≡ size) × Happened side modes calls all
+Happened side modes (Stop event halt ∷ calls) all = all ≡ []
+Happened side modes calls all = ⊥

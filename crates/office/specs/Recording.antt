@@ -1,0 +1,58 @@
+-- How the record of a step comes to the disk.
+use Rattle.std.specs.Prelude.{◌≡◌, ◌≢◌, ◌⊎◌, ℕ, Bool, true, List, [], Option, drop}
+use Rattle.as4_disk.specs.Image.{Image}
+use Rattle.as4_disk.specs.Runs.{LeavesOnly, MakesAll}
+use Rattle.as4_disk.specs.declared.change.Change.{Change}
+use Rattle.as4_disk.specs.declared.part.Part.{Part}
+use Rattle.as4_flow.specs.Told.{Told}
+use Rattle.end_journal.specs.Frames.{IsFrameOf}
+use Rattle.end_records.specs.Opens.{IsJournalOf, OpensOnly, OpensWith}
+use Rattle.end_records.specs.Puts.{Puts}
+use Rattle.end_records.specs.Records.{RecordLeads}
+use Rattle.exchange_model.specs.Apply.{applied}
+use Rattle.exchange_model.specs.End.{End}
+use Rattle.exchange_model.specs.declared.outcome.Outcome.{Outcome}
+use Rattle.journal.specs.Calls.{record_calls}
+use Rattle.journal.specs.Leaf.{frame_of}
+use Rattle.journal.specs.declared.journal.Journal.{Journal}
+use Rattle.msh_core.specs.Machine.{IsReady, Machine}
+use Rattle.msh_core.specs.Small.{IsSmallReady, StandsFor}
+use Rattle.office.specs.declared.work.Work.{Work}
+use Rattle.office.specs.declared.work.Work.TheVariants.{Large, Small}
+
+-- A record that leads from one end to the next was put on a disk by its four calls, up to one that failed.
+pub record Writes {D : Type 0} (seen : D → Option Image) (may_leave : D → Image → Type 0) (makes : Change → D → D → Bool → Type 0) (old new : D) (end next : End) (ok : Bool) : Type 0 where
+  pub part : Part
+  pub gate : ℕ
+  pub body : List ℕ
+  pub leads : RecordLeads body end next
+  pub puts : Told (seen old) (λ _. Puts (may_leave old) part gate (drop 1 (frame_of body)) end next)
+  pub calls : MakesAll makes (record_calls part gate body) old new ok
+
+-- The outcome's record was put on the disk by its four calls, up to one that failed. Without effects there is no record,
+-- and the disk wasn't touched.
+abbrev pub IsRecorded : {D : Type 0} → (D → Option Image) → (D → Image → Type 0) → (Change → D → D → Bool → Type 0) → D → D → End → Outcome → Bool → Type 0
+IsRecorded seen may_leave makes old new end outcome ok =
+    ((outcome.effects ≡ []) × (new ≡ old) × (ok ≡ true))
+    ⊎ ((outcome.effects ≢ []) × Writes seen may_leave makes old new end (applied outcome.effects end) ok)
+
+-- the work is what this machine has to do for the outcome
+abbrev pub IsWorkFor : Machine → Outcome → Work → Type 0
+IsWorkFor machine outcome (Large plan frame) =
+    (plan.outcome ≡ outcome) × IsReady machine plan × IsFrameOf outcome.effects frame
+IsWorkFor machine outcome (Small plan) = IsSmallReady machine plan × StandsFor machine.end plan outcome
+
+module _ {D : Type 0} (seen : D → Option Image) (may_leave : D → Image → Type 0) (moment : D → ℕ) (left_since : D → ℕ → Image → Type 0) (makes : Change → D → D → Bool → Type 0) (old new : Journal D) (end : End) where
+  -- a record that leads on to this end was put behind those of the journal
+  pub record PutsBehind (next : End) (ok : Bool) : Type 0 where
+    pub kept : ok ≡ true → IsJournalOf seen may_leave next new
+    pub any_moment : Told (seen old.disk) (λ _. LeavesOnly moment left_since old.disk new.disk
+        (λ (c : Image). OpensWith c end (λ n. n ≡ next) ⊎ OpensOnly c next))
+    pub writes : Writes seen may_leave makes old.disk new.disk end next ok
+
+  -- the outcome's was, where it has effects
+  pub record RecordsStep (outcome : Outcome) (ok : Bool) : Type 0 where
+    pub kept : ok ≡ true → IsJournalOf seen may_leave (applied outcome.effects end) new
+    pub any_moment : Told (seen old.disk) (λ _. LeavesOnly moment left_since old.disk new.disk
+        (λ (c : Image). OpensWith c end (λ n. n ≡ applied outcome.effects end) ⊎ OpensOnly c (applied outcome.effects end)))
+    pub recorded : IsRecorded seen may_leave makes old.disk new.disk end outcome ok
