@@ -5,7 +5,8 @@ use Rattle.exchange_model.specs.World.{Does, Folds, Happening, Side}
 use Rattle.office.specs.declared.call.Call.{Call}
 use Rattle.office.specs.declared.call.Call.TheVariants.{Done, Folded, Stop}
 
--- each event that was made, with its reply, and each fold; from a fault of the disk on nothing happened
+-- Each event that was made, with its reply, and each fold. From a fault of the disk on nothing happened that the office
+-- knows of: the step of the event that met it may be found made when the disk is opened again.
 abbrev pub Happened : Side → List Mode → List Call → List Happening → Type 0
 Happened side modes [] all = all ≡ []
 Happened side modes (Done event reply ∷ calls) (Does act ∷ all) =
