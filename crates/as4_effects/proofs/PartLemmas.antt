@@ -13,6 +13,7 @@ use Rattle.as4_values.specs.declared.header.Property.{Property}
 use Rattle.as4_values.specs.declared.header.PartInfo.{PartInfo}
 use Rattle.as4_values.specs.declared.header.UserHeader.{UserHeader}
 use Rattle.as4_values.specs.declared.payload.Payload.{Payload}
+use Rattle.as4_values.specs.declared.moment.TheConstants.{MAX_MOMENT}
 use Rattle.as4_effects.specs.Parts.{party_parts, service_parts, agreement_parts, property_parts, side_parts, part_parts, Header, header_parts, payload_parts, Sent, submission_parts, delivery_parts, carried_parts}
 use Rattle.as4_effects.specs.Sound.{kept_body, fits_an_effect}
 use Rattle.as4_effects.specs.Whole.{IsSubmission, IsDelivery}
@@ -124,7 +125,7 @@ delivery_told =
     (λ t. hlevel props) whole_delivery (λ d. refl)
 
 pub tick_told : (a b : Tick) → a.moment ≡ b.moment → a ≡ b
-tick_told = told_by (λ t. t.moment) (λ m. m ≤ 253402300799999) (λ m is. record { moment = m; dated = is }) (λ m. hlevel props) (λ t. t.dated) (λ t. refl)
+tick_told = told_by (λ t. t.moment) (λ m. m ≤ MAX_MOMENT) (λ m is. record { moment = m; dated = is }) (λ m. hlevel props) (λ t. t.dated) (λ t. refl)
 
 pub carried_told : (a b : Carried) → carried_parts a ≡ carried_parts b → a ≡ b
 carried_told a b e =
@@ -134,7 +135,7 @@ carried_told a b e =
 
 pub carried_same : (a b : Carried) → a.submission ≡ b.submission → a.tries ≡ b.tries → a.last ≡ b.last → a.standing ≡ b.standing → a ≡ b
 carried_same a b submission tries last standing =
-    told_by {X = (Submission × ℕ) × (ℕ × Mark)} (λ c. ((c.submission, c.tries), (c.last, c.standing))) (λ t. t.1.0 ≤ 253402300799999)
+    told_by {X = (Submission × ℕ) × (ℕ × Mark)} (λ c. ((c.submission, c.tries), (c.last, c.standing))) (λ t. t.1.0 ≤ MAX_MOMENT)
     (λ t is. record { submission = t.0.0; tries = t.0.1; last = t.1.0; standing = t.1.1; dated = is })
     (λ t. hlevel props) (λ c. c.dated) (λ c. refl) a b cc
 

@@ -4,13 +4,14 @@ use Rattle.as4_values.specs.ModeRanges.{IsRetries, IsPeriod}
 use Rattle.as4_values.specs.declared.header.UserHeader.{UserHeader}
 use Rattle.as4_values.specs.declared.payload.Payload.{Payload}
 use Rattle.as4_values.specs.declared.route.Route.{Route}
+use Rattle.as4_values.specs.declared.moment.TheConstants.{MAX_MOMENT}
 use Rattle.as4_effects.specs.Pairing.{pair}
 use Rattle.as4_effects.specs.Sound.{is_id_of, is_route, submitted_body, delivered_body, fits_an_effect}
 
 -- the numbers of a submission
 abbrev pub AreNumbers : ℕ → ℕ → ℕ → ℕ → Type 0
 AreNumbers number retries period moment =
-    (number < 1048576) × IsRetries retries × IsPeriod period × (moment ≤ 253402300799999)
+    (number < 1048576) × IsRetries retries × IsPeriod period × (moment ≤ MAX_MOMENT)
 
 -- its other fields
 pub record AreMatched (number : ℕ) (header : UserHeader) (payloads : List Payload) (route : Route) : Type 0 where

@@ -1,4 +1,5 @@
 ghost use Rattle.std.specs.Prelude.{◌≤◌};
+ghost use Rattle.as4_values.specs.declared.moment.TheConstants.{MAX_MOMENT};
 
 use crate::mark::Mark;
 use crate::submission::Submission;
@@ -14,7 +15,7 @@ pub struct Carried {
     /// When it was sent last, in milliseconds since 1970, before the year 10,000; 0 where it never was.
     pub last: u64,
     pub standing: Mark,
-    pub ghost dated: { last ≤ 253402300799999 },
+    pub ghost dated: { last ≤ MAX_MOMENT },
 }
 
 impl PlainData for Carried {

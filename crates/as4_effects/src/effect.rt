@@ -1,4 +1,5 @@
 ghost use Rattle.std.specs.Prelude.{◌≤◌};
+ghost use Rattle.as4_values.specs.declared.moment.TheConstants.{MAX_MOMENT};
 
 use crate::carried::Carried;
 use crate::delivery::Delivery;
@@ -12,7 +13,7 @@ use std::alloc::Global;
 pub struct Tick {
     /// In milliseconds since 1970, before the year 10,000.
     pub moment: u64,
-    pub ghost dated: { moment ≤ 253402300799999 },
+    pub ghost dated: { moment ≤ MAX_MOMENT },
 }
 
 /// One change at one end of an exchange.

@@ -1,4 +1,5 @@
 ghost use Rattle.std.specs.Prelude.{◌<◌, ◌≤◌, IsTrue};
+ghost use Rattle.as4_values.specs.declared.moment.TheConstants.{MAX_MOMENT};
 ghost use Rattle.as4_values.specs.ModeRanges.{IsRetries, IsPeriod};
 ghost use Rattle.as4_effects.specs.Pairing.{pair};
 ghost use Rattle.as4_effects.specs.Sound.{is_id_of, is_route, submitted_body, fits_an_effect};
@@ -28,7 +29,7 @@ pub struct Submission {
     pub ghost routed: { IsTrue (is_route route) },
     pub ghost limited: { IsRetries retries },
     pub ghost timed: { IsPeriod period },
-    pub ghost dated: { moment ≤ 253402300799999 },
+    pub ghost dated: { moment ≤ MAX_MOMENT },
     pub ghost fits: { IsTrue (fits_an_effect (submitted_body number header payloads route retries period moment)) },
 }
 

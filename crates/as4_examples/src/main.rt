@@ -12,10 +12,13 @@ use std::{fs, io};
 
 /// The names of the files, their endings, and the commands that read them. `NAME.ENDING` leads to `NAME.txt`. The messages
 /// are as other handlers write them.
-const EXAMPLES: [(&str, &str, &str); 8] = [
+const EXAMPLES: [(&str, &str, &str); 11] = [
+    ("both-ends-crash", "drill", "drill"),
     ("bundled-pulls", "drill", "drill"),
     ("clean-push", "drill", "drill"),
+    ("fold-midway", "drill", "drill"),
     ("losses-and-repeats", "drill", "drill"),
+    ("power-cuts", "drill", "drill"),
     ("pulls", "drill", "drill"),
     ("retries-until-spent", "drill", "drill"),
     ("as-domibus-writes", "as4", "check"),

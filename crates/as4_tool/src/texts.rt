@@ -42,8 +42,13 @@ z and 0 to 9; PACKAGE and NUMBER count from 0:
   read END NUMBER                 shows a message of the inbox
   confirm END NUMBER              takes over the messages of the inbox up to this one
   status END NUMBER               shows how it stands with a message that was submitted
+  crash END                       the power of the end fails: its disk, as it was last written, is opened again
+  stop CALL PICK LINE             runs a LINE of submit, tick, take, came or confirm: its device call CALL, 1 to 4, is
+                                  the last to act, and its answer is lost. Of what the disk may hold then, that of PICK
+                                  is opened again: old, new or other
+  fold END                        writes the journal of the end anew, where that makes it shorter
 A script has at most 1000000 lines of at most 1048576 bytes each, names at most 1024 modes and makes at most 100000
-events: each line but mode makes one, where the package or the submission that it names is there.
+events: each line but mode, crash and fold makes one, where the package or the submission that it names is there.
 
 exit statuses, each but 0 and 1 with one line on the errors, as it stands here up to the colon:
    0  done

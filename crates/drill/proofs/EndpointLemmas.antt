@@ -1,20 +1,28 @@
 -- What an end sends, the other end can take.
-use Rattle.std.proofs.Common.{◌≡◌, ℕ, List, ◌++◌, Bool, true, false, if◌then◌else◌, length, get_or, ltb, sym, subst}
-use Rattle.std.specs.Prelude.{IfSome, IsTrue, None, Option, Some, is_some}
+use Rattle.std.proofs.Common.{◌≡◌, ◌⊎◌, inl, inr, ℕ, ◌∙◌, ◌≤◌, List, ◌++◌, Bool, true, false, if◌then◌else◌, length, get_or, ltb, refl, sym, subst, ap}
+use Rattle.std.specs.Prelude.{Err, IfOk, IfSome, IsTrue, None, Ok, Option, Result, Some, is_some}
 use Rattle.std.specs.List.{Contains}
 use Rattle.std.proofs.lemmas.List.Elements.{All-append, Contains-get_or}
 use Rattle.std.proofs.lemmas.Bool.{ltb-true}
 use Rattle.as4_values.specs.declared.message.Message.{Message}
 use Rattle.as4_values.specs.declared.mode.Mode.{Mode}
-use Rattle.drill.specs.Endpoints.{CanAllCome}
+use Rattle.as4_disk.specs.Memory.{DiskState}
+use Rattle.as4_disk.specs.Image.{Image}
+use Rattle.drill.specs.Disks.{IsOf}
+use Rattle.drill.specs.Endpoints.{CanAllCome, EndpointState, IsStoppedAt, MatchFold}
+use Rattle.exchange_model.specs.Apply.{applied}
 use Rattle.exchange_model.specs.Coming.{may_come}
 use Rattle.exchange_model.specs.End.{End}
 use Rattle.exchange_model.specs.Table.{Step}
-use Rattle.exchange_model.specs.World.{sends}
+use Rattle.exchange_model.specs.World.{Speaker, folded, sends, speaker_after}
 use Rattle.exchange_model.specs.declared.event.Event.{Event}
 use Rattle.exchange_model.specs.declared.outcome.Outcome.{Outcome}
 use Rattle.exchange_model.specs.declared.reply.Reply.{Reply}
 use Rattle.exchange_model.specs.declared.what.What.TheVariants as what
+use Rattle.office.specs.Folds.{IsShortEnough, Shortens}
+use Rattle.office.specs.State.{IsPreparedFor, OfficeState, Prepared}
+use Rattle.office.specs.declared.call.Call.{Call}
+use Rattle.pass_book.specs.States.{PassState}
 
 -- the law of what is sent
 abbrev pub SentMayCome : Type 0
@@ -39,3 +47,74 @@ pub sent_if : {X : Type 0} (now : X → Message) (found : Option X) (said : List
     → IfSome found (λ m. now m ≡ get_or said k (now m)) → IfSome found (λ m. Contains said (now m))
 sent_if now None said k is here = tt
 sent_if now (Some m) said k is here = (k, ltb-true k (length said) (sym is), sym here)
+
+-- what a checkpoint of an office does to who speaks through it
+pub checkpoint_folds : {D : Type 0} (old new : OfficeState D) (pass_old pass_new : PassState Call) (size : ℕ) (said : List Message)
+    → Shortens old new pass_old pass_new size ⊎ IsShortEnough old new pass_old pass_new size
+    → (let before : Speaker = record { end = old.end; said = said } in
+    let after : Speaker = record { end = new.end; said = said } in
+    MatchFold old.end (λ s. after ≡ folded s before) (after ≡ before))
+checkpoint_folds old new pass_old pass_new size said (inl short) =
+    inl (size, short.folded, short.shorter, ap (λ (e : End). let s : Speaker = record { end = e; said = said } in s) short.end)
+checkpoint_folds {D} old new pass_old pass_new size said (inr enough) =
+    inr (
+      (λ other is. subst (λ (n : ℕ). n ≤ other) enough.present (enough.least other is)),
+      ap (λ (o : OfficeState D). let s : Speaker = record { end = o.end; said = said } in s) enough.same,
+    )
+
+-- the laws of one event
+
+abbrev pub HasOneOutcome : Type 0
+HasOneOutcome = (modes : List Mode) (end : End) (event : Event) (a b : Outcome) → Step modes end event a → Step modes end event b → a ≡ b
+
+-- what an office enacts is what it had prepared
+pub enacted : HasOneOutcome → (old mid new : OfficeState DiskState) (ready : Prepared) (event : Event) (reply : Reply) (outcome : Outcome)
+    → mid ≡ record old { rooms = mid.rooms } → ready.event ≡ event → IsPreparedFor mid ready
+    → Step mid.modes mid.end ready.event outcome → reply ≡ outcome.reply → new.end ≡ applied outcome.effects mid.end
+    → Step old.modes old.end event ready.plan.outcome × (reply ≡ ready.plan.outcome.reply) × (new.end ≡ applied ready.plan.outcome.effects old.end)
+enacted law old mid new ready event reply outcome rooms same prepared step replied ends =
+    let planned : Outcome = ready.plan.outcome in
+    let one : outcome ≡ planned = law mid.modes mid.end ready.event outcome planned step prepared.step in
+    let modes : mid.modes ≡ old.modes = ap (λ (o : OfficeState DiskState). o.modes) rooms in
+    let end : mid.end ≡ old.end = ap (λ (o : OfficeState DiskState). o.end) rooms in (
+      subst (λ (m : List Mode). Step m old.end event planned) modes
+          (subst (λ (e : End). Step mid.modes e event planned) end (subst (λ (v : Event). Step mid.modes mid.end v planned) same prepared.step)),
+      replied ∙ ap (λ (o : Outcome). o.reply) one,
+      ends ∙ ap (λ (o : Outcome). applied o.effects mid.end) one ∙ ap (λ (e : End). applied planned.effects e) end,
+    )
+
+-- an end that is opened on an image, with these packages and modes
+
+abbrev pub IsWith : List Message → List Mode → EndpointState → Type 0
+IsWith said modes e = (e.speaker.said ≡ said) × (e.modes ≡ modes)
+
+abbrev pub OpensOn : Image → EndpointState → Type 0
+OpensOn image e = (end : End) → IsOf end image → e.speaker.end ≡ end
+
+-- of an image of its own it is the same again
+pub opened_on : {E : Type 0} (result : Result EndpointState E) (old : EndpointState) (said : List Message) (modes : List Mode) (image : Image)
+    → IfOk result (IsWith said modes) → IfOk result (OpensOn image) → IsOf old.speaker.end image → said ≡ old.speaker.said → modes ≡ old.modes
+    → IfOk result (λ e. e ≡ old)
+opened_on (Ok e) old said modes image kept opens is same own = λ i. record {
+  speaker = record { end = opens old.speaker.end is i; said = (kept.0 ∙ same) i };
+  modes = (kept.1 ∙ own) i;
+}
+opened_on (Err error) old said modes image kept opens is same own = tt
+
+by_stand : (stands : Bool) (outcome : Outcome) (old new : Speaker) → new.end ≡ (if stands then applied outcome.effects old.end else old.end)
+    → new.said ≡ old.said → new ≡ (if stands then speaker_after outcome true old else old)
+by_stand true outcome old new ends said = λ i. record { end = ends i; said = said i }
+by_stand false outcome old new ends said = λ i. record { end = ends i; said = said i }
+
+-- of an image that a stop left it has the step, or hasn't
+pub stopped_on : {E : Type 0} (result : Result EndpointState E) (old : EndpointState) (event : Event) (outcome : Outcome) (stands : Bool)
+    (said : List Message) (modes : List Mode) (image : Image)
+    → IfOk result (IsWith said modes) → IfOk result (OpensOn image) → Step old.modes old.speaker.end event outcome
+    → IsOf (if stands then applied outcome.effects old.speaker.end else old.speaker.end) image → said ≡ old.speaker.said
+    → IfOk result (IsStoppedAt event stands old)
+stopped_on (Ok e) old event outcome stands said modes image kept opens step is same = record {
+  outcome = outcome;
+  step = step;
+  leads = by_stand stands outcome old.speaker e.speaker (opens _ is) (kept.0 ∙ same);
+}
+stopped_on (Err error) old event outcome stands said modes image kept opens step is same = tt

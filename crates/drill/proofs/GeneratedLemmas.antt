@@ -1,23 +1,24 @@
 -- How the generated world is led on, line by line.
-use Rattle.std.proofs.Common.{◌≡◌, ◌≢◌, ℕ, zero, suc, ◌+◌, ◌*◌, ◌^◌, ◌%◌, ◌==◌, ◌<◌, ◌≤◌, List, [], ◌∷◌, ◌++◌, Bool, true, false, ◌&&◌, nat_le, if◌then◌else◌, length, Some, refl, sym, ◌∙◌, ap, subst, arith, append_assoc, length-append, codes}
+use Rattle.std.proofs.Common.{◌≡◌, ◌≢◌, inl, inr, ℕ, zero, suc, ◌+◌, ◌*◌, ◌^◌, ◌%◌, ◌==◌, ◌<◌, ◌≤◌, List, [], ◌∷◌, ◌++◌, Bool, true, false, ◌&&◌, nat_le, if◌then◌else◌, length, Some, refl, sym, ◌∙◌, ap, subst, arith, append_assoc, length-append, codes}
 use Rattle.std.specs.Prelude.{IsTrue, Ok, OnOk, Err, Result, ⊤}
 use Rattle.std.specs.Fmt.{decimal}
 use Rattle.std.proofs.lemmas.Bool.{and_from, eq-eqb, ne_eqb, le-leb, lt-ltb, leb-false}
 use Rattle.std.proofs.lemmas.Fmt.{length-decimal-le}
 use Rattle.std.proofs.lemmas.List.{append-nil}
 use Rattle.std.proofs.Math.Nat.{mod-add-mod}
-use Rattle.drill.specs.Events.{Doing, Sets, Does, Says}
+use Rattle.drill.specs.Events.{Doing}
 use Rattle.drill.specs.Generated.{IsGenerated, Leads, Pushes, PlaysRound, Rounds, Taken, transmission, carried, carried_both, counted, submissions, ticks_a, invoice, next_number, size_by}
 use Rattle.drill.specs.Generating.{Grows, PlaysTransmission}
-use Rattle.drill.specs.Transcript.{Plays, PlaysAll, DrillState, doing_of, events_limit, is_right, is_too_many, new_state}
+use Rattle.drill.specs.Transcript.{Plays, PlaysAll, DrillState, doing_of, events_limit, is_right, is_too_many, new_state, running_of}
 use Rattle.drill.proofs.EndLemmas.{Delivers}
-use Rattle.drill.proofs.SpendLemmas.{submits_grow}
+use Rattle.drill.proofs.SpendLemmas.{line_events, submits_grow}
 use Rattle.drill.proofs.StateLemmas.{right_at_end}
-use Rattle.drill_script.specs.LineText.{line_text, line_limit, is_line, is_name, load_text}
+use Rattle.drill_script.specs.LineText.{line_text, line_limit, is_line, is_name, is_stoppable, load_text}
 use Rattle.drill_script.specs.declared.line.EndName.{EndName}
 use Rattle.drill_script.specs.declared.line.EndName.TheVariants as name
 use Rattle.drill_script.specs.declared.line.Line.{Line}
 use Rattle.drill_script.specs.declared.line.Line.TheVariants as line
+use Rattle.drill_script.specs.declared.line.Stoppable.TheVariants as run
 use Rattle.drill_script.specs.declared.line.ScriptLoad.TheVariants.{Size}
 use Rattle.drill_script.specs.declared.line.Way.TheVariants.{Push}
 use Rattle.exchange_model.specs.DeliveredOnce.{HasDeliveredOnce}
@@ -50,7 +51,7 @@ leads_none old new same = ([], (refl, same))
 
 -- the rule, at this number of the counter
 carried_twice_is : (c : ℕ) (end : EndName) (place : ℕ) → c % 3 ≢ 2 → c % 5 ≡ 4
-    → line.Came end place ∷ line.Lost end place ∷ [] ≡ carried c end place
+    → line.Run (run.Came end place) ∷ line.Lost end place ∷ [] ≡ carried c end place
 carried_twice_is c end place first last = rw (ne_eqb (c % 3) 2 first, eq-eqb (c % 5) 4 last) refl
 
 both_is : (c place answer : ℕ) → c % 3 ≢ 2 → carried c name.B place ++ carried (c + 1) name.A answer ≡ carried_both c place answer
@@ -70,9 +71,9 @@ leads_more (Ok done) xs ys all old mid new is first rest =
 leads_more (Err e) xs ys all old mid new is first rest = tt
 
 pub carried_twice : {E : Type 0} (result : Result ⊤ E) (c : ℕ) (end : EndName) (place : ℕ) (old mid new : DrillState) → c % 3 ≢ 2 → c % 5 ≡ 4
-    → Leads (line.Came end place ∷ []) old mid → OnOk result (Leads (line.Lost end place ∷ []) mid new) → OnOk result (Leads (carried c end place) old new)
+    → Leads (line.Run (run.Came end place) ∷ []) old mid → OnOk result (Leads (line.Lost end place ∷ []) mid new) → OnOk result (Leads (carried c end place) old new)
 carried_twice result c end place old mid new first last came lost =
-    leads_more result (line.Came end place ∷ []) (line.Lost end place ∷ []) (carried c end place) old mid new (carried_twice_is c end place first last) came lost
+    leads_more result (line.Run (run.Came end place) ∷ []) (line.Lost end place ∷ []) (carried c end place) old mid new (carried_twice_is c end place first last) came lost
 
 pub both_carried : {E : Type 0} (result : Result ⊤ E) (c place answer : ℕ) (old mid new : DrillState) → c % 3 ≢ 2
     → Leads (carried c name.B place) old mid → OnOk result (Leads (carried (c + 1) name.A answer) mid new)
@@ -83,13 +84,10 @@ both_carried result c place answer old mid new first there back =
 -- events don't fall
 
 line_rises : (l : Line) (doing : Doing) (old new : DrillState) (text : List ℕ) → Plays l doing old text new → old.events ≤ new.events
-line_rises (line.Mode name way retries period) doing old new text plays =
-    let same : new.events ≡ old.events = ap (λ (s : DrillState). s.events) plays.3 in omega arith
-line_rises l (Does ask) old new text makes =
-    let more : new.events ≡ old.events + 1 = ap (λ (s : DrillState). s.events) makes.leads in omega arith
-line_rises l (Says end words) old new text says =
-    let same : new.events ≡ old.events = ap (λ (s : DrillState). s.events) says.1 in omega arith
-line_rises l Sets old new text never = absurd never
+line_rises l doing old new text plays = elim (line_events l doing old new text plays) [
+  | inl same ↦ omega (arith, same)
+  | inr more ↦ omega (arith, more)
+]
 
 plays_rise : (lines : List Line) (old new : DrillState) (text : List ℕ) → PlaysAll lines old text new → old.events ≤ new.events
 plays_rise [] old new text plays = let same : new.events ≡ old.events = ap (λ (s : DrillState). s.events) plays.1 in omega arith
@@ -99,16 +97,16 @@ plays_rise (l ∷ lines) old new text plays =
     omega arith
 
 -- a message that is taken is one event
-take_event : (old new : DrillState) (text : List ℕ) → Plays (line.Take name.A) (doing_of old.world (line.Take name.A)) old text new
+take_event : (old new : DrillState) (text : List ℕ) → Plays (line.Run (run.Take name.A)) (doing_of old.world (line.Run (run.Take name.A))) old text new
     → new.events ≡ old.events + 1
-unfolding doing_of
+unfolding doing_of running_of
 take_event old new text makes = ap (λ (s : DrillState). s.events) makes.leads
 
-take_few : (old : DrillState) → is_too_many (line.Take name.A) old ≡ false → old.events < events_limit
-unfolding doing_of
+take_few : (old : DrillState) → is_too_many (line.Run (run.Take name.A)) old ≡ false → old.events < events_limit
+unfolding doing_of running_of
 take_few old few = leb-false events_limit old.events few
 
-pub take_rises : (lines : List Line) (old new : DrillState) → Leads (line.Take name.A ∷ lines) old new
+pub take_rises : (lines : List Line) (old new : DrillState) → Leads (line.Run (run.Take name.A) ∷ lines) old new
     → (old.events + 1 ≤ new.events) × (old.events < events_limit)
 take_rises lines old new leads =
     let plays = leads.1 in
@@ -119,14 +117,14 @@ take_rises lines old new leads =
 -- a transmission
 
 pub transmission_played : (c place answer later : ℕ) (old mid new : DrillState) → place ≡ length old.world.left.said → answer ≡ length old.world.right.said
-    → later ≡ counted c → Pushes old.world.left.end → Leads (line.Take name.A ∷ []) old mid → Leads (carried_both c place answer) mid new
+    → later ≡ counted c → Pushes old.world.left.end → Leads (line.Run (run.Take name.A) ∷ []) old mid → Leads (carried_both c place answer) mid new
     → PlaysTransmission c old new (Some later)
 transmission_played c place answer later old mid new here there counts pushes took rest = (
   counts,
   pushes,
   subst (λ (n : ℕ). Leads (transmission c n (length old.world.right.said)) old new) here
       (subst (λ (n : ℕ). Leads (transmission c place n) old new) there
-      (leads_append (line.Take name.A ∷ []) (carried_both c place answer) old mid new took rest)),
+      (leads_append (line.Run (run.Take name.A) ∷ []) (carried_both c place answer) old mid new took rest)),
 )
 
 -- one more is taken
@@ -169,7 +167,7 @@ transmission_few c later old new few transmission =
 decimal_short : (n : ℕ) → n < 2 ^ 64 → length (decimal n) ≤ 20
 decimal_short n small = length-decimal-le 20 n (omega arith) (omega arith) small
 
-pub came_short : (end : EndName) (n : ℕ) → n < 2 ^ 64 → length (line_text (line.Came end n)) ≤ line_limit
+pub came_short : (end : EndName) (n : ℕ) → n < 2 ^ 64 → length (line_text (line.Run (run.Came end n))) ≤ line_limit
 unfolding line_text
 came_short name.A n small = let short = decimal_short n small in omega (arith, length-append {A = ℕ})
 came_short name.B n small = let short = decimal_short n small in omega (arith, length-append {A = ℕ})
@@ -179,19 +177,19 @@ unfolding line_text
 lost_short name.A n small = let short = decimal_short n small in omega (arith, length-append {A = ℕ})
 lost_short name.B n small = let short = decimal_short n small in omega (arith, length-append {A = ℕ})
 
-pub tick_short : (n : ℕ) → n < 2 ^ 64 → length (line_text (line.Tick name.A n)) ≤ line_limit
+pub tick_short : (n : ℕ) → n < 2 ^ 64 → length (line_text (line.Run (run.Tick name.A n))) ≤ line_limit
 unfolding line_text
 tick_short n small = let short = decimal_short n small in omega (arith, length-append {A = ℕ})
 
-short_submission : (n : ℕ) → n < 2 ^ 64 → length (line_text (line.Submit name.A invoice (Size n))) ≤ line_limit
+short_submission : (n : ℕ) → n < 2 ^ 64 → length (line_text (line.Run (run.Submit name.A invoice (Size n)))) ≤ line_limit
 unfolding line_text load_text
 short_submission n small = let short = decimal_short n small in omega (arith, length-append {A = ℕ})
 
-pub submit_short : (mode : List ℕ) (n : ℕ) → mode ≡ invoice → n ≤ 40960 → length (line_text (line.Submit name.A mode (Size n))) ≤ line_limit
+pub submit_short : (mode : List ℕ) (n : ℕ) → mode ≡ invoice → n ≤ 40960 → length (line_text (line.Run (run.Submit name.A mode (Size n)))) ≤ line_limit
 unfolding line_text load_text
 submit_short mode n is low = rw is (short_submission n (omega arith))
 
-pub take_short : length (line_text (line.Take name.A)) ≤ line_limit
+pub take_short : length (line_text (line.Run (run.Take name.A))) ≤ line_limit
 unfolding line_text
 take_short = omega arith
 
@@ -204,24 +202,24 @@ mode_short =
 
 -- and in range
 
-pub came_said : (end : EndName) (n : ℕ) → n < 2 ^ 64 → IsTrue (is_line (line.Came end n))
-unfolding is_line
+pub came_said : (end : EndName) (n : ℕ) → n < 2 ^ 64 → IsTrue (is_line (line.Run (run.Came end n)))
+unfolding is_line is_stoppable
 came_said end n small = lt-ltb n (2 ^ 64) small
 
 pub lost_said : (end : EndName) (n : ℕ) → n < 2 ^ 64 → IsTrue (is_line (line.Lost end n))
 unfolding is_line
 lost_said end n small = lt-ltb n (2 ^ 64) small
 
-pub tick_said : (n : ℕ) → n ≤ 33000 → IsTrue (is_line (line.Tick name.A n))
-unfolding is_line
+pub tick_said : (n : ℕ) → n ≤ 33000 → IsTrue (is_line (line.Run (run.Tick name.A n)))
+unfolding is_line is_stoppable
 tick_said n small = le-leb n 253402300799999 (omega arith)
 
-pub submit_said : (mode : List ℕ) (n : ℕ) → mode ≡ invoice → n ≤ 40960 → IsTrue (is_line (line.Submit name.A mode (Size n)))
-unfolding is_line is_name
+pub submit_said : (mode : List ℕ) (n : ℕ) → mode ≡ invoice → n ≤ 40960 → IsTrue (is_line (line.Run (run.Submit name.A mode (Size n))))
+unfolding is_line is_stoppable is_name
 submit_said mode n is small = rw is (le-leb n 16777216 (omega arith))
 
-pub take_said : IsTrue (is_line (line.Take name.A))
-unfolding is_line
+pub take_said : IsTrue (is_line (line.Run (run.Take name.A)))
+unfolding is_line is_stoppable
 take_said = refl
 
 pub mode_said : IsTrue (is_line (line.Mode invoice Push 10 3000))
@@ -230,20 +228,20 @@ mode_said = refl
 
 -- and right
 
-pub came_right : (end : EndName) (n : ℕ) (state : DrillState) → n < 2 ^ 64 → is_right (line.Came end n) state ≡ true
-came_right end n state small = right_at_end (line.Came end n) state tt (came_said end n small) (came_short end n small)
+pub came_right : (end : EndName) (n : ℕ) (state : DrillState) → n < 2 ^ 64 → is_right (line.Run (run.Came end n)) state ≡ true
+came_right end n state small = right_at_end (line.Run (run.Came end n)) state tt (came_said end n small) (came_short end n small)
 
 pub lost_right : (end : EndName) (n : ℕ) (state : DrillState) → n < 2 ^ 64 → is_right (line.Lost end n) state ≡ true
 lost_right end n state small = right_at_end (line.Lost end n) state tt (lost_said end n small) (lost_short end n small)
 
-pub tick_right : (n : ℕ) (state : DrillState) → n ≤ 33000 → is_right (line.Tick name.A n) state ≡ true
-tick_right n state small = right_at_end (line.Tick name.A n) state tt (tick_said n small) (tick_short n (omega arith))
+pub tick_right : (n : ℕ) (state : DrillState) → n ≤ 33000 → is_right (line.Run (run.Tick name.A n)) state ≡ true
+tick_right n state small = right_at_end (line.Run (run.Tick name.A n)) state tt (tick_said n small) (tick_short n (omega arith))
 
-pub take_right : (state : DrillState) → is_right (line.Take name.A) state ≡ true
-take_right state = right_at_end (line.Take name.A) state tt take_said take_short
+pub take_right : (state : DrillState) → is_right (line.Run (run.Take name.A)) state ≡ true
+take_right state = right_at_end (line.Run (run.Take name.A)) state tt take_said take_short
 
-pub submit_right : (mode : List ℕ) (n : ℕ) (state : DrillState) → mode ≡ invoice → n ≤ 40960 → is_right (line.Submit name.A mode (Size n)) state ≡ true
-submit_right mode n state is small = right_at_end (line.Submit name.A mode (Size n)) state tt (submit_said mode n is small) (submit_short mode n is small)
+pub submit_right : (mode : List ℕ) (n : ℕ) (state : DrillState) → mode ≡ invoice → n ≤ 40960 → is_right (line.Run (run.Submit name.A mode (Size n))) state ≡ true
+submit_right mode n state is small = right_at_end (line.Run (run.Submit name.A mode (Size n))) state tt (submit_said mode n is small) (submit_short mode n is small)
 
 pub mode_right : (state : DrillState) → state ≡ new_state → is_right (line.Mode invoice Push 10 3000) state ≡ true
 mode_right state is =
@@ -296,23 +294,23 @@ submits_none seed old = record {
 }
 
 pub submits_more : (seed : ℕ) (old : DrillState) (done number next size : ℕ) (mid new : DrillState) → next ≡ next_number number → size ≡ size_by seed next
-    → SubmitsSoFar seed old done number mid → Leads (line.Submit name.A invoice (Size size) ∷ []) mid new
+    → SubmitsSoFar seed old done number mid → Leads (line.Run (run.Submit name.A invoice (Size size)) ∷ []) mid new
     → SubmitsSoFar seed old (done + 1) next new
 submits_more seed old done number next size mid new is sized on one = record {
-  front = on.front ++ line.Submit name.A invoice (Size size) ∷ [];
+  front = on.front ++ line.Run (run.Submit name.A invoice (Size size)) ∷ [];
   cut = λ more. cuts more;
-  leads = leads_append on.front (line.Submit name.A invoice (Size size) ∷ []) old mid new on.leads one;
+  leads = leads_append on.front (line.Run (run.Submit name.A invoice (Size size)) ∷ []) old mid new on.leads one;
   grows = (let more = submits_grow invoice (Size size) mid new one in (omega (arith, on.grows.0, more.0), omega (arith, on.grows.1, more.1)));
 }
   where
     cuts : (more : ℕ) → submissions seed seed ((done + 1) + more)
-        ≡ (on.front ++ line.Submit name.A invoice (Size size) ∷ []) ++ submissions seed next more
+        ≡ (on.front ++ line.Run (run.Submit name.A invoice (Size size)) ∷ []) ++ submissions seed next more
     cuts more =
         let first : size_by seed (next_number number) ≡ size = ap (size_by seed) (sym is) ∙ sym sized in
         ap (submissions seed seed) (sym (one_later done more)) ∙ on.cut (suc more)
-        ∙ ap (λ (n : ℕ). on.front ++ line.Submit name.A invoice (Size n) ∷ submissions seed (next_number number) more) first
-        ∙ ap (λ (n : ℕ). on.front ++ line.Submit name.A invoice (Size size) ∷ submissions seed n more) (sym is)
-        ∙ sym (append_assoc on.front (line.Submit name.A invoice (Size size) ∷ []) (submissions seed next more))
+        ∙ ap (λ (n : ℕ). on.front ++ line.Run (run.Submit name.A invoice (Size n)) ∷ submissions seed (next_number number) more) first
+        ∙ ap (λ (n : ℕ). on.front ++ line.Run (run.Submit name.A invoice (Size size)) ∷ submissions seed n more) (sym is)
+        ∙ sym (append_assoc on.front (line.Run (run.Submit name.A invoice (Size size)) ∷ []) (submissions seed next more))
 
 pub submits_done : (seed : ℕ) (old : DrillState) (count number : ℕ) (mid : DrillState) → SubmitsSoFar seed old count number mid
     → Leads (submissions seed seed count) old mid
@@ -329,8 +327,8 @@ unfolding next_number
 next_is x = mod-add-mod (x * 6364136223846793005) (2 ^ 64) 1442695040888963407
 
 pub submit_named : {E : Type 0} (result : Result ⊤ E) (mode : List ℕ) (n : ℕ) (old new : DrillState) → mode ≡ invoice
-    → OnOk result (Leads (line.Submit name.A mode (Size n) ∷ []) old new) → OnOk result (Leads (line.Submit name.A invoice (Size n) ∷ []) old new)
-submit_named result mode n old new is leads = subst (λ (m : List ℕ). OnOk result (Leads (line.Submit name.A m (Size n) ∷ []) old new)) is leads
+    → OnOk result (Leads (line.Run (run.Submit name.A mode (Size n)) ∷ []) old new) → OnOk result (Leads (line.Run (run.Submit name.A invoice (Size n)) ∷ []) old new)
+submit_named result mode n old new is leads = subst (λ (m : List ℕ). OnOk result (Leads (line.Run (run.Submit name.A m (Size n)) ∷ []) old new)) is leads
 
 -- the mode's line, where the name is built
 
@@ -365,7 +363,7 @@ taken_lead (suc takes) c old later new taken =
 round_leads : (round c : ℕ) (old : DrillState) (later : ℕ) (new : DrillState) → PlaysRound round c old later new → SomeLead old new
 round_leads round c old later new plays =
     lead_then old plays.0 new (ticks_a (3000 * round), plays.2)
-    (lead_then plays.0 plays.3.0 new (taken_lead plays.1 c plays.0 later plays.3.0 plays.3.1) (line.Take name.A ∷ [], plays.3.3))
+    (lead_then plays.0 plays.3.0 new (taken_lead plays.1 c plays.0 later plays.3.0 plays.3.1) (line.Run (run.Take name.A) ∷ [], plays.3.3))
 
 rounds_lead : (rounds round c : ℕ) (old new : DrillState) → Rounds rounds round c old new → SomeLead old new
 rounds_lead zero round c old new same = ([], leads_none old new same)

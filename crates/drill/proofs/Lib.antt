@@ -1,3 +1,4 @@
+pub mod DiskLemmas
 pub mod EndLemmas
 pub mod EndpointLemmas
 pub mod GeneratedLemmas

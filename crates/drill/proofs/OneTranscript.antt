@@ -1,5 +1,5 @@
 -- A script has one transcript: what each of its lines writes and leads to is told by the line and the state.
-use Rattle.std.proofs.Common.{◌≡◌, ℕ, ◌+◌, ◌≤◌, List, [], ◌∷◌, ◌++◌, Bool, true, Option, length, sym, ap, ◌∙◌, subst, codes}
+use Rattle.std.proofs.Common.{◌≡◌, ℕ, ◌+◌, ◌≤◌, inl, inr, List, [], ◌∷◌, ◌++◌, Bool, true, if◌then◌else◌, Option, length, sym, ap, ◌∙◌, subst, codes, arith}
 use Rattle.std.specs.Prelude.{IsTrue}
 use Rattle.std.proofs.Props.{props}
 use Rattle.as4_effects.proofs.PartLemmas.{side_told}
@@ -9,9 +9,13 @@ use Rattle.as4_values.specs.declared.header.Agreement.{Agreement}
 use Rattle.as4_values.specs.declared.header.Service.{Service}
 use Rattle.as4_values.specs.declared.header.Side.{Side}
 use Rattle.as4_values.specs.declared.mode.Mode.{Mode}
+use Rattle.as4_values.specs.declared.moment.TheConstants.{MAX_MOMENT}
 use Rattle.as4_values.specs.declared.route.Route.{Route}
-use Rattle.drill.specs.Events.{Asked, Doing, Sets, Does, Says, side_of}
-use Rattle.drill.specs.Transcript.{Makes, Plays, PlaysAll, DrillState, doing_of}
+use Rattle.as4_disk.specs.declared.change.Pick.{Pick}
+use Rattle.drill.specs.Endpoints.{MatchFold}
+use Rattle.drill.specs.Events.{Asked, Doing, Sets, Does, Stops, Reopens, Folds, Says, site_of}
+use Rattle.drill.specs.Transcript.{IsActOf, IsFoldAt, IsStopped, Makes, Plays, PlaysAll, DrillState, doing_of, stands}
+use Rattle.drill_script.specs.declared.line.EndName.{EndName}
 use Rattle.drill_script.specs.declared.line.Line.{Line}
 use Rattle.drill_script.specs.declared.line.Line.TheVariants as line
 use Rattle.drill_script.specs.declared.line.Way.{Way}
@@ -19,16 +23,17 @@ use Rattle.drill_texts.specs.Modes.{IsDrillMode, IsDrillSide}
 use Rattle.drill_texts.specs.Texts.{said_line, reply_text}
 use Rattle.exchange_model.specs.Coming.{may_come}
 use Rattle.exchange_model.specs.Table.{Step}
-use Rattle.exchange_model.specs.World.{Act, Left, MayHappenAt, Right, Side as WorldSide, World, party_after, party_at, world_at}
+use Rattle.exchange_model.specs.World.{Act, Left, MayHappenAt, Right, Site, World, folded_at, speaker_after, speaker_at, world_at}
 use Rattle.exchange_model.specs.declared.event.Event.{Event}
 use Rattle.exchange_model.specs.declared.outcome.Outcome.{Outcome}
 use Rattle.exchange_model.specs.declared.what.What.{What}
+use Rattle.msh_core.proofs.FoldSizeLemmas.{one_size}
 use Rattle.outcome_laws.proofs.OneOutcome.{one_outcome}
 
 -- an event is told by its parts
 
 record IsEvent (stamp : ℕ) (w : What) : Type 0 where
-  dated : stamp ≤ 253402300799999
+  dated : stamp ≤ MAX_MOMENT
   deliverable : IsTrue (may_come w)
 
 event_of : (t : ℕ × ℕ × What) → IsEvent t.0 t.2 → Event
@@ -154,30 +159,67 @@ one_mode name way retries period a b h k = mode_told a b (λ i. record {
 
 -- what is done at an end
 
-step_at : (side : WorldSide) (act : Act) (world : World) → MayHappenAt side act world
-    → Step act.modes (party_at side world).end act.event act.outcome
+step_at : (site : Site) (act : Act) (world : World) → MayHappenAt site act world
+    → Step act.modes (speaker_at site world).end act.event act.outcome
 step_at Left act world may = may.step
 step_at Right act world may = may.step
 
-one_world : (side : WorldSide) (a b : Act) (world : World) → a.outcome ≡ b.outcome → a.lost ≡ b.lost → world_at side a world ≡ world_at side b world
-one_world Left a b world outcomes losses = λ i. record { left = party_after (outcomes i) (losses i) world.left; right = world.right }
-one_world Right a b world outcomes losses = λ i. record { left = world.left; right = party_after (outcomes i) (losses i) world.right }
+one_world : (site : Site) (a b : Act) (world : World) → a.outcome ≡ b.outcome → a.lost ≡ b.lost → world_at site a world ≡ world_at site b world
+one_world Left a b world outcomes losses = λ i. record { left = speaker_after (outcomes i) (losses i) world.left; right = world.right }
+one_world Right a b world outcomes losses = λ i. record { left = world.left; right = speaker_after (outcomes i) (losses i) world.right }
+
+-- the act of an event has one outcome
+one_act : (ask : Asked) (lost : Bool) (old : DrillState) (a b : Act) → IsActOf ask lost old a → IsActOf ask lost old b → a.outcome ≡ b.outcome
+one_act ask lost old a b h k =
+    let events : a.event ≡ b.event = event_told a.event b.event (h.stamp ∙ sym k.stamp) (h.nonce ∙ sym k.nonce) (h.does ∙ sym k.does) in
+    let first : Step old.modes (speaker_at (site_of ask.end) old.world).end b.event a.outcome =
+    subst (λ (e : Event). Step old.modes (speaker_at (site_of ask.end) old.world).end e a.outcome) events
+    (subst (λ (m : List Mode). Step m (speaker_at (site_of ask.end) old.world).end a.event a.outcome) h.modes (step_at (site_of ask.end) a old.world h.may)) in
+    let next : Step old.modes (speaker_at (site_of ask.end) old.world).end b.event b.outcome =
+    subst (λ (m : List Mode). Step m (speaker_at (site_of ask.end) old.world).end b.event b.outcome) k.modes (step_at (site_of ask.end) b old.world k.may) in
+    one_outcome old.modes (speaker_at (site_of ask.end) old.world).end b.event a.outcome b.outcome first next
+
+one_act_world : (ask : Asked) (lost : Bool) (old : DrillState) (a b : Act) → IsActOf ask lost old a → IsActOf ask lost old b
+    → world_at (site_of ask.end) a old.world ≡ world_at (site_of ask.end) b old.world
+one_act_world ask lost old a b h k = one_world (site_of ask.end) a b old.world (one_act ask lost old a b h k) (h.lost ∙ sym k.lost)
 
 one_makes : (ask : Asked) (old a b : DrillState) (text words : List ℕ) → Makes ask old text a → Makes ask old words b → (text ≡ words) × (a ≡ b)
-one_makes ask old a b text words h k =
-    let events : h.act.event ≡ k.act.event = event_told h.act.event k.act.event (h.stamp ∙ sym k.stamp) (h.nonce ∙ sym k.nonce) (h.does ∙ sym k.does) in
-    let first : Step old.modes (party_at (side_of ask.end) old.world).end k.act.event h.act.outcome =
-    subst (λ (e : Event). Step old.modes (party_at (side_of ask.end) old.world).end e h.act.outcome) events
-    (subst (λ (m : List Mode). Step m (party_at (side_of ask.end) old.world).end h.act.event h.act.outcome) h.modes (step_at (side_of ask.end) h.act old.world h.may)) in
-    let next : Step old.modes (party_at (side_of ask.end) old.world).end k.act.event k.act.outcome =
-    subst (λ (m : List Mode). Step m (party_at (side_of ask.end) old.world).end k.act.event k.act.outcome) k.modes (step_at (side_of ask.end) k.act old.world k.may) in
-    let outcomes : h.act.outcome ≡ k.act.outcome = one_outcome old.modes (party_at (side_of ask.end) old.world).end k.act.event h.act.outcome k.act.outcome first next in
-    let worlds = one_world (side_of ask.end) h.act k.act old.world outcomes (h.lost ∙ sym k.lost) in (
-      h.says
-          ∙ ap (λ (o : Outcome). said_line ask.end (reply_text ask.number ask.lost (length (party_at (side_of ask.end) old.world).said) o.reply)) outcomes
-          ∙ sym k.says,
-      h.leads ∙ (λ i. record { world = worlds i; modes = old.modes; events = old.events + 1; begun = true }) ∙ sym k.leads,
-    )
+one_makes ask old a b text words h k = (
+  h.says
+      ∙ ap (λ (o : Outcome). said_line ask.end (reply_text ask.number ask.lost (length (speaker_at (site_of ask.end) old.world).said) o.reply))
+      (one_act ask ask.lost old h.act k.act h.is k.is)
+      ∙ sym k.says,
+  h.leads
+      ∙ ap (λ (w : World). record { world = w; modes = old.modes; events = old.events + 1; begun = true }) (one_act_world ask ask.lost old h.act k.act h.is k.is)
+      ∙ sym k.leads,
+)
+
+one_stop : (call : ℕ) (pick : Pick) (ask : Asked) (old a b : DrillState) (text words : List ℕ) → IsStopped call pick ask old text a
+    → IsStopped call pick ask old words b → (text ≡ words) × (a ≡ b)
+one_stop call pick ask old a b text words h k = (
+  h.says ∙ sym k.says,
+  h.leads
+      ∙ ap (λ (w : World). record { world = if stands call pick then w else old.world; modes = old.modes; events = old.events + 1; begun = true })
+      (one_act_world ask true old h.act k.act h.is k.is)
+      ∙ sym k.leads,
+)
+
+-- a journal is folded to one size, or to none
+one_folded : (site : Site) (old a b : World) → MatchFold (speaker_at site old).end (λ size. a ≡ folded_at site size old) (a ≡ old)
+    → MatchFold (speaker_at site old).end (λ size. b ≡ folded_at site size old) (b ≡ old) → a ≡ b
+one_folded site old a b (inl h) (inl k) =
+    h.3 ∙ ap (λ (size : ℕ). folded_at site size old) (one_size (speaker_at site old).end h.0 k.0 h.1 k.1) ∙ sym k.3
+one_folded site old a b (inl h) (inr k) = absurd (omega (arith, h.2, k.0 h.0 h.1))
+one_folded site old a b (inr h) (inl k) = absurd (omega (arith, k.2, h.0 k.0 k.1))
+one_folded site old a b (inr h) (inr k) = h.1 ∙ sym k.1
+
+one_fold_at : (end : EndName) (old a b : DrillState) (text words : List ℕ) → IsFoldAt end old text a → IsFoldAt end old words b → (text ≡ words) × (a ≡ b)
+one_fold_at end old a b text words h k = (
+  h.says ∙ sym k.says,
+  h.leads
+      ∙ ap (λ (w : World). record { world = w; modes = old.modes; events = old.events; begun = true }) (one_folded (site_of end) old.world h.world k.world h.folds k.folds)
+      ∙ sym k.leads,
+)
 
 -- what a line does
 
@@ -188,6 +230,9 @@ one_plays (line.Mode name way retries period) doing old a b text words h k = (
   h.3 ∙ ap (λ (m : Mode). record old { modes = old.modes ++ m ∷ [] }) (one_mode name way retries period h.0 k.0 h.1 k.1) ∙ sym k.3,
 )
 one_plays l (Does ask) old a b text words h k = one_makes ask old a b text words h k
+one_plays l (Stops call pick ask) old a b text words h k = one_stop call pick ask old a b text words h k
+one_plays l (Reopens end) old a b text words h k = (h.0 ∙ sym k.0, h.1 ∙ sym k.1)
+one_plays l (Folds end) old a b text words h k = one_fold_at end old a b text words h k
 one_plays l (Says end told) old a b text words h k = (h.0 ∙ sym k.0, h.1 ∙ sym k.1)
 one_plays l Sets old a b text words h k = absurd h
 

@@ -25,7 +25,7 @@ use Rattle.exchange_model.proofs.ListLemmas.{Has, first_least_has, has_filtered}
 use Rattle.exchange_model.specs.Apply.{after, after_all, applied, changed, failed_if_spent, marked, record_len, tried, unsent}
 use Rattle.exchange_model.specs.End.{End}
 use Rattle.exchange_model.specs.Questions.{due, head_of, is_in, is_known, is_pending, is_ready, is_waiting, sent_of}
-use Rattle.exchange_model.specs.Refusing.{Refusal, once, refusal_of, refusals_of}
+use Rattle.exchange_model.specs.Refusing.{Rejection, once, refusal_of, refusals_of}
 use Rattle.exchange_model.specs.Submitting.{address_of, are_too_large}
 use Rattle.exchange_model.specs.Table.{Comes, Errs, IsLimited, PairComes, PullComes, ReceiptComes, RowOf, Settles, SignalComes, Step, Submits, Takes, Ticks, UserComes, has_room, is_quiet, message_of, names_channel}
 use Rattle.exchange_model.specs.World.{sends}
@@ -200,7 +200,7 @@ receipt_calm end event id ref_to copy row h =
     settles_calm s k =
         by_bool _ _ _ (is_pending s) k (λ _ g. calm_by row (effect.Receipted s.submission.number ∷ []) _ g (tt, tt)) (λ _ g. calm_by row [] _ g tt)
 
-refusals_calm : (refusals : List Refusal) → AllCalm (map (λ (refusal : Refusal). effect.Refused refusal.number refusal.code) refusals)
+refusals_calm : (refusals : List Rejection) → AllCalm (map (λ (refusal : Rejection). effect.Refused refusal.number refusal.code) refusals)
 refusals_calm [] = tt
 refusals_calm (refusal ∷ refusals) = (tt, refusals_calm refusals)
 

@@ -1,5 +1,5 @@
 -- A line has no LF.
-use Rattle.std.proofs.Common.{◌≡◌, ◌≢◌, ℕ, ◌/◌, ◌%◌, ◌^◌, ◌<◌, ◌≤◌, ◌&&◌, true, nat_le, nat_lt, List, [], ◌∷◌, length, IsTrue, codes, refl, subst, arith}
+use Rattle.std.proofs.Common.{◌≡◌, ◌≢◌, ℕ, ◌/◌, ◌%◌, ◌^◌, ◌<◌, ◌≤◌, ◌&&◌, true, nat_le, nat_lt, List, [], ◌∷◌, length, IsTrue, codes, refl, sym, subst, arith}
 use Rattle.std.specs.Char.{digit_value}
 use Rattle.std.specs.Fmt.{decimal}
 use Rattle.std.specs.List.{list_all}
@@ -7,17 +7,22 @@ use Rattle.std.specs.Str.Parse.{AllDigits}
 use Rattle.std.proofs.lemmas.Bool.{and_parts, leb-true, lt-ltb, ltb-true}
 use Rattle.std.proofs.lemmas.Bool.Decides.{nat_tests}
 use Rattle.std.proofs.lemmas.Fmt.{decimal_is_IsNumeral}
+use Rattle.as4_disk.specs.declared.change.Pick.{Pick}
+use Rattle.as4_disk.specs.declared.change.Pick.TheVariants as pick
 use Rattle.drill_script.specs.Lacking.{Lacks, spaced}
-use Rattle.drill_script.specs.LineText.{line_text, is_line, is_drill_byte, is_name, is_load, end_text, way_text, load_text, hex_text, hex_digit}
+use Rattle.drill_script.specs.LineText.{line_text, is_line, is_drill_byte, is_name, is_load, is_stoppable, end_text, way_text, pick_text, load_text, hex_text, hex_digit, stoppable_text}
 use Rattle.drill_script.specs.declared.line.EndName.{EndName}
 use Rattle.drill_script.specs.declared.line.EndName.TheVariants.{A, B}
 use Rattle.drill_script.specs.declared.line.Line.{Line}
 use Rattle.drill_script.specs.declared.line.Line.TheVariants as line
 use Rattle.drill_script.specs.declared.line.ScriptLoad.{ScriptLoad}
 use Rattle.drill_script.specs.declared.line.ScriptLoad.TheVariants.{Nothing, Hex, Size}
+use Rattle.drill_script.specs.declared.line.Stoppable.{Stoppable}
+use Rattle.drill_script.specs.declared.line.Stoppable.TheVariants as run
 use Rattle.drill_script.specs.declared.line.Way.{Way}
 use Rattle.drill_script.specs.declared.line.Way.TheVariants.{Push, Pull}
 use Rattle.drill_script.proofs.LackingLemmas.{Lacks_none, Lacks_more, Lacks_append, Lacks_tested}
+use Rattle.drill_script.proofs.LineLemmas.{stop_tail}
 
 -- words parted by a space
 spaced_unbroken : (front rest : List ℕ) → Lacks 10 front → Lacks 10 rest → Lacks 10 (spaced front rest)
@@ -30,6 +35,11 @@ end_unbroken B = Lacks_tested 10 _ refl
 way_unbroken : (way : Way) → Lacks 10 (way_text way)
 way_unbroken Push = Lacks_tested 10 _ refl
 way_unbroken Pull = Lacks_tested 10 _ refl
+
+pick_unbroken : (pick : Pick) → Lacks 10 (pick_text pick)
+pick_unbroken pick.Old = Lacks_tested 10 _ refl
+pick_unbroken pick.New = Lacks_tested 10 _ refl
+pick_unbroken pick.Other = Lacks_tested 10 _ refl
 
 digits_unbroken : (digits : List ℕ) → AllDigits 10 digits → Lacks 10 digits
 digits_unbroken [] each = Lacks_none 10
@@ -81,6 +91,19 @@ counted_unbroken word end number first small =
     spaced_unbroken word (spaced (end_text end) (decimal number)) first
     (spaced_unbroken (end_text end) (decimal number) (end_unbroken end) (decimal_unbroken number (ltb-true number (2 ^ 64) small)))
 
+run_unbroken : (said : Stoppable) → IsTrue (is_stoppable said) → Lacks 10 (stoppable_text said)
+unfolding is_stoppable
+run_unbroken (run.Submit end mode load) right =
+    let parts = and_parts (is_name mode) (is_load load) right in
+    spaced_unbroken _ _ (Lacks_tested 10 (codes "submit") refl)
+    (spaced_unbroken _ _ (end_unbroken end) (spaced_unbroken _ _ (name_unbroken mode parts.0) (load_unbroken load parts.1)))
+run_unbroken (run.Tick end moment) right =
+    let low : moment ≤ 253402300799999 = leb-true moment 253402300799999 right in
+    counted_unbroken (codes "tick") end moment (Lacks_tested 10 _ refl) (lt-ltb moment (2 ^ 64) (omega arith))
+run_unbroken (run.Take end) right = spaced_unbroken _ _ (Lacks_tested 10 (codes "take") refl) (end_unbroken end)
+run_unbroken (run.Came end number) right = counted_unbroken (codes "came") end number (Lacks_tested 10 _ refl) right
+run_unbroken (run.Confirm end number) right = counted_unbroken (codes "confirm") end number (Lacks_tested 10 _ refl) right
+
 pub line_unbroken : (said : Line) → IsTrue (is_line said) → Lacks 10 (line_text said)
 unfolding is_line line_text
 line_unbroken (line.Mode name way retries period) right =
@@ -93,14 +116,7 @@ line_unbroken (line.Mode name way retries period) right =
     (spaced_unbroken _ _ (name_unbroken name named.0)
     (spaced_unbroken _ _ (way_unbroken way)
     (spaced_unbroken _ _ (decimal_unbroken retries (omega arith)) (decimal_unbroken period (omega arith)))))
-line_unbroken (line.Submit end mode load) right =
-    let parts = and_parts (is_name mode) (is_load load) right in
-    spaced_unbroken _ _ (Lacks_tested 10 (codes "submit") refl)
-    (spaced_unbroken _ _ (end_unbroken end) (spaced_unbroken _ _ (name_unbroken mode parts.0) (load_unbroken load parts.1)))
-line_unbroken (line.Tick end moment) right =
-    let low : moment ≤ 253402300799999 = leb-true moment 253402300799999 right in
-    counted_unbroken (codes "tick") end moment (Lacks_tested 10 _ refl) (lt-ltb moment (2 ^ 64) (omega arith))
-line_unbroken (line.Take end) right = spaced_unbroken _ _ (Lacks_tested 10 (codes "take") refl) (end_unbroken end)
+line_unbroken (line.Run l) right = run_unbroken l right
 line_unbroken (line.Ask end mode) right =
     spaced_unbroken _ _ (Lacks_tested 10 (codes "ask") refl) (spaced_unbroken _ _ (end_unbroken end) (name_unbroken mode right))
 line_unbroken (line.Pair end mode number) right =
@@ -108,8 +124,15 @@ line_unbroken (line.Pair end mode number) right =
     spaced_unbroken _ _ (Lacks_tested 10 (codes "pair") refl)
     (spaced_unbroken _ _ (end_unbroken end)
     (spaced_unbroken _ _ (name_unbroken mode parts.0) (decimal_unbroken number (ltb-true number (2 ^ 64) parts.1))))
-line_unbroken (line.Came end number) right = counted_unbroken (codes "came") end number (Lacks_tested 10 _ refl) right
 line_unbroken (line.Lost end number) right = counted_unbroken (codes "lost") end number (Lacks_tested 10 _ refl) right
 line_unbroken (line.Read end number) right = counted_unbroken (codes "read") end number (Lacks_tested 10 _ refl) right
-line_unbroken (line.Confirm end number) right = counted_unbroken (codes "confirm") end number (Lacks_tested 10 _ refl) right
 line_unbroken (line.Status end number) right = counted_unbroken (codes "status") end number (Lacks_tested 10 _ refl) right
+line_unbroken (line.Crash end) right = spaced_unbroken _ _ (Lacks_tested 10 (codes "crash") refl) (end_unbroken end)
+line_unbroken (line.Stop call pick l) right =
+    let some = and_parts (nat_le 1 call) (nat_le call 4 && is_stoppable l) right in
+    let few = and_parts (nat_le call 4) (is_stoppable l) some.1 in
+    let low : call ≤ 4 = leb-true call 4 few.0 in
+    spaced_unbroken _ _ (Lacks_tested 10 (codes "stop") refl)
+    (subst (Lacks 10) (sym (stop_tail call pick l))
+    (spaced_unbroken _ _ (decimal_unbroken call (omega arith)) (spaced_unbroken _ _ (pick_unbroken pick) (run_unbroken l few.1))))
+line_unbroken (line.Fold end) right = spaced_unbroken _ _ (Lacks_tested 10 (codes "fold") refl) (end_unbroken end)

@@ -19,6 +19,7 @@ use Rattle.drill_script.specs.declared.line.EndName.TheVariants as name
 use Rattle.drill_script.specs.declared.line.Line.{Line}
 use Rattle.drill_script.specs.declared.line.Line.TheVariants as line
 use Rattle.drill_script.specs.declared.line.ScriptLoad.TheVariants.{Size}
+use Rattle.drill_script.specs.declared.line.Stoppable.TheVariants as run
 use Rattle.drill_script.specs.declared.line.Way.TheVariants.{Push}
 use Rattle.exchange_model.specs.DeliveredOnce.{HasDeliveredOnce}
 use Rattle.exchange_model.specs.End.{End}
@@ -41,12 +42,12 @@ size_by seed x = if seed == 0 then 40960 else (x / 2 ^ 33) % 40961
 abbrev pub submissions : ℕ → ℕ → ℕ → List Line
 submissions seed x zero = []
 submissions seed x (suc count) =
-    line.Submit name.A invoice (Size (size_by seed (next_number x))) ∷ submissions seed (next_number x) count
+    line.Run (run.Submit name.A invoice (Size (size_by seed (next_number x)))) ∷ submissions seed (next_number x) count
 
 -- the other end's package of this place is carried to an end, with this number of the counter
 abbrev pub carried : ℕ → EndName → ℕ → List Line
 carried c end place =
-    if c % 3 == 2 then [] else line.Came end place ∷ (if c % 5 == 4 then line.Lost end place ∷ [] else [])
+    if c % 3 == 2 then [] else line.Run (run.Came end place) ∷ (if c % 5 == 4 then line.Lost end place ∷ [] else [])
 
 -- a's package of the first place is carried to end b, and what b answers to it, b's of the second place, to end a
 abbrev pub carried_both : ℕ → ℕ → ℕ → List Line
@@ -55,7 +56,7 @@ carried_both c place answer = if c % 3 == 2 then [] else carried c name.B place 
 -- end a takes a package, which gets the first place among a's, and it is carried; what end b answers to it gets the
 -- second place, among b's
 abbrev pub transmission : ℕ → ℕ → ℕ → List Line
-transmission c place answer = line.Take name.A ∷ carried_both c place answer
+transmission c place answer = line.Run (run.Take name.A) ∷ carried_both c place answer
 
 -- the counter behind such a transmission
 abbrev pub counted : ℕ → ℕ
@@ -88,10 +89,10 @@ Taken (suc takes) c old later new =
 abbrev pub TakesAll : ℕ → ℕ → DrillState → ℕ → DrillState → Type 0
 TakesAll takes c old later new =
     (mid : DrillState) × Taken takes c old later mid × PushesNone mid.world.left.end
-    × Leads (line.Take name.A ∷ []) mid new
+    × Leads (line.Run (run.Take name.A) ∷ []) mid new
 
 abbrev pub ticks_a : ℕ → List Line
-ticks_a moment = line.Tick name.A moment ∷ []
+ticks_a moment = line.Run (run.Tick name.A moment) ∷ []
 
 -- one round
 abbrev pub PlaysRound : ℕ → ℕ → DrillState → ℕ → DrillState → Type 0

@@ -6,6 +6,7 @@ use Rattle.drill.specs.Generated.{Leads, Pushes, PushesNone, counted, transmissi
 use Rattle.drill.specs.Transcript.{DrillState}
 use Rattle.drill_script.specs.declared.line.EndName.TheVariants as name
 use Rattle.drill_script.specs.declared.line.Line.TheVariants as line
+use Rattle.drill_script.specs.declared.line.Stoppable.TheVariants as run
 use Rattle.exchange_model.specs.End.{End}
 use Rattle.exchange_model.specs.Questions.{is_in, is_ready}
 use Rattle.exchange_model.specs.declared.sent.Sent.{Sent}
@@ -17,7 +18,7 @@ IsPushed false end = PushesNone end
 
 -- a transmission was played, with the counter behind it, or nothing was pushed
 abbrev pub PlaysTransmission : ℕ → DrillState → DrillState → Option ℕ → Type 0
-PlaysTransmission c old new None = PushesNone old.world.left.end × Leads (line.Take name.A ∷ []) old new
+PlaysTransmission c old new None = PushesNone old.world.left.end × Leads (line.Run (run.Take name.A) ∷ []) old new
 PlaysTransmission c old new (Some later) =
     (later ≡ counted c) × Pushes old.world.left.end
     × Leads (transmission c (length old.world.left.said) (length old.world.right.said)) old new

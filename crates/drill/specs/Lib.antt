@@ -1,3 +1,4 @@
+pub mod Disks
 pub mod Endpoints
 pub mod Ends
 pub mod Events

@@ -7,6 +7,7 @@ ghost use Rattle.drill.specs.Transcript.{DrillState as StateValue, events_limit,
 ghost use Rattle.drill_script.specs.LineText.{is_line, line_limit, line_text};
 ghost use Rattle.drill_script.specs.declared.line.EndName.TheVariants as name;
 ghost use Rattle.drill_script.specs.declared.line.Line.TheVariants as line;
+ghost use Rattle.drill_script.specs.declared.line.Stoppable.TheVariants as run;
 ghost use Rattle.drill_script.specs.declared.line.ScriptLoad.TheVariants.{Size as Sized};
 ghost use Rattle.drill_script.specs.declared.line.Way.TheVariants.{Push as Pushed};
 
@@ -16,7 +17,7 @@ use crate::script::DrillEnd;
 use crate::state::DrillState;
 use as4_flow::{Sink, send_all};
 use as4_values::{NoMemory, Octets};
-use drill_script::{EndName, Line, ScriptLoad, Way};
+use drill_script::{EndName, Line, ScriptLoad, Stoppable, Way};
 use std::alloc::Global;
 
 // The line is played, where the script may still make an event.
@@ -50,10 +51,10 @@ fn carry(state: &mut DrillState, counter: u64, end: EndName, place: u64) -> Resu
     }
     play_one(
         state,
-        Line::Came {
+        Line::Run(Stoppable::Came {
             end,
             package: place,
-        },
+        }),
     )?;
     if counter % 5 == 4 {
         play_one(
@@ -96,10 +97,10 @@ fn next_counter(counter: u64) -> u64
 // End a takes what it has to push. It answers whether a message was pushed.
 fn take_one(state: &mut DrillState) -> Result<bool, NoMemory>
     requires { state.old.events < events_limit }
-    ensures { IfOk result (λ pushed. Leads (line.Take name.A ∷ []) state.old state.new × IsPushed pushed state.old.world.left.end) }
+    ensures { IfOk result (λ pushed. Leads (line.Run (run.Take name.A) ∷ []) state.old state.new × IsPushed pushed state.old.world.left.end) }
 {
     let before = state.said(EndName::A);
-    play_one(state, Line::Take { end: EndName::A })?;
+    play_one(state, Line::Run(Stoppable::Take { end: EndName::A }))?;
     Ok(state.said(EndName::A) != before)
 }
 
@@ -145,10 +146,10 @@ fn tick(state: &mut DrillState, moment: u64) -> Result<(), NoMemory>
 {
     play_one(
         state,
-        Line::Tick {
+        Line::Run(Stoppable::Tick {
             end: EndName::A,
             moment,
-        },
+        }),
     )
 }
 
@@ -229,16 +230,16 @@ fn name_mode(alloc: Global, state: &mut DrillState) -> Result<(), NoMemory>
 fn submit_one(alloc: Global, state: &mut DrillState, size: u32) -> Result<(), NoMemory>
     requires small { size ≤ 40960 }
     requires few { state.old.events < events_limit }
-    ensures { OnOk result (Leads (line.Submit name.A invoice (Sized size) ∷ []) state.old state.new) }
+    ensures { OnOk result (Leads (line.Run (run.Submit name.A invoice (Sized size)) ∷ []) state.old state.new) }
 {
     let mode = invoice_name(alloc)?;
     play_one(
         state,
-        Line::Submit {
+        Line::Run(Stoppable::Submit {
             end: EndName::A,
             mode,
             load: ScriptLoad::Size(size),
-        },
+        }),
     )
 }
 

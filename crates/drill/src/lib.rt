@@ -1,6 +1,7 @@
 //! A script of two ends is run, and what happens is written down.
 #![tactic(auto)]
 
+mod disks;
 mod endpoint;
 mod generated;
 mod laws;

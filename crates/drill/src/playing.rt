@@ -2,22 +2,23 @@
 ghost use Rattle.std.specs.Prelude.{◌≡◌, ◌≢◌, ◌<◌, ◌≤◌, ◌∷◌, [], ◌++◌, Err, IfOk, IfSome, IsTrue, Some, codes, false, length, nat_le, true};
 ghost use Rattle.std.specs.Option.{unwrap_or};
 ghost use Rattle.as4_values.specs.declared.mode.Mode.{Mode as ModeValue};
-ghost use Rattle.drill.specs.Events.{Does, asked, comes, id_at, package_for, side_of, tells};
-ghost use Rattle.drill.specs.States.{IsAtEnd, Performs};
-ghost use Rattle.drill.specs.Transcript.{Makes, Plays, doing_of, events_limit, is_placed, is_right, is_too_many};
-ghost use Rattle.drill_script.specs.LineText.{is_line, is_load, is_name, line_limit, line_text};
+ghost use Rattle.drill.specs.Events.{Does, asked, comes, id_at, package_for, site_of, tells};
+ghost use Rattle.drill.specs.States.{IsAtEnd, IsCall, Performs, until};
+ghost use Rattle.drill.specs.Transcript.{Plays, doing_of, events_limit, is_placed, is_right, is_too_many, running_of};
+ghost use Rattle.drill_script.specs.LineText.{is_line, is_load, is_name, is_stoppable, line_limit, line_text};
 ghost use Rattle.drill_texts.specs.Loads.{loads_of};
 ghost use Rattle.drill_texts.specs.Modes.{IsDrillMode};
 ghost use Rattle.drill_texts.specs.Texts.{status_text};
 ghost use Rattle.exchange_model.specs.Coming.{may_come};
-ghost use Rattle.exchange_model.specs.World.{IsHeard, across, party_at};
+ghost use Rattle.exchange_model.specs.World.{IsHeard, across, speaker_at};
 ghost use Rattle.exchange_model.specs.declared.what.What.TheVariants as what;
 
+use crate::endpoint::StopAt;
 use crate::naming::{add_mode, is_named, name_text};
 use crate::refused::Refused;
 use crate::state::DrillState;
 use as4_values::{MAX_MOMENT, NoMemory, Octets, PlainData, Text};
-use drill_script::{EndName, Line, ScriptLoad, Way};
+use drill_script::{EndName, Line, ScriptLoad, Stoppable, Way};
 use drill_texts::{loads_of, no_package_line, unknown_line};
 use exchange_model::{Event, What};
 use std::alloc::Global;
@@ -106,36 +107,74 @@ impl DrillState {
     {
         match line {
             Line::Mode { .. } => unreachable!(),
-            Line::Submit { end, mode, load } => self.submit(*end, mode, load),
-            Line::Tick { end, moment } => self.make(*end, Some(*moment), What::Tick, false, 0),
-            Line::Take { end } => self.make(*end, None, What::Take, false, 0),
+            Line::Run(line) => self.run(line, None),
             Line::Ask { end, mode } => self.ask(*end, mode),
             Line::Pair { end, mode, number } => self.ask_with(*end, mode, *number),
-            Line::Came { end, package } => self.receive(*end, *package, false),
-            Line::Lost { end, package } => self.receive(*end, *package, true),
+            Line::Lost { end, package } => self.receive(*end, *package, true, None),
             Line::Read { end, number } => {
-                self.make(*end, None, What::Read { n: *number }, false, *number)
-            }
-            Line::Confirm { end, number } => {
-                self.make(*end, None, What::Confirm { upto: *number }, false, *number)
+                self.make(*end, None, What::Read { n: *number }, false, *number, None)
             }
             Line::Status { end, number } => self.tell(*end, *number),
+            Line::Crash { end } => Ok(self.crash(*end)?),
+            Line::Stop { call, pick, line } => self.run(
+                line,
+                Some(StopAt {
+                    call: *call,
+                    pick: *pick,
+                }),
+            ),
+            Line::Fold { end } => Ok(self.fold(*end)?),
+        }
+    }
+
+    /// What a line does that can be stopped, and may be.
+    #[tactic(auto, unfolding(crate::specs::Transcript::running_of, drill_script::specs::LineText::is_stoppable, exchange_model::specs::Coming::may_come))]
+    fn run(&mut self, line: &Stoppable, at: Option<StopAt>) -> Result<Octets, Refused>
+        requires spelled { IsTrue (is_stoppable line.now) }
+        requires begun { self.old.begun ≡ true }
+        requires call { IfSome at IsCall }
+        ensures { Performs (until at (running_of self.old.world line.now)) self.old result self.new }
+    {
+        match line {
+            Stoppable::Submit { end, mode, load } => self.submit(*end, mode, load, at),
+            Stoppable::Tick { end, moment } => {
+                self.make(*end, Some(*moment), What::Tick, false, 0, at)
+            }
+            Stoppable::Take { end } => self.make(*end, None, What::Take, false, 0, at),
+            Stoppable::Came { end, package } => self.receive(*end, *package, false, at),
+            Stoppable::Confirm { end, number } => {
+                self.make(
+                    *end,
+                    None,
+                    What::Confirm { upto: *number },
+                    false,
+                    *number,
+                    at,
+                )
+            }
         }
     }
 
     /// A message is handed in.
     #[tactic(auto, unfolding(exchange_model::specs::Coming::may_come))]
-    fn submit(&mut self, end: EndName, mode: &Octets, load: &ScriptLoad) -> Result<Octets, Refused>
+    fn submit(
+        &mut self,
+        end: EndName,
+        mode: &Octets,
+        load: &ScriptLoad,
+        at: Option<StopAt>,
+    ) -> Result<Octets, Refused>
         requires named { IsTrue (is_name mode.now) }
         requires loaded { IsTrue (is_load load.now) }
         requires begun { self.old.begun ≡ true }
-        ensures { Performs (Does (asked end 0 (what.Submit mode.now (Some (codes "c")) (loads_of load.now)))) self.old result self.new }
+        requires call { IfSome at IsCall }
+        ensures { Performs (until at (Does (asked end 0 (what.Submit mode.now (Some (codes "c")) (loads_of load.now))))) self.old result self.new }
     {
         if self.is_full() {
             return Err(Refused::TooMany);
         }
         let what = submission(self.alloc, mode, load)?;
-        self.make(end, None, what, false, 0)
+        self.make(end, None, what, false, 0, at)
     }
 
     /// A pull request is asked for.
@@ -149,7 +188,7 @@ impl DrillState {
             return Err(Refused::TooMany);
         }
         let mode = name_text(self.alloc, mode)?;
-        self.make(end, None, What::Ask { mode }, false, 0)
+        self.make(end, None, What::Ask { mode }, false, 0, None)
     }
 
     /// A pull request is asked for, with the receipt of the message of this number in the inbox.
@@ -163,13 +202,27 @@ impl DrillState {
             return Err(Refused::TooMany);
         }
         let mode = name_text(self.alloc, mode)?;
-        self.make(end, None, What::AskWith { mode, n: number }, false, number)
+        self.make(
+            end,
+            None,
+            What::AskWith { mode, n: number },
+            false,
+            number,
+            None,
+        )
     }
 
     /// The package of this number that the other end sent comes; the reply may be lost.
-    fn receive(&mut self, end: EndName, number: u64, lost: bool) -> Result<Octets, Refused>
-        requires { self.old.begun ≡ true }
-        ensures { Performs (comes end lost (package_for end number self.old.world)) self.old result self.new }
+    fn receive(
+        &mut self,
+        end: EndName,
+        number: u64,
+        lost: bool,
+        at: Option<StopAt>,
+    ) -> Result<Octets, Refused>
+        requires begun { self.old.begun ≡ true }
+        requires call { IfSome at IsCall }
+        ensures { Performs (until at (comes end lost (package_for end number self.old.world))) self.old result self.new }
     {
         match self.package_for(end, number) {
             None => Ok(no_package_line(self.alloc, end)?),
@@ -178,7 +231,7 @@ impl DrillState {
                     return Err(Refused::TooMany);
                 }
                 let what = What::Came(message.try_clone(self.alloc)?);
-                self.make(end, None, what, lost, 0)
+                self.make(end, None, what, lost, 0, at)
             }
         }
     }
@@ -198,7 +251,7 @@ impl DrillState {
                 let what = What::Status {
                     id: id.try_clone(self.alloc)?,
                 };
-                self.make(end, None, what, false, number)
+                self.make(end, None, what, false, number, None)
             }
         }
     }
@@ -213,7 +266,7 @@ impl DrillState {
     /// The moment that a line sets, or else the end's.
     fn stamp_for(&self, end: EndName, moment: Option<u64>) -> u64
         requires { IfSome moment (λ m. m ≤ MAX_MOMENT) }
-        ensures value { result ≡ unwrap_or moment (party_at (side_of end) self.now.world).end.moment }
+        ensures value { result ≡ unwrap_or moment (speaker_at (site_of end) self.now.world).end.moment }
         ensures dated { result ≤ MAX_MOMENT }
     {
         match moment {
@@ -222,7 +275,8 @@ impl DrillState {
         }
     }
 
-    /// The event happens, at the moment that the line sets or else at the end's. Its nonce is its number among all.
+    /// The event happens or is stopped, at the moment that the line sets or else at the end's. Its nonce is its number
+    /// among all.
     fn make(
         &mut self,
         end: EndName,
@@ -230,26 +284,29 @@ impl DrillState {
         what: What,
         lost: bool,
         number: u64,
+        at: Option<StopAt>,
     ) -> Result<Octets, Refused>
         requires begun { self.old.begun ≡ true }
         requires dated { IfSome moment (λ m. m ≤ MAX_MOMENT) }
         requires comes { IsTrue (may_come what) }
-        requires heard { IsHeard (party_at (across (side_of end)) self.old.world).said what }
-        ensures { Performs (Does (record { end = end; what = what; moment = moment; lost = lost; number = number })) self.old result self.new }
+        requires heard { IsHeard (speaker_at (across (site_of end)) self.old.world).said what }
+        requires call { IfSome at IsCall }
+        ensures { Performs (until at (Does (record { end = end; what = what; moment = moment; lost = lost; number = number })))
+            self.old result self.new }
     {
         if self.is_full() {
             drop(what);
             return Err(Refused::TooMany);
         }
-        let stamp = self.stamp_for(end, moment);
         let event = Event {
-            stamp,
+            stamp: self.stamp_for(end, moment),
             nonce: u128::from(self.events),
             what,
         };
-        let said = self.meet(end, &event, number, lost);
-        drop(event);
-        Ok(said?)
+        match at {
+            None => Ok(self.meet(end, event, number, lost)?),
+            Some(at) => Ok(self.stop(end, event, at)?),
+        }
     }
 }
 

@@ -1,21 +1,27 @@
 //! Two ends with their processing modes, the packages that each has sent, and the count of events.
-ghost use Rattle.std.specs.Prelude.{◌≡◌, ℕ, ◌+◌, ◌<◌, ◌≤◌, ◌∷◌, ◌++◌, IfOk, IfSome, IsTrue, OnErr, OnOk, Option, length, option_copied, true};
+ghost use Rattle.std.specs.Prelude.{◌≡◌, ℕ, Bool, ◌+◌, ◌<◌, ◌≤◌, ◌∷◌, ◌++◌, IfOk, IfSome, IsTrue, OnErr, OnOk, Option, codes, length, option_copied, true};
 ghost use Rattle.std.specs.List.{Contains};
 ghost use Rattle.std.specs.Option.{unwrap_or};
-ghost use Rattle.drill.specs.Events.{id_at, package_for, side_of};
-ghost use Rattle.drill.specs.Transcript.{Makes, end_lines, events_limit, new_state};
+ghost use Rattle.drill.specs.Endpoints.{MatchFold};
+ghost use Rattle.drill.specs.Events.{id_at, package_for, site_of};
+ghost use Rattle.drill.specs.States.{IsCall, endpoint_at, world_with};
+ghost use Rattle.drill.specs.Transcript.{IsFoldAt, IsStopped, Makes, end_lines, events_limit, new_state};
+ghost use Rattle.drill_texts.specs.Modes.{AreDrillModes};
+ghost use Rattle.drill_texts.specs.Texts.{said_line};
 ghost use Rattle.exchange_model.specs.Coming.{may_come};
-ghost use Rattle.exchange_model.specs.World.{IsHeard, across, new_party, party_at};
+ghost use Rattle.exchange_model.specs.World.{IsHeard, across, folded_at, new_speaker, speaker_at};
 ghost use Rattle.exchange_model.specs.declared.what.What.TheVariants.{Came};
 
-use crate::endpoint::Endpoint;
+use crate::endpoint::{Endpoint, StopAt};
 use crate::naming::copies_of;
 use as4_values::{MAX_MOMENT, Message, MessageId, Mode, NoMemory, Octets, Seq};
 use drill_script::EndName;
-use drill_texts::modes_of;
+use drill_texts::{folded_line, modes_of, reopened_line};
 use exchange_model::Event;
+use pmodes::Modes;
 use std::alloc::Global;
 use std::marker::Model;
+use std::mem;
 
 /// What a script has led to. Contracts see the two ends, the modes, the count of events, and whether a line was more
 /// than a mode.
@@ -36,7 +42,7 @@ impl Model for DrillState {
     ghost Value = { StateValue };
 
     ghost view = { λ s. record {
-      world = record { left = s.left.party; right = s.right.party };
+      world = record { left = s.left.speaker; right = s.right.speaker };
       modes = s.modes.items;
       events = s.events;
       begun = s.begun;
@@ -50,16 +56,21 @@ impl DrillState {
     pub fn new(alloc: Global) -> Result<DrillState, NoMemory>
         ensures { IfOk result (λ state. state ≡ new_state) }
     {
-        let left = modes_of(alloc, Seq::of(Vec::new(alloc)))?;
-        let right = modes_of(alloc, Seq::of(Vec::new(alloc)))?;
-        Ok(DrillState {
-            alloc,
-            modes: Vec::new(alloc),
-            left: Endpoint::new(alloc, left),
-            right: Endpoint::new(alloc, right),
-            events: 0,
-            begun: false,
-        })
+        match (new_endpoint(alloc, &[]), new_endpoint(alloc, &[])) {
+            (Ok(left), Ok(right)) => Ok(DrillState {
+                alloc,
+                modes: Vec::new(alloc),
+                left,
+                right,
+                events: 0,
+                begun: false,
+            }),
+            (left, right) => {
+                drop(left);
+                drop(right);
+                Err(NoMemory)
+            }
+        }
     }
 
     /// Both ends have the modes from here on.
@@ -70,10 +81,14 @@ impl DrillState {
         if self.begun {
             return Ok(());
         }
-        match (self.new_endpoint(), self.new_endpoint()) {
+        let modes = self.modes.as_slice();
+        match (
+            new_endpoint(self.alloc, modes),
+            new_endpoint(self.alloc, modes),
+        ) {
             (Ok(left), Ok(right)) => {
-                self.left = left;
-                self.right = right;
+                drop(mem::replace(&mut self.left, left));
+                drop(mem::replace(&mut self.right, right));
                 self.begun = true;
                 Ok(())
             }
@@ -85,12 +100,13 @@ impl DrillState {
         }
     }
 
-    /// An end to which nothing happened yet, with the modes.
-    fn new_endpoint(&self) -> Result<Endpoint, NoMemory>
-        ensures { IfOk result (λ endpoint. (endpoint.party ≡ new_party) × (endpoint.modes ≡ self.now.modes)) }
+    /// One more event is made.
+    fn count(&mut self)
+        requires begun { self.old.begun ≡ true }
+        requires few { self.old.events < events_limit }
+        ensures { self.new ≡ record self.old { events = self.old.events + 1 } }
     {
-        let modes = modes_of(self.alloc, copies_of(self.alloc, self.modes.as_slice())?)?;
-        Ok(Endpoint::new(self.alloc, modes))
+        self.events += 1;
     }
 
     /// The event, whose nonce is its number among all, happens at the end. It gives what is written at a line that names
@@ -98,28 +114,118 @@ impl DrillState {
     pub(crate) fn meet(
         &mut self,
         end: EndName,
-        event: &Event,
+        event: Event,
         number: u64,
         lost: bool,
     ) -> Result<Octets, NoMemory>
         requires begun { self.old.begun ≡ true }
         requires few { self.old.events < events_limit }
-        requires nonce { event.now.nonce ≡ self.old.events }
-        requires heard { IsHeard (party_at (across (side_of end)) self.old.world).said event.now.what }
+        requires nonce { event.nonce ≡ self.old.events }
+        requires heard { IsHeard (speaker_at (across (site_of end)) self.old.world).said event.what }
         ensures { IfOk result (λ text. (moment : Option ℕ)
-            → event.now.stamp ≡ unwrap_or moment (party_at (side_of end) self.old.world).end.moment
-            → Makes (record { end = end; what = event.now.what; moment = moment; lost = lost; number = number }) self.old text self.new) }
+            → event.stamp ≡ unwrap_or moment (speaker_at (site_of end) self.old.world).end.moment
+            → Makes (record { end = end; what = event.what; moment = moment; lost = lost; number = number }) self.old text self.new) }
     {
-        self.events += 1;
+        self.count();
         match end {
             EndName::A => self.left.meet(self.alloc, end, event, number, lost),
             EndName::B => self.right.meet(self.alloc, end, event, number, lost),
         }
     }
 
+    /// The event, whose nonce is its number among all, is stopped at the end. It gives what is written of it.
+    pub(crate) fn stop(
+        &mut self,
+        end: EndName,
+        event: Event,
+        at: StopAt,
+    ) -> Result<Octets, NoMemory>
+        requires begun { self.old.begun ≡ true }
+        requires few { self.old.events < events_limit }
+        requires nonce { event.nonce ≡ self.old.events }
+        requires heard { IsHeard (speaker_at (across (site_of end)) self.old.world).said event.what }
+        requires call { IsCall at }
+        ensures { IfOk result (λ text. (moment : Option ℕ) (lost : Bool) (number : ℕ)
+            → event.stamp ≡ unwrap_or moment (speaker_at (site_of end) self.old.world).end.moment
+            → IsStopped at.call at.pick (record { end = end; what = event.what; moment = moment; lost = lost; number = number })
+            self.old text self.new) }
+    {
+        self.count();
+        let Ok((modes, spare)) = self.spare() else {
+            drop(event);
+            return Err(NoMemory);
+        };
+        let stopped = self.put(end, spare).stop(self.alloc, modes, event, at)?;
+        drop(self.put(end, stopped));
+        reopened_line(self.alloc, end)
+    }
+
+    /// The power of the end fails, and its disk is opened again. It gives what is written of that.
+    pub(crate) fn crash(&mut self, end: EndName) -> Result<Octets, NoMemory>
+        requires { self.old.begun ≡ true }
+        ensures { IfOk result (λ text. (text ≡ said_line end (codes "reopened")) × (self.new ≡ self.old)) }
+    {
+        let (modes, spare) = self.spare()?;
+        let opened = self.put(end, spare).crash(self.alloc, modes)?;
+        drop(self.put(end, opened));
+        reopened_line(self.alloc, end)
+    }
+
+    /// A copy of the modes, and an end to which nothing happened yet, for the place of one that is opened again.
+    fn spare(&self) -> Result<(Modes, Endpoint), NoMemory>
+        ensures { IfOk result (λ spare. (spare.0 ≡ self.now.modes) × (spare.1.modes ≡ self.now.modes)) }
+    {
+        let modes = self.modes.as_slice();
+        match (
+            own_modes(self.alloc, modes),
+            new_endpoint(self.alloc, modes),
+        ) {
+            (Ok(modes), Ok(spare)) => Ok((modes, spare)),
+            (modes, spare) => {
+                drop(modes);
+                drop(spare);
+                Err(NoMemory)
+            }
+        }
+    }
+
+    /// An end is put in the place of this one, which it gives.
+    fn put(&mut self, end: EndName, endpoint: Endpoint) -> Endpoint
+        requires begun { self.old.begun ≡ true }
+        requires shared { endpoint.modes ≡ self.old.modes }
+        ensures was { result ≡ endpoint_at (site_of end) self.old }
+        ensures is { self.new ≡ record self.old { world = world_with (site_of end) endpoint.speaker self.old.world } }
+    {
+        match end {
+            EndName::A => mem::replace(&mut self.left, endpoint),
+            EndName::B => mem::replace(&mut self.right, endpoint),
+        }
+    }
+
+    /// The journal of the end is folded where that makes it shorter. It gives what is written of that.
+    pub(crate) fn fold(&mut self, end: EndName) -> Result<Octets, NoMemory>
+        requires { self.old.begun ≡ true }
+        ensures { IfOk result (λ text. IsFoldAt end self.old text self.new) }
+    {
+        self.fold_at(end)?;
+        folded_line(self.alloc, end)
+    }
+
+    /// The journal of the end is folded where that makes it shorter.
+    fn fold_at(&mut self, end: EndName) -> Result<(), NoMemory>
+        requires { self.old.begun ≡ true }
+        ensures { OnOk result (MatchFold (speaker_at (site_of end) self.old.world).end
+            (λ size. self.new ≡ record self.old { world = folded_at (site_of end) size self.old.world }) (self.new ≡ self.old)) }
+    {
+        match end {
+            EndName::A => self.left.fold(),
+            EndName::B => self.right.fold(),
+        }
+    }
+
     /// What this end is, with its packages.
     fn endpoint(&self, end: EndName) -> &Endpoint
-        ensures { result.now.party ≡ party_at (side_of end) self.now.world }
+        ensures { result.now.speaker ≡ speaker_at (site_of end) self.now.world }
     {
         match end {
             EndName::A => &self.left,
@@ -131,7 +237,7 @@ impl DrillState {
     pub(crate) fn package_for(&self, end: EndName, number: u64) -> Option<&Message>
         ensures value { option_copied result ≡ package_for end number self.now.world }
         ensures comes { IfSome result (λ m. IsTrue (may_come (Came m.now))) }
-        ensures sent { IfSome result (λ m. Contains (party_at (across (side_of end)) self.now.world).said m.now) }
+        ensures sent { IfSome result (λ m. Contains (speaker_at (across (site_of end)) self.now.world).said m.now) }
     {
         self.endpoint(other_end(end)).package(number)
     }
@@ -145,7 +251,7 @@ impl DrillState {
 
     /// The end's clock, in milliseconds since 1970-01-01T00:00:00Z.
     pub(crate) fn moment(&self, end: EndName) -> u64
-        ensures value { result ≡ (party_at (side_of end) self.now.world).end.moment }
+        ensures value { result ≡ (speaker_at (site_of end) self.now.world).end.moment }
         ensures dated { result ≤ MAX_MOMENT }
     {
         self.endpoint(end).moment()
@@ -153,7 +259,7 @@ impl DrillState {
 
     /// How many packages the end has sent.
     pub(crate) fn said(&self, end: EndName) -> u64
-        ensures { result ≡ length (party_at (side_of end) self.now.world).said }
+        ensures { result ≡ length (speaker_at (site_of end) self.now.world).said }
     {
         self.endpoint(end).said()
     }
@@ -170,8 +276,24 @@ impl DrillState {
     }
 }
 
+/// A copy of modes of a script.
+fn own_modes(alloc: Global, modes: &[Mode]) -> Result<Modes, NoMemory>
+    requires { AreDrillModes modes.now }
+    ensures { IfOk result (λ own. own ≡ modes.now) }
+{
+    modes_of(alloc, copies_of(alloc, modes)?)
+}
+
+/// An end to which nothing happened yet, with these modes.
+fn new_endpoint(alloc: Global, modes: &[Mode]) -> Result<Endpoint, NoMemory>
+    requires { AreDrillModes modes.now }
+    ensures { IfOk result (λ endpoint. endpoint ≡ record { speaker = new_speaker; modes = modes.now }) }
+{
+    Endpoint::new(alloc, own_modes(alloc, modes)?)
+}
+
 fn other_end(end: EndName) -> EndName
-    ensures { side_of result ≡ across (side_of end) }
+    ensures { site_of result ≡ across (site_of end) }
 {
     match end {
         EndName::A => EndName::B,

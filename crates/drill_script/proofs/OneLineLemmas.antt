@@ -4,24 +4,30 @@ use Rattle.std.specs.Fmt.{decimal}
 use Rattle.std.proofs.lemmas.Bool.{leb-true}
 use Rattle.std.proofs.lemmas.Fmt.{decimal_injective}
 use Rattle.std.proofs.lemmas.List.{append-nil, append_cancel_left}
+use Rattle.as4_disk.specs.declared.change.Pick.{Pick}
+use Rattle.as4_disk.specs.declared.change.Pick.TheVariants.{Old, New, Other}
 use Rattle.drill_script.specs.Lacking.{spaced}
-use Rattle.drill_script.specs.LineText.{line_text, is_line, is_load, end_text, way_text, load_text, hex_text}
-use Rattle.drill_script.specs.LineParts.{Spells, verb_of, verb_text, tail_text, settings_text}
+use Rattle.drill_script.specs.LineText.{line_text, line_words, is_line, is_load, is_stoppable, end_text, way_text, pick_text, load_text, hex_text, stoppable_text, stoppable_words}
+use Rattle.drill_script.specs.LineParts.{Spells, SpellsRun, run_verb_of, run_verb_text, verb_of, verb_text, tail_of, settings_text}
 use Rattle.drill_script.specs.declared.line.EndName.{EndName}
 use Rattle.drill_script.specs.declared.line.EndName.TheVariants.{A, B}
 use Rattle.drill_script.specs.declared.line.Line.{Line}
 use Rattle.drill_script.specs.declared.line.ScriptLoad.{ScriptLoad}
 use Rattle.drill_script.specs.declared.line.ScriptLoad.TheVariants.{Nothing, Hex, Size}
+use Rattle.drill_script.specs.declared.line.Line.TheVariants as line
+use Rattle.drill_script.specs.declared.line.Stoppable.{Stoppable}
 use Rattle.drill_script.specs.declared.line.Way.{Way}
 use Rattle.drill_script.specs.declared.line.Way.TheVariants.{Push, Pull}
+use Rattle.drill_script.specs.declared.verb.RunVerb.{RunVerb}
+use Rattle.drill_script.specs.declared.verb.RunVerb.TheVariants.{Submit, Tick, Take, Came, Confirm}
 use Rattle.drill_script.specs.declared.verb.Verb.{Verb}
-use Rattle.drill_script.specs.declared.verb.Verb.TheVariants.{Mode, Submit, Take, Ask, Pair, Count}
+use Rattle.drill_script.specs.declared.verb.Verb.TheVariants.{Mode, Run, Ask, Pair, Count, Crash, Stop, Fold}
 use Rattle.drill_script.proofs.HexLemmas.{hex_done}
 use Rattle.drill_script.proofs.LackingLemmas.{one_cut}
-use Rattle.drill_script.proofs.LineLemmas.{line_parts, verb_unspaced, one_verb}
+use Rattle.drill_script.proofs.LineLemmas.{line_parts, run_parts, verb_unspaced, one_verb, one_run_verb}
 use Rattle.drill_script.proofs.LoadLemmas.{none_only, none_text, hex_load_text, size_load_text}
-use Rattle.drill_script.proofs.SpellLemmas.{take_spelled, ask_spelled, pair_spelled, submit_spelled, mode_spelled, counted_spelled}
-use Rattle.drill_script.proofs.WordLemmas.{end_unspaced, way_unspaced, decimal_unspaced, name_unspaced}
+use Rattle.drill_script.proofs.SpellLemmas.{NumberedIs, ask_spelled, came_spelled, confirm_spelled, counted_spelled, crash_spelled, fold_spelled, mode_spelled, pair_spelled, run_spelled, stop_spelled, submit_spelled, take_spelled, tick_spelled}
+use Rattle.drill_script.proofs.WordLemmas.{end_unspaced, way_unspaced, pick_unspaced, decimal_unspaced, name_unspaced}
 
 one_end : (end other : EndName) → end_text end ≡ end_text other → end ≡ other
 one_end A A same = refl
@@ -34,6 +40,17 @@ one_way Push Push same = refl
 one_way Push Pull same = absurd (omega (arith, ap (λ (l : List ℕ). get_or l 2 0) same))
 one_way Pull Push same = absurd (omega (arith, ap (λ (l : List ℕ). get_or l 2 0) same))
 one_way Pull Pull same = refl
+
+one_pick : (pick other : Pick) → pick_text pick ≡ pick_text other → pick ≡ other
+one_pick Old Old same = refl
+one_pick Old New same = absurd (omega (arith, ap (λ (l : List ℕ). get_or l 0 0) same))
+one_pick Old Other same = absurd (omega (arith, ap (λ (l : List ℕ). get_or l 1 0) same))
+one_pick New Old same = absurd (omega (arith, ap (λ (l : List ℕ). get_or l 0 0) same))
+one_pick New New same = refl
+one_pick New Other same = absurd (omega (arith, ap (λ (l : List ℕ). get_or l 0 0) same))
+one_pick Other Old same = absurd (omega (arith, ap (λ (l : List ℕ). get_or l 1 0) same))
+one_pick Other New same = absurd (omega (arith, ap (λ (l : List ℕ). get_or l 0 0) same))
+one_pick Other Other same = refl
 
 hex_is_not_size : (bytes : List ℕ) (size : ℕ) → load_text (Hex bytes) ≡ load_text (Size size) → ⊥
 hex_is_not_size bytes size same = omega (arith, ap (λ (l : List ℕ). get_or l 0 0) (sym (hex_load_text bytes) ∙ same ∙ size_load_text size))
@@ -66,12 +83,58 @@ one_settings way other_way retries other_retries period other_period few other_f
       decimal_injective period other_period (omega arith) (omega arith) numbers.1,
     )
 
+-- lines of an end alone, made so
+one_alone : {X : Type 0} (make : EndName → X) (tail : List ℕ) (one other : X) → (end : EndName) × (one ≡ make end) × (tail ≡ end_text end) → (end : EndName) × (other ≡ make end) × (tail ≡ end_text end) → one ≡ other
+one_alone make tail one other a b = let ends : a.0 ≡ b.0 = one_end a.0 b.0 (sym a.2 ∙ b.2) in a.1 ∙ ap make ends ∙ sym b.1
+
+-- lines of an end and a number, made so
+one_numbered : {X : Type 0} (make : EndName → ℕ → X) (tail : List ℕ) (one other : X) (end other_end : EndName) (number other_number : ℕ) → NumberedIs make tail one end number → NumberedIs make tail other other_end other_number → one ≡ other
+one_numbered make tail one other end other_end number other_number a b =
+    let parts = one_spaced_end end other_end (decimal number) (decimal other_number) (sym a.tail_is ∙ b.tail_is) in
+    let numbers : number ≡ other_number = decimal_injective number other_number a.small b.small parts.1 in
+    a.line_is ∙ (λ i. make (parts.0 i) (numbers i)) ∙ sym b.line_is
+
+one_run_spelled : (verb : RunVerb) (tail : List ℕ) (one other : Stoppable) → SpellsRun verb tail one → SpellsRun verb tail other → one ≡ other
+one_run_spelled Submit tail one other first second =
+    let a = submit_spelled tail one first in
+    let b = submit_spelled tail other second in
+    let parts = one_spaced_end a.0 b.0 (spaced a.1 (load_text a.2)) (spaced b.1 (load_text b.2)) (sym a.3.tail_is ∙ b.3.tail_is) in
+    let modes = one_cut 32 a.1 (load_text a.2) b.1 (load_text b.2) parts.1 (name_unspaced a.1 a.3.named) (name_unspaced b.1 b.3.named) in
+    let loads : a.2 ≡ b.2 = one_load a.2 b.2 a.3.loaded b.3.loaded modes.1 in
+    cc (a.3.line_is, b.3.line_is, parts.0, modes.0, loads)
+one_run_spelled Tick tail one other first second =
+    let a = tick_spelled tail one first in
+    let b = tick_spelled tail other second in
+    one_numbered _ tail one other a.0 b.0 a.1 b.1 a.2 b.2
+one_run_spelled Take tail one other first second = one_alone _ tail one other (take_spelled tail one first) (take_spelled tail other second)
+one_run_spelled Came tail one other first second =
+    let a = came_spelled tail one first in
+    let b = came_spelled tail other second in
+    one_numbered _ tail one other a.0 b.0 a.1 b.1 a.2 b.2
+one_run_spelled Confirm tail one other first second =
+    let a = confirm_spelled tail one first in
+    let b = confirm_spelled tail other second in
+    one_numbered _ tail one other a.0 b.0 a.1 b.1 a.2 b.2
+
+one_stoppable : (one other : Stoppable) → IsTrue (is_stoppable one) → IsTrue (is_stoppable other) → stoppable_text one ≡ stoppable_text other → one ≡ other
+one_stoppable one other first second same =
+    let cut = one_cut 32 (run_verb_text (run_verb_of one)) (tail_of (stoppable_words one)) (run_verb_text (run_verb_of other)) (tail_of (stoppable_words other)) (sym (run_parts one) ∙ same ∙ run_parts other) (verb_unspaced (Run (run_verb_of one))) (verb_unspaced (Run (run_verb_of other))) in
+    let verbs : run_verb_of other ≡ run_verb_of one = sym (one_run_verb (run_verb_of one) (run_verb_of other) cut.0) in
+    one_run_spelled (run_verb_of one) (tail_of (stoppable_words one)) one other
+    (record { verb_is = refl; tail_is = refl; in_range = first })
+    (record { verb_is = verbs; tail_is = cut.1; in_range = second })
+
 one_spelled : (verb : Verb) (tail : List ℕ) (one other : Line) → Spells verb tail one → Spells verb tail other → one ≡ other
-one_spelled Take tail one other first second =
-    let a = take_spelled tail one first in
-    let b = take_spelled tail other second in
-    let ends : a.0 ≡ b.0 = one_end a.0 b.0 (sym a.2 ∙ b.2) in
-    cc (a.1, b.1, ends)
+one_spelled Mode tail one other first second =
+    let a = mode_spelled tail one first in
+    let b = mode_spelled tail other second in
+    let names = one_cut 32 a.0 (settings_text a.1 a.2 a.3) b.0 (settings_text b.1 b.2 b.3) (sym a.4.tail_is ∙ b.4.tail_is) (name_unspaced a.0 a.4.named) (name_unspaced b.0 b.4.named) in
+    let settings = one_settings a.1 b.1 a.2 b.2 a.3 b.3 a.4.few b.4.few a.4.short b.4.short names.1 in
+    cc (a.4.line_is, b.4.line_is, names.0, settings.0, settings.1, settings.2)
+one_spelled (Run verb) tail one other first second =
+    let a = run_spelled verb tail one first in
+    let b = run_spelled verb tail other second in
+    a.1 ∙ ap line.Run (one_run_spelled verb tail a.0 b.0 a.2 b.2) ∙ sym b.1
 one_spelled Ask tail one other first second =
     let a = ask_spelled tail one first in
     let b = ask_spelled tail other second in
@@ -84,30 +147,28 @@ one_spelled Pair tail one other first second =
     let modes = one_cut 32 a.1 (decimal a.2) b.1 (decimal b.2) parts.1 (name_unspaced a.1 a.3.named) (name_unspaced b.1 b.3.named) in
     let numbers : a.2 ≡ b.2 = decimal_injective a.2 b.2 a.3.small b.3.small modes.1 in
     cc (a.3.line_is, b.3.line_is, parts.0, modes.0, numbers)
-one_spelled Submit tail one other first second =
-    let a = submit_spelled tail one first in
-    let b = submit_spelled tail other second in
-    let parts = one_spaced_end a.0 b.0 (spaced a.1 (load_text a.2)) (spaced b.1 (load_text b.2)) (sym a.3.tail_is ∙ b.3.tail_is) in
-    let modes = one_cut 32 a.1 (load_text a.2) b.1 (load_text b.2) parts.1 (name_unspaced a.1 a.3.named) (name_unspaced b.1 b.3.named) in
-    let loads : a.2 ≡ b.2 = one_load a.2 b.2 a.3.loaded b.3.loaded modes.1 in
-    cc (a.3.line_is, b.3.line_is, parts.0, modes.0, loads)
-one_spelled Mode tail one other first second =
-    let a = mode_spelled tail one first in
-    let b = mode_spelled tail other second in
-    let names = one_cut 32 a.0 (settings_text a.1 a.2 a.3) b.0 (settings_text b.1 b.2 b.3) (sym a.4.tail_is ∙ b.4.tail_is) (name_unspaced a.0 a.4.named) (name_unspaced b.0 b.4.named) in
-    let settings = one_settings a.1 b.1 a.2 b.2 a.3 b.3 a.4.few b.4.few a.4.short b.4.short names.1 in
-    cc (a.4.line_is, b.4.line_is, names.0, settings.0, settings.1, settings.2)
 one_spelled (Count counted) tail one other first second =
     let a = counted_spelled counted tail one first in
     let b = counted_spelled counted tail other second in
-    let parts = one_spaced_end a.0 b.0 (decimal a.1) (decimal b.1) (sym a.2.tail_is ∙ b.2.tail_is) in
-    let numbers : a.1 ≡ b.1 = decimal_injective a.1 b.1 a.2.small b.2.small parts.1 in
-    cc (a.2.line_is, b.2.line_is, parts.0, numbers)
+    one_numbered _ tail one other a.0 b.0 a.1 b.1 a.2 b.2
+one_spelled Crash tail one other first second = one_alone _ tail one other (crash_spelled tail one first) (crash_spelled tail other second)
+one_spelled Stop tail one other first second =
+    let a = stop_spelled tail one first in
+    let b = stop_spelled tail other second in
+    let low : a.0 ≤ 4 = a.3.few in
+    let other_low : b.0 ≤ 4 = b.3.few in
+    let calls = one_cut 32 (decimal a.0) (spaced (pick_text a.1) (stoppable_text a.2)) (decimal b.0) (spaced (pick_text b.1) (stoppable_text b.2)) (sym a.3.tail_is ∙ b.3.tail_is) (decimal_unspaced a.0 (omega arith)) (decimal_unspaced b.0 (omega arith)) in
+    let picks = one_cut 32 (pick_text a.1) (stoppable_text a.2) (pick_text b.1) (stoppable_text b.2) calls.1 (pick_unspaced a.1) (pick_unspaced b.1) in
+    let call : a.0 ≡ b.0 = decimal_injective a.0 b.0 (omega arith) (omega arith) calls.0 in
+    let pick : a.1 ≡ b.1 = one_pick a.1 b.1 picks.0 in
+    let run : a.2 ≡ b.2 = one_stoppable a.2 b.2 a.3.small b.3.small picks.1 in
+    cc (a.3.line_is, b.3.line_is, call, pick, run)
+one_spelled Fold tail one other first second = one_alone _ tail one other (fold_spelled tail one first) (fold_spelled tail other second)
 
 pub one_line : (one other : Line) → IsTrue (is_line one) → IsTrue (is_line other) → line_text one ≡ line_text other → one ≡ other
 one_line one other first second same =
-    let cut = one_cut 32 (verb_text (verb_of one)) (tail_text one) (verb_text (verb_of other)) (tail_text other) (sym (line_parts one) ∙ same ∙ line_parts other) (verb_unspaced (verb_of one)) (verb_unspaced (verb_of other)) in
+    let cut = one_cut 32 (verb_text (verb_of one)) (tail_of (line_words one)) (verb_text (verb_of other)) (tail_of (line_words other)) (sym (line_parts one) ∙ same ∙ line_parts other) (verb_unspaced (verb_of one)) (verb_unspaced (verb_of other)) in
     let verbs : verb_of other ≡ verb_of one = sym (one_verb (verb_of one) (verb_of other) cut.0) in
-    one_spelled (verb_of one) (tail_text one) one other
+    one_spelled (verb_of one) (tail_of (line_words one)) one other
     (record { verb_is = refl; tail_is = refl; in_range = first })
     (record { verb_is = verbs; tail_is = cut.1; in_range = second })

@@ -1,22 +1,67 @@
 -- Lemmas on lines by their verb and tail.
-use Rattle.std.proofs.Common.{◌≡◌, ℕ, ◌^◌, ◌<◌, ◌≤◌, true, ◌&&◌, nat_le, nat_lt, List, IsTrue, Option, Some, refl, ◌∙◌, ap, subst, arith}
+use Rattle.std.proofs.Common.{◌≡◌, ℕ, ◌^◌, ◌<◌, ◌≤◌, ◌&&◌, nat_le, nat_lt, List, IsTrue, Option, Some, refl, sym, ◌∙◌, ap, arith}
 use Rattle.std.specs.Fmt.{decimal}
 use Rattle.std.proofs.lemmas.Bool.{and_parts, and_from, le-leb, leb-true, lt-ltb, ltb-true}
+use Rattle.as4_values.specs.declared.moment.TheConstants.{MAX_MOMENT}
+use Rattle.as4_disk.specs.declared.change.Pick.{Pick}
 use Rattle.drill_script.specs.Lacking.{spaced}
-use Rattle.drill_script.specs.LineText.{is_line, is_name, is_load, end_text, load_text}
-use Rattle.drill_script.specs.LineParts.{Spells, verb_of, settings_text, counted_line, is_counted}
+use Rattle.drill_script.specs.LineText.{is_line, is_load, is_name, is_stoppable, end_text, load_text, pick_text, stoppable_text}
+use Rattle.drill_script.specs.LineParts.{Spells, SpellsRun, run_verb_of, verb_of, settings_text, counted_line}
 use Rattle.drill_script.specs.declared.line.EndName.{EndName}
 use Rattle.drill_script.specs.declared.line.Line.{Line}
 use Rattle.drill_script.specs.declared.line.Line.TheVariants as line
 use Rattle.drill_script.specs.declared.line.ScriptLoad.{ScriptLoad}
+use Rattle.drill_script.specs.declared.line.Stoppable.{Stoppable}
+use Rattle.drill_script.specs.declared.line.Stoppable.TheVariants as stoppable
 use Rattle.drill_script.specs.declared.line.Way.{Way}
 use Rattle.drill_script.specs.declared.verb.Counted.{Counted}
-use Rattle.drill_script.specs.declared.verb.Counted.TheVariants.{Tick, Came, Lost, Read, Confirm, Status}
-use Rattle.drill_script.specs.declared.verb.Verb.TheVariants.{Mode, Submit, Take, Ask, Pair, Count}
+use Rattle.drill_script.specs.declared.verb.Counted.TheVariants.{Lost, Read, Status}
+use Rattle.drill_script.specs.declared.verb.RunVerb.{RunVerb}
+use Rattle.drill_script.specs.declared.verb.RunVerb.TheVariants.{Submit, Tick, Take, Came, Confirm}
+use Rattle.drill_script.specs.declared.verb.Verb.TheVariants.{Mode, Run, Ask, Pair, Count, Crash, Stop, Fold}
+use Rattle.drill_script.proofs.LineLemmas.{stop_tail}
 
-pub take_spells : (tail : List ℕ) (end : EndName) → tail ≡ end_text end → Spells Take tail (line.Take end)
-unfolding is_line
+-- a line that can be stopped, by its parts
+
+pub submit_spells : (tail : List ℕ) (end : EndName) (mode : List ℕ) (load : ScriptLoad) → tail ≡ spaced (end_text end) (spaced mode (load_text load)) → IsTrue (is_name mode) → IsTrue (is_load load) → SpellsRun Submit tail (stoppable.Submit end mode load)
+unfolding is_stoppable
+submit_spells tail end mode load is named loaded = record {
+  verb_is = refl;
+  tail_is = is;
+  in_range = and_from (is_name mode) (is_load load) named loaded;
+}
+
+pub tick_spells : (tail : List ℕ) (end : EndName) (moment : ℕ) → tail ≡ spaced (end_text end) (decimal moment) → moment ≤ MAX_MOMENT → SpellsRun Tick tail (stoppable.Tick end moment)
+unfolding is_stoppable
+tick_spells tail end moment is early = record { verb_is = refl; tail_is = is; in_range = le-leb moment MAX_MOMENT early }
+
+pub take_spells : (tail : List ℕ) (end : EndName) → tail ≡ end_text end → SpellsRun Take tail (stoppable.Take end)
+unfolding is_stoppable
 take_spells tail end is = record { verb_is = refl; tail_is = is; in_range = refl }
+
+pub came_spells : (tail : List ℕ) (end : EndName) (number : ℕ) → tail ≡ spaced (end_text end) (decimal number) → number < 2 ^ 64 → SpellsRun Came tail (stoppable.Came end number)
+unfolding is_stoppable
+came_spells tail end number is small = record { verb_is = refl; tail_is = is; in_range = lt-ltb number (2 ^ 64) small }
+
+pub confirm_spells : (tail : List ℕ) (end : EndName) (number : ℕ) → tail ≡ spaced (end_text end) (decimal number) → number < 2 ^ 64 → SpellsRun Confirm tail (stoppable.Confirm end number)
+unfolding is_stoppable
+confirm_spells tail end number is small = record { verb_is = refl; tail_is = is; in_range = lt-ltb number (2 ^ 64) small }
+
+-- a line by its parts
+
+pub mode_spells : (tail name : List ℕ) (way : Way) (retries period : ℕ) → tail ≡ spaced name (settings_text way retries period) → IsTrue (is_name name) → retries ≤ 1000 → 1 ≤ period → period ≤ 1000000000 → Spells Mode tail (line.Mode name way retries period)
+unfolding is_line
+mode_spells tail name way retries period is named few some short = record {
+  verb_is = refl;
+  tail_is = is;
+  in_range = and_from (is_name name) _ named
+      (and_from (nat_le retries 1000) _ (le-leb retries 1000 few)
+      (and_from (nat_le 1 period) (nat_le period 1000000000) (le-leb 1 period some) (le-leb period 1000000000 short)));
+}
+
+pub run_spells : (verb : RunVerb) (tail : List ℕ) (l : Stoppable) → SpellsRun verb tail l → Spells (Run verb) tail (line.Run l)
+unfolding is_line
+run_spells verb tail l spells = record { verb_is = ap Run spells.verb_is; tail_is = spells.tail_is; in_range = spells.in_range }
 
 pub ask_spells : (tail : List ℕ) (end : EndName) (mode : List ℕ) → tail ≡ spaced (end_text end) mode → IsTrue (is_name mode) → Spells Ask tail (line.Ask end mode)
 unfolding is_line
@@ -30,82 +75,81 @@ pair_spells tail end mode number is named small = record {
   in_range = and_from (is_name mode) (nat_lt number (2 ^ 64)) named (lt-ltb number (2 ^ 64) small);
 }
 
-pub submit_spells : (tail : List ℕ) (end : EndName) (mode : List ℕ) (load : ScriptLoad) → tail ≡ spaced (end_text end) (spaced mode (load_text load)) → IsTrue (is_name mode) → IsTrue (is_load load) → Spells Submit tail (line.Submit end mode load)
+pub counted_spells : (counted : Counted) (tail : List ℕ) (end : EndName) (number : ℕ) → tail ≡ spaced (end_text end) (decimal number) → number < 2 ^ 64 → Spells (Count counted) tail (counted_line counted end number)
 unfolding is_line
-submit_spells tail end mode load is named loaded = record {
+counted_spells Lost tail end number is small = record { verb_is = refl; tail_is = is; in_range = lt-ltb number (2 ^ 64) small }
+counted_spells Read tail end number is small = record { verb_is = refl; tail_is = is; in_range = lt-ltb number (2 ^ 64) small }
+counted_spells Status tail end number is small = record { verb_is = refl; tail_is = is; in_range = lt-ltb number (2 ^ 64) small }
+
+pub crash_spells : (tail : List ℕ) (end : EndName) → tail ≡ end_text end → Spells Crash tail (line.Crash end)
+unfolding is_line
+crash_spells tail end is = record { verb_is = refl; tail_is = is; in_range = refl }
+
+pub stop_spells : (tail : List ℕ) (call : ℕ) (pick : Pick) (l : Stoppable) → tail ≡ spaced (decimal call) (spaced (pick_text pick) (stoppable_text l)) → 1 ≤ call → call ≤ 4 → IsTrue (is_stoppable l) → Spells Stop tail (line.Stop call pick l)
+unfolding is_line
+stop_spells tail call pick l is some few small = record {
   verb_is = refl;
-  tail_is = is;
-  in_range = and_from (is_name mode) (is_load load) named loaded;
+  tail_is = is ∙ sym (stop_tail call pick l);
+  in_range = and_from (nat_le 1 call) (nat_le call 4 && is_stoppable l) (le-leb 1 call some)
+      (and_from (nat_le call 4) (is_stoppable l) (le-leb call 4 few) small);
 }
 
-pub mode_spells : (tail name : List ℕ) (way : Way) (retries period : ℕ) → tail ≡ spaced name (settings_text way retries period) → IsTrue (is_name name) → retries ≤ 1000 → 1 ≤ period → period ≤ 1000000000 → Spells Mode tail (line.Mode name way retries period)
+pub fold_spells : (tail : List ℕ) (end : EndName) → tail ≡ end_text end → Spells Fold tail (line.Fold end)
 unfolding is_line
-mode_spells tail name way retries period is named few some short = record {
-  verb_is = refl;
-  tail_is = is;
-  in_range = and_from (is_name name) _ named
-      (and_from (nat_le retries 1000) _ (le-leb retries 1000 few)
-      (and_from (nat_le 1 period) (nat_le period 1000000000) (le-leb 1 period some) (le-leb period 1000000000 short)));
-}
-
-pub counted_spells : (counted : Counted) (tail : List ℕ) (end : EndName) (number : ℕ) → tail ≡ spaced (end_text end) (decimal number) → is_counted counted number ≡ true → Spells (Count counted) tail (counted_line counted end number)
-unfolding is_line
-counted_spells Tick tail end number is within = record { verb_is = refl; tail_is = is; in_range = within }
-counted_spells Came tail end number is within = record { verb_is = refl; tail_is = is; in_range = within }
-counted_spells Lost tail end number is within = record { verb_is = refl; tail_is = is; in_range = within }
-counted_spells Read tail end number is within = record { verb_is = refl; tail_is = is; in_range = within }
-counted_spells Confirm tail end number is within = record { verb_is = refl; tail_is = is; in_range = within }
-counted_spells Status tail end number is within = record { verb_is = refl; tail_is = is; in_range = within }
+fold_spells tail end is = record { verb_is = refl; tail_is = is; in_range = refl }
 
 -- what a line of each verb is
 
-pub take_spelled : (tail : List ℕ) (said : Line) → Spells Take tail said → (end : EndName) × (said ≡ line.Take end) × (tail ≡ end_text end)
-take_spelled tail (line.Take end) spells = (end, refl, spells.tail_is)
-take_spelled tail other spells = let verb : verb_of other ≡ Take = spells.verb_is in cc
-
--- an asking line
-pub record AskIs (tail : List ℕ) (said : Line) (end : EndName) (mode : List ℕ) : Type 0 where
-  pub line_is : said ≡ line.Ask end mode
-  pub tail_is : tail ≡ spaced (end_text end) mode
-  pub named : IsTrue (is_name mode)
-
-pub ask_spelled : (tail : List ℕ) (said : Line) → Spells Ask tail said → (end : EndName) × (mode : List ℕ) × AskIs tail said end mode
-unfolding is_line
-ask_spelled tail (line.Ask end mode) spells =
-    (end, mode, record { line_is = refl; tail_is = spells.tail_is; named = spells.in_range })
-ask_spelled tail other spells = let verb : verb_of other ≡ Ask = spells.verb_is in cc
-
--- an asking line with a receipt
-pub record PairIs (tail : List ℕ) (said : Line) (end : EndName) (mode : List ℕ) (number : ℕ) : Type 0 where
-  pub line_is : said ≡ line.Pair end mode number
-  pub tail_is : tail ≡ spaced (end_text end) (spaced mode (decimal number))
-  pub named : IsTrue (is_name mode)
+-- a line of an end and a number, made so
+pub record NumberedIs {X : Type 0} (make : EndName → ℕ → X) (tail : List ℕ) (said : X) (end : EndName) (number : ℕ) : Type 0 where
+  pub line_is : said ≡ make end number
+  pub tail_is : tail ≡ spaced (end_text end) (decimal number)
   pub small : number < 2 ^ 64
 
-pub pair_spelled : (tail : List ℕ) (said : Line) → Spells Pair tail said → (end : EndName) × (mode : List ℕ) × (number : ℕ) × PairIs tail said end mode number
-unfolding is_line
-pair_spelled tail (line.Pair end mode number) spells =
-    let parts = and_parts (is_name mode) (nat_lt number (2 ^ 64)) spells.in_range in (
-      end,
-      mode,
-      number,
-      record { line_is = refl; tail_is = spells.tail_is; named = parts.0; small = ltb-true number (2 ^ 64) parts.1 },
-    )
-pair_spelled tail other spells = let verb : verb_of other ≡ Pair = spells.verb_is in cc
-
 -- a submission
-pub record SubmitIs (tail : List ℕ) (said : Line) (end : EndName) (mode : List ℕ) (load : ScriptLoad) : Type 0 where
-  pub line_is : said ≡ line.Submit end mode load
+pub record SubmitIs (tail : List ℕ) (said : Stoppable) (end : EndName) (mode : List ℕ) (load : ScriptLoad) : Type 0 where
+  pub line_is : said ≡ stoppable.Submit end mode load
   pub tail_is : tail ≡ spaced (end_text end) (spaced mode (load_text load))
   pub named : IsTrue (is_name mode)
   pub loaded : IsTrue (is_load load)
 
-pub submit_spelled : (tail : List ℕ) (said : Line) → Spells Submit tail said → (end : EndName) × (mode : List ℕ) × (load : ScriptLoad) × SubmitIs tail said end mode load
-unfolding is_line
-submit_spelled tail (line.Submit end mode load) spells =
+pub submit_spelled : (tail : List ℕ) (said : Stoppable) → SpellsRun Submit tail said → (end : EndName) × (mode : List ℕ) × (load : ScriptLoad) × SubmitIs tail said end mode load
+unfolding is_stoppable
+submit_spelled tail (stoppable.Submit end mode load) spells =
     let parts = and_parts (is_name mode) (is_load load) spells.in_range in
     (end, mode, load, record { line_is = refl; tail_is = spells.tail_is; named = parts.0; loaded = parts.1 })
-submit_spelled tail other spells = let verb : verb_of other ≡ Submit = spells.verb_is in cc
+submit_spelled tail other spells = let verb : run_verb_of other ≡ Submit = spells.verb_is in cc
+
+pub tick_spelled : (tail : List ℕ) (said : Stoppable) → SpellsRun Tick tail said → (end : EndName) × (moment : ℕ) × NumberedIs stoppable.Tick tail said end moment × (moment ≤ MAX_MOMENT)
+unfolding is_stoppable
+tick_spelled tail (stoppable.Tick end moment) spells =
+    let early : moment ≤ MAX_MOMENT = leb-true moment MAX_MOMENT spells.in_range in
+    (end, moment, record { line_is = refl; tail_is = spells.tail_is; small = omega arith }, early)
+tick_spelled tail other spells = let verb : run_verb_of other ≡ Tick = spells.verb_is in cc
+
+pub take_spelled : (tail : List ℕ) (said : Stoppable) → SpellsRun Take tail said → (end : EndName) × (said ≡ stoppable.Take end) × (tail ≡ end_text end)
+take_spelled tail (stoppable.Take end) spells = (end, refl, spells.tail_is)
+take_spelled tail other spells = let verb : run_verb_of other ≡ Take = spells.verb_is in cc
+
+pub came_spelled : (tail : List ℕ) (said : Stoppable) → SpellsRun Came tail said → (end : EndName) × (number : ℕ) × NumberedIs stoppable.Came tail said end number
+unfolding is_stoppable
+came_spelled tail (stoppable.Came end number) spells =
+    (end, number, record { line_is = refl; tail_is = spells.tail_is; small = ltb-true number (2 ^ 64) spells.in_range })
+came_spelled tail other spells = let verb : run_verb_of other ≡ Came = spells.verb_is in cc
+
+pub confirm_spelled : (tail : List ℕ) (said : Stoppable) → SpellsRun Confirm tail said → (end : EndName) × (number : ℕ) × NumberedIs stoppable.Confirm tail said end number
+unfolding is_stoppable
+confirm_spelled tail (stoppable.Confirm end number) spells =
+    (end, number, record { line_is = refl; tail_is = spells.tail_is; small = ltb-true number (2 ^ 64) spells.in_range })
+confirm_spelled tail other spells = let verb : run_verb_of other ≡ Confirm = spells.verb_is in cc
+
+-- a line that can be stopped, and is not
+pub run_spelled : (verb : RunVerb) (tail : List ℕ) (said : Line) → Spells (Run verb) tail said → (l : Stoppable) × (said ≡ line.Run l) × SpellsRun verb tail l
+unfolding is_line
+run_spelled verb tail (line.Run l) spells =
+    let runs : Run (run_verb_of l) ≡ Run verb = spells.verb_is in
+    (l, refl, record { verb_is = cc; tail_is = spells.tail_is; in_range = spells.in_range })
+run_spelled verb tail other spells = let verbs : verb_of other ≡ Run verb = spells.verb_is in cc
 
 -- a mode
 pub record ModeIs (tail : List ℕ) (said : Line) (name : List ℕ) (way : Way) (retries period : ℕ) : Type 0 where
@@ -137,46 +181,85 @@ mode_spelled tail (line.Mode name way retries period) spells =
     )
 mode_spelled tail other spells = let verb : verb_of other ≡ Mode = spells.verb_is in cc
 
--- a line of an end and a number
-pub record CountedIs (counted : Counted) (tail : List ℕ) (said : Line) (end : EndName) (number : ℕ) : Type 0 where
-  pub line_is : said ≡ counted_line counted end number
-  pub tail_is : tail ≡ spaced (end_text end) (decimal number)
-  pub within : is_counted counted number ≡ true
+-- an asking line
+pub record AskIs (tail : List ℕ) (said : Line) (end : EndName) (mode : List ℕ) : Type 0 where
+  pub line_is : said ≡ line.Ask end mode
+  pub tail_is : tail ≡ spaced (end_text end) mode
+  pub named : IsTrue (is_name mode)
+
+pub ask_spelled : (tail : List ℕ) (said : Line) → Spells Ask tail said → (end : EndName) × (mode : List ℕ) × AskIs tail said end mode
+unfolding is_line
+ask_spelled tail (line.Ask end mode) spells =
+    (end, mode, record { line_is = refl; tail_is = spells.tail_is; named = spells.in_range })
+ask_spelled tail other spells = let verb : verb_of other ≡ Ask = spells.verb_is in cc
+
+-- an asking line with a receipt
+pub record PairIs (tail : List ℕ) (said : Line) (end : EndName) (mode : List ℕ) (number : ℕ) : Type 0 where
+  pub line_is : said ≡ line.Pair end mode number
+  pub tail_is : tail ≡ spaced (end_text end) (spaced mode (decimal number))
+  pub named : IsTrue (is_name mode)
   pub small : number < 2 ^ 64
 
--- a number in range fits 64 bits
-is_counted_small : (counted : Counted) (number : ℕ) → is_counted counted number ≡ true → number < 2 ^ 64
+pub pair_spelled : (tail : List ℕ) (said : Line) → Spells Pair tail said → (end : EndName) × (mode : List ℕ) × (number : ℕ) × PairIs tail said end mode number
 unfolding is_line
-is_counted_small Tick number within = let low : number ≤ 253402300799999 = leb-true number 253402300799999 within in omega arith
-is_counted_small Came number within = ltb-true number (2 ^ 64) within
-is_counted_small Lost number within = ltb-true number (2 ^ 64) within
-is_counted_small Read number within = ltb-true number (2 ^ 64) within
-is_counted_small Confirm number within = ltb-true number (2 ^ 64) within
-is_counted_small Status number within = ltb-true number (2 ^ 64) within
+pair_spelled tail (line.Pair end mode number) spells =
+    let parts = and_parts (is_name mode) (nat_lt number (2 ^ 64)) spells.in_range in (
+      end,
+      mode,
+      number,
+      record { line_is = refl; tail_is = spells.tail_is; named = parts.0; small = ltb-true number (2 ^ 64) parts.1 },
+    )
+pair_spelled tail other spells = let verb : verb_of other ≡ Pair = spells.verb_is in cc
 
-counted_is : (counted of_line : Counted) (tail : List ℕ) (said : Line) (end : EndName) (number : ℕ) → said ≡ counted_line of_line end number → tail ≡ spaced (end_text end) (decimal number) → is_counted of_line number ≡ true → Count of_line ≡ Count counted → (end : EndName) × (number : ℕ) × CountedIs counted tail said end number
-counted_is counted of_line tail said end number line_is tail_is within verb =
-    let same : of_line ≡ counted = cc in
-    let within_same : is_counted counted number ≡ true = subst (λ (c : Counted). is_counted c number ≡ true) same within in (
+-- a line of an end and a number
+counted_is : (counted of_line : Counted) (tail : List ℕ) (end : EndName) (number : ℕ) → tail ≡ spaced (end_text end) (decimal number) → number < 2 ^ 64 → Count of_line ≡ Count counted → (end_is : EndName) × (number_is : ℕ) × NumberedIs (counted_line counted) tail (counted_line of_line end number) end_is number_is
+counted_is counted of_line tail end number tail_is small verb =
+    let same : of_line ≡ counted = cc in (
       end,
       number,
-      record {
-        line_is = line_is ∙ ap (λ (c : Counted). counted_line c end number) same;
-        tail_is = tail_is;
-        within = within_same;
-        small = is_counted_small counted number within_same;
-      },
+      record { line_is = ap (λ (c : Counted). counted_line c end number) same; tail_is = tail_is; small = small },
     )
 
-pub counted_spelled : (counted : Counted) (tail : List ℕ) (said : Line) → Spells (Count counted) tail said → (end : EndName) × (number : ℕ) × CountedIs counted tail said end number
+pub counted_spelled : (counted : Counted) (tail : List ℕ) (said : Line) → Spells (Count counted) tail said → (end : EndName) × (number : ℕ) × NumberedIs (counted_line counted) tail said end number
 unfolding is_line
-counted_spelled counted tail (line.Tick end number) s = counted_is counted Tick tail _ end number refl s.tail_is s.in_range s.verb_is
-counted_spelled counted tail (line.Came end number) s = counted_is counted Came tail _ end number refl s.tail_is s.in_range s.verb_is
-counted_spelled counted tail (line.Lost end number) s = counted_is counted Lost tail _ end number refl s.tail_is s.in_range s.verb_is
-counted_spelled counted tail (line.Read end number) s = counted_is counted Read tail _ end number refl s.tail_is s.in_range s.verb_is
-counted_spelled counted tail (line.Confirm end number) s = counted_is counted Confirm tail _ end number refl s.tail_is s.in_range s.verb_is
-counted_spelled counted tail (line.Status end number) s = counted_is counted Status tail _ end number refl s.tail_is s.in_range s.verb_is
+counted_spelled counted tail (line.Lost end number) s = counted_is counted Lost tail end number s.tail_is (ltb-true number (2 ^ 64) s.in_range) s.verb_is
+counted_spelled counted tail (line.Read end number) s = counted_is counted Read tail end number s.tail_is (ltb-true number (2 ^ 64) s.in_range) s.verb_is
+counted_spelled counted tail (line.Status end number) s = counted_is counted Status tail end number s.tail_is (ltb-true number (2 ^ 64) s.in_range) s.verb_is
 counted_spelled counted tail other spells = let verb : verb_of other ≡ Count counted = spells.verb_is in cc
+
+pub crash_spelled : (tail : List ℕ) (said : Line) → Spells Crash tail said → (end : EndName) × (said ≡ line.Crash end) × (tail ≡ end_text end)
+crash_spelled tail (line.Crash end) spells = (end, refl, spells.tail_is)
+crash_spelled tail other spells = let verb : verb_of other ≡ Crash = spells.verb_is in cc
+
+-- a stop
+pub record StopIs (tail : List ℕ) (said : Line) (call : ℕ) (pick : Pick) (l : Stoppable) : Type 0 where
+  pub line_is : said ≡ line.Stop call pick l
+  pub tail_is : tail ≡ spaced (decimal call) (spaced (pick_text pick) (stoppable_text l))
+  pub some : 1 ≤ call
+  pub few : call ≤ 4
+  pub small : IsTrue (is_stoppable l)
+
+pub stop_spelled : (tail : List ℕ) (said : Line) → Spells Stop tail said → (call : ℕ) × (pick : Pick) × (l : Stoppable) × StopIs tail said call pick l
+unfolding is_line
+stop_spelled tail (line.Stop call pick l) spells =
+    let some = and_parts (nat_le 1 call) (nat_le call 4 && is_stoppable l) spells.in_range in
+    let few = and_parts (nat_le call 4) (is_stoppable l) some.1 in (
+      call,
+      pick,
+      l,
+      record {
+        line_is = refl;
+        tail_is = spells.tail_is ∙ stop_tail call pick l;
+        some = leb-true 1 call some.0;
+        few = leb-true call 4 few.0;
+        small = few.1;
+      },
+    )
+stop_spelled tail other spells = let verb : verb_of other ≡ Stop = spells.verb_is in cc
+
+pub fold_spelled : (tail : List ℕ) (said : Line) → Spells Fold tail said → (end : EndName) × (said ≡ line.Fold end) × (tail ≡ end_text end)
+fold_spelled tail (line.Fold end) spells = (end, refl, spells.tail_is)
+fold_spelled tail other spells = let verb : verb_of other ≡ Fold = spells.verb_is in cc
 
 -- the same parts make the same line
 
@@ -188,8 +271,22 @@ mode_again said name found way found_way retries period found_retries found_peri
     let periods : found_period ≡ period = ap (λ (p : Way × ℕ × ℕ). p.2) parts in
     cc
 
-pub submit_again : (said : Line) (end found_end : EndName) (mode found : List ℕ) (load found_load : ScriptLoad) → said ≡ line.Submit end mode load → found_end ≡ end → found ≡ mode → Some found_load ≡ Some load → Some (line.Submit found_end found found_load) ≡ Some said
+pub submit_again : (said : Stoppable) (end found_end : EndName) (mode found : List ℕ) (load found_load : ScriptLoad) → said ≡ stoppable.Submit end mode load → found_end ≡ end → found ≡ mode → Some found_load ≡ Some load → Some (stoppable.Submit found_end found found_load) ≡ Some said
 submit_again said end found_end mode found load found_load is ends modes loads = cc
+
+-- what was found is an end and a number
+pub found_parts : (end found_end : EndName) (number found_number : ℕ) → ◌≡◌ {A = Option (EndName × ℕ)} (Some (found_end, found_number)) (Some (end, number)) → (found_end ≡ end) × (found_number ≡ number)
+found_parts end found_end number found_number found =
+    let parts : ◌≡◌ {A = EndName × ℕ} (found_end, found_number) (end, number) = cc in
+    (ap (λ (p : EndName × ℕ). p.0) parts, ap (λ (p : EndName × ℕ). p.1) parts)
+
+pub numbered_again : {X : Type 0} (make : EndName → ℕ → X) (tail : List ℕ) (said : X) (end found_end : EndName) (number found_number : ℕ) → NumberedIs make tail said end number → ◌≡◌ {A = Option (EndName × ℕ)} (Some (found_end, found_number)) (Some (end, number)) → Some (make found_end found_number) ≡ Some said
+numbered_again make tail said end found_end number found_number is found =
+    let parts = found_parts end found_end number found_number found in
+    ap Some ((λ i. make (parts.0 i) (parts.1 i)) ∙ sym is.line_is)
 
 pub pair_again : (said : Line) (end found_end : EndName) (mode found : List ℕ) (number found_number : ℕ) → said ≡ line.Pair end mode number → found_end ≡ end → found ≡ mode → found_number ≡ number → Some (line.Pair found_end found found_number) ≡ Some said
 pair_again said end found_end mode found number found_number is ends modes numbers = cc
+
+pub stop_again : (said : Line) (call found_call : ℕ) (pick found_pick : Pick) (l found : Stoppable) → said ≡ line.Stop call pick l → found_call ≡ call → found_pick ≡ pick → Some found ≡ Some l → Some (line.Stop found_call found_pick found) ≡ Some said
+stop_again said call found_call pick found_pick l found is calls picks lines = cc

@@ -10,7 +10,9 @@ use Rattle.std.proofs.lemmas.Fmt.{decimal_is_IsNumeral, IsAscii-decimal_wide, pa
 use Rattle.std.proofs.lemmas.Slice.Eq.{bytes_eq-Decides}
 use Rattle.std.proofs.lemmas.Str.{IsUtf8-from_ascii}
 use Rattle.drill_script.specs.Lacking.{Lacks}
-use Rattle.drill_script.specs.LineText.{end_text, way_text, is_drill_byte, is_name}
+use Rattle.as4_disk.specs.declared.change.Pick.{Pick}
+use Rattle.as4_disk.specs.declared.change.Pick.TheVariants.{Old, New, Other}
+use Rattle.drill_script.specs.LineText.{end_text, way_text, pick_text, is_drill_byte, is_name}
 use Rattle.drill_script.specs.declared.line.EndName.{EndName}
 use Rattle.drill_script.specs.declared.line.EndName.TheVariants.{A, B}
 use Rattle.drill_script.specs.declared.line.Way.{Way}
@@ -24,6 +26,11 @@ end_unspaced B = Lacks_tested 32 _ refl
 pub way_unspaced : (way : Way) → Lacks 32 (way_text way)
 way_unspaced Push = Lacks_tested 32 _ refl
 way_unspaced Pull = Lacks_tested 32 _ refl
+
+pub pick_unspaced : (pick : Pick) → Lacks 32 (pick_text pick)
+pick_unspaced Old = Lacks_tested 32 _ refl
+pick_unspaced New = Lacks_tested 32 _ refl
+pick_unspaced Other = Lacks_tested 32 _ refl
 
 digits_unspaced : (digits : List ℕ) → AllDigits 10 digits → Lacks 32 digits
 digits_unspaced [] each = Lacks_none 32

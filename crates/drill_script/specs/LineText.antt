@@ -11,18 +11,27 @@
 --     read END NUMBER
 --     confirm END NUMBER
 --     status END NUMBER
+--     crash END
+--     stop CALL PICK LINE               CALL is 1 to 4; PICK is old, new or other; LINE is a line of submit, tick, take,
+--                                       came or confirm
+--     fold END
 --
 -- A line is the text of what it says, so it is spelled in one way only. Numbers are decimal, without a sign and without
 -- leading zeros.
 use Rattle.std.specs.Prelude.{ℕ, ◌+◌, ◌/◌, ◌%◌, ◌^◌, List, [], ◌∷◌, ◌++◌, Bool, true, ◌&&◌, ◌||◌, nat_le, nat_lt, if◌then◌else◌, length, codes}
 use Rattle.std.specs.Fmt.{decimal}
 use Rattle.std.specs.List.{flat_map, join_with_byte, list_all}
+use Rattle.as4_values.specs.declared.moment.TheConstants.{MAX_MOMENT}
+use Rattle.as4_disk.specs.declared.change.Pick.{Pick}
+use Rattle.as4_disk.specs.declared.change.Pick.TheVariants as pick
 use Rattle.drill_script.specs.declared.line.EndName.{EndName}
 use Rattle.drill_script.specs.declared.line.EndName.TheVariants.{A, B}
 use Rattle.drill_script.specs.declared.line.Line.{Line}
 use Rattle.drill_script.specs.declared.line.Line.TheVariants as line
 use Rattle.drill_script.specs.declared.line.ScriptLoad.{ScriptLoad}
 use Rattle.drill_script.specs.declared.line.ScriptLoad.TheVariants.{Nothing, Hex, Size}
+use Rattle.drill_script.specs.declared.line.Stoppable.{Stoppable}
+use Rattle.drill_script.specs.declared.line.Stoppable.TheVariants.{Submit, Tick, Take, Came, Confirm}
 use Rattle.drill_script.specs.declared.line.Way.{Way}
 use Rattle.drill_script.specs.declared.line.Way.TheVariants.{Push, Pull}
 
@@ -33,6 +42,11 @@ end_text B = codes "b"
 abbrev pub way_text : Way → List ℕ
 way_text Push = codes "push"
 way_text Pull = codes "pull"
+
+abbrev pub pick_text : Pick → List ℕ
+pick_text pick.Old = codes "old"
+pick_text pick.New = codes "new"
+pick_text pick.Other = codes "other"
 
 -- 0 to 9, a to f
 abbrev pub hex_digit : ℕ → ℕ
@@ -47,23 +61,34 @@ load_text Nothing = codes "none"
 load_text (Hex bytes) = codes "hex=" ++ hex_text bytes
 load_text (Size size) = codes "size=" ++ decimal size
 
+-- the words of a line that can be stopped
+abbrev pub stoppable_words : Stoppable → List (List ℕ)
+stoppable_words (Submit end mode load) = codes "submit" ∷ end_text end ∷ mode ∷ load_text load ∷ []
+stoppable_words (Tick end moment) = codes "tick" ∷ end_text end ∷ decimal moment ∷ []
+stoppable_words (Take end) = codes "take" ∷ end_text end ∷ []
+stoppable_words (Came end number) = codes "came" ∷ end_text end ∷ decimal number ∷ []
+stoppable_words (Confirm end number) = codes "confirm" ∷ end_text end ∷ decimal number ∷ []
+
 -- the words of a line
 abbrev pub line_words : Line → List (List ℕ)
 line_words (line.Mode name way retries period) = codes "mode" ∷ name ∷ way_text way ∷ decimal retries ∷ decimal period ∷ []
-line_words (line.Submit end mode load) = codes "submit" ∷ end_text end ∷ mode ∷ load_text load ∷ []
-line_words (line.Tick end moment) = codes "tick" ∷ end_text end ∷ decimal moment ∷ []
-line_words (line.Take end) = codes "take" ∷ end_text end ∷ []
+line_words (line.Run l) = stoppable_words l
 line_words (line.Ask end mode) = codes "ask" ∷ end_text end ∷ mode ∷ []
 line_words (line.Pair end mode number) = codes "pair" ∷ end_text end ∷ mode ∷ decimal number ∷ []
-line_words (line.Came end number) = codes "came" ∷ end_text end ∷ decimal number ∷ []
 line_words (line.Lost end number) = codes "lost" ∷ end_text end ∷ decimal number ∷ []
 line_words (line.Read end number) = codes "read" ∷ end_text end ∷ decimal number ∷ []
-line_words (line.Confirm end number) = codes "confirm" ∷ end_text end ∷ decimal number ∷ []
 line_words (line.Status end number) = codes "status" ∷ end_text end ∷ decimal number ∷ []
+line_words (line.Crash end) = codes "crash" ∷ end_text end ∷ []
+line_words (line.Stop call pick l) = codes "stop" ∷ decimal call ∷ pick_text pick ∷ stoppable_words l
+line_words (line.Fold end) = codes "fold" ∷ end_text end ∷ []
 
 -- they are parted by one space
 unfoldable pub line_text : Line → List ℕ
 line_text l = join_with_byte 32 (line_words l)
+
+-- so are those of a line that can be stopped
+abbrev pub stoppable_text : Stoppable → List ℕ
+stoppable_text l = join_with_byte 32 (stoppable_words l)
 
 -- a to z and 0 to 9
 abbrev pub is_drill_byte : ℕ → Bool
@@ -82,20 +107,27 @@ is_load Nothing = true
 is_load (Hex bytes) = are_bytes bytes
 is_load (Size size) = nat_le size 16777216
 
--- what it says is in range
+-- what a line that can be stopped says is in range
+unfoldable pub is_stoppable : Stoppable → Bool
+is_stoppable (Submit end mode load) = is_name mode && is_load load
+is_stoppable (Tick end moment) = nat_le moment MAX_MOMENT
+is_stoppable (Take end) = true
+is_stoppable (Came end number) = nat_lt number (2 ^ 64)
+is_stoppable (Confirm end number) = nat_lt number (2 ^ 64)
+
+-- what a line says is in range
 unfoldable pub is_line : Line → Bool
 is_line (line.Mode name way retries period) =
     is_name name && (nat_le retries 1000 && (nat_le 1 period && nat_le period 1000000000))
-is_line (line.Submit end mode load) = is_name mode && is_load load
-is_line (line.Tick end moment) = nat_le moment 253402300799999
-is_line (line.Take end) = true
+is_line (line.Run l) = is_stoppable l
 is_line (line.Ask end mode) = is_name mode
 is_line (line.Pair end mode number) = is_name mode && nat_lt number (2 ^ 64)
-is_line (line.Came end number) = nat_lt number (2 ^ 64)
 is_line (line.Lost end number) = nat_lt number (2 ^ 64)
 is_line (line.Read end number) = nat_lt number (2 ^ 64)
-is_line (line.Confirm end number) = nat_lt number (2 ^ 64)
 is_line (line.Status end number) = nat_lt number (2 ^ 64)
+is_line (line.Crash end) = true
+is_line (line.Stop call pick l) = nat_le 1 call && (nat_le call 4 && is_stoppable l)
+is_line (line.Fold end) = true
 
 -- how many bytes a line has at most
 abbrev pub line_limit : ℕ

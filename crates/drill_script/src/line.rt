@@ -1,3 +1,4 @@
+use as4_disk::Pick;
 use as4_values::Octets;
 
 /// One of the two ends.
@@ -24,16 +25,9 @@ pub enum ScriptLoad {
     Size(u32),
 }
 
-/// A line of a script.
+/// A line that can be stopped.
 #[derive(Drop)]
-pub enum Line {
-    /// Both ends have this mode.
-    Mode {
-        name: Octets,
-        way: Way,
-        retries: u32,
-        period: u64,
-    },
+pub enum Stoppable {
     /// A message is handed in.
     Submit {
         end: EndName,
@@ -49,6 +43,30 @@ pub enum Line {
     Take {
         end: EndName,
     },
+    /// The package of this number that the other end sent comes.
+    Came {
+        end: EndName,
+        package: u64,
+    },
+    /// The messages in the inbox up to this one are taken over.
+    Confirm {
+        end: EndName,
+        number: u64,
+    },
+}
+
+/// A line of a script.
+#[derive(Drop)]
+pub enum Line {
+    /// Both ends have this mode.
+    Mode {
+        name: Octets,
+        way: Way,
+        retries: u32,
+        period: u64,
+    },
+    /// It runs to its end.
+    Run(Stoppable),
     /// A pull request is sent.
     Ask {
         end: EndName,
@@ -60,12 +78,7 @@ pub enum Line {
         mode: Octets,
         number: u64,
     },
-    /// The package of this number that the other end sent comes.
-    Came {
-        end: EndName,
-        package: u64,
-    },
-    /// It comes, and what the end answers is lost.
+    /// The package of this number that the other end sent comes, and what the end answers is lost.
     Lost {
         end: EndName,
         package: u64,
@@ -75,14 +88,24 @@ pub enum Line {
         end: EndName,
         number: u64,
     },
-    /// The messages in the inbox up to this one are taken over.
-    Confirm {
-        end: EndName,
-        number: u64,
-    },
     /// What became of the submission of this number.
     Status {
         end: EndName,
         number: u64,
+    },
+    /// The power of the end fails, and its disk is opened again.
+    Crash {
+        end: EndName,
+    },
+    /// The line's device call of this number acts and then fails, and all later ones fail. What it answers is lost, and
+    /// the image of the pick is opened.
+    Stop {
+        call: u8,
+        pick: Pick,
+        line: Stoppable,
+    },
+    /// The end's journal is folded.
+    Fold {
+        end: EndName,
     },
 }

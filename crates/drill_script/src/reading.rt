@@ -1,19 +1,21 @@
 //! A line, read from its bytes.
 //!
 //!     a word, a space, and the rest: the word tells the kind of line, and the kind how the rest is read
-ghost use Rattle.std.specs.Prelude.{◌≡◌, ℕ, ◌≤◌, List, Some, IfOk, IfSome, IsErr, IsTrue};
-ghost use Rattle.drill_script.specs.LineText.{line_text, is_line, end_text};
-ghost use Rattle.drill_script.specs.LineParts.{BeginsKept, IsKept, Spells, settings_text, counted_line, is_counted};
-ghost use Rattle.drill_script.specs.declared.line.EndName.{EndName};
+ghost use Rattle.std.specs.Prelude.{◌≡◌, ℕ, ◌≤◌, Some, IfOk, IfSome, IsErr, IsTrue};
+ghost use Rattle.drill_script.specs.LineText.{line_text, is_line};
+ghost use Rattle.drill_script.specs.LineParts.{BeginsKept, IsKept, Spells, settings_text, counted_line};
 ghost use Rattle.drill_script.specs.declared.line.Line.{Line};
 ghost use Rattle.drill_script.specs.declared.line.Way.{Way};
 ghost use Rattle.drill_script.specs.declared.verb.Verb.TheVariants as verb;
 
 use crate::line::{EndName, Line, Way};
-use crate::load::load_of;
-use crate::verb::{Counted, Verb, read_verb};
-use crate::words::{cut, end_and, end_of, may_name, name_and, number_and, number_of, way_and};
-use as4_values::{MAX_MOMENT, NoMemory, Octets};
+use crate::stoppable::{run_of, stoppable_of};
+use crate::verb::{Counted, RunVerb, Verb, read_verb};
+use crate::words::{
+    call_and, cut, end_and, end_and_number, end_of, may_name, name_and, number_and, number_of,
+    octets_of, pick_and, way_and,
+};
+use as4_values::NoMemory;
 use std::alloc::Global;
 
 /// How often a message is sent again at most.
@@ -57,11 +59,13 @@ fn tail_of(alloc: Global, verb: Verb, tail: &[u8]) -> Result<Option<Line>, NoMem
 {
     match verb {
         Verb::Mode => mode_of(alloc, tail),
-        Verb::Submit => submit_of(alloc, tail),
-        Verb::Take => Ok(take_of(tail)),
+        Verb::Run(run) => run_line(alloc, run, tail),
         Verb::Ask => ask_of(alloc, tail),
         Verb::Pair => pair_of(alloc, tail),
         Verb::Count(counted) => Ok(counted_of(counted, tail)),
+        Verb::Crash => Ok(crash_of(tail)),
+        Verb::Stop => stop_of(alloc, tail),
+        Verb::Fold => Ok(fold_of(tail)),
     }
 }
 
@@ -101,31 +105,17 @@ fn settings_of(words: &[u8]) -> Option<(Way, u32, u64)>
     Some((way, retries as u32, period))
 }
 
-// Reads a submission: its end, its mode and what it carries.
-fn submit_of(alloc: Global, tail: &[u8]) -> Result<Option<Line>, NoMemory>
-    ensures found { IfOk result (λ read. IfSome read (Spells verb.Submit tail.now)) }
-    ensures only { (line : Line) → Spells verb.Submit tail.now line → IfOk result (λ read. read ≡ Some line) }
+// Reads a line that can be stopped, and is not.
+#[tactic(auto, using(crate::proofs::SpellLemmas::run_spells))]
+fn run_line(alloc: Global, run: RunVerb, tail: &[u8]) -> Result<Option<Line>, NoMemory>
+    ensures found { IfOk result (λ read. IfSome read (Spells (verb.Run run) tail.now)) }
+    ensures only { (line : Line) → Spells (verb.Run run) tail.now line → IfOk result (λ read. read ≡ Some line) }
+    ensures lean { IsErr result → IsKept (verb.Run run) }
 {
-    let Some((end, words)) = end_and(tail) else {
+    let Some(line) = run_of(alloc, run, tail)? else {
         return Ok(None);
     };
-    let Some((mode, word)) = name_and(words) else {
-        return Ok(None);
-    };
-    let Some(load) = load_of(alloc, word)? else {
-        return Ok(None);
-    };
-    let mode = octets_of(alloc, mode)?;
-    Ok(Some(Line::Submit { end, mode, load }))
-}
-
-// Reads the end that takes.
-fn take_of(tail: &[u8]) -> Option<Line>
-    ensures found { IfSome result (Spells verb.Take tail.now) }
-    ensures only { (line : Line) → Spells verb.Take tail.now line → result ≡ Some line }
-{
-    let end = end_of(tail)?;
-    Some(Line::Take { end })
+    Ok(Some(Line::Run(line)))
 }
 
 // Reads the end that asks, and its mode.
@@ -166,23 +156,8 @@ fn counted_of(counted: Counted, tail: &[u8]) -> Option<Line>
     ensures found { IfSome result (Spells (verb.Count counted) tail.now) }
     ensures only { (line : Line) → Spells (verb.Count counted) tail.now line → result ≡ Some line }
 {
-    let (end, word) = end_and(tail)?;
-    let number = number_of(word)?;
-    if !may_count(counted, number) {
-        return None;
-    }
+    let (end, number) = end_and_number(tail)?;
     Some(counted_line(counted, end, number))
-}
-
-// A moment has a last value, and the other numbers have not.
-#[tactic(auto, unfolding(crate::specs::LineText::is_line))]
-fn may_count(counted: Counted, number: u64) -> bool
-    ensures { result ≡ is_counted counted number }
-{
-    match counted {
-        Counted::Tick => number <= MAX_MOMENT,
-        _ => true,
-    }
 }
 
 // The line of an end and a number.
@@ -190,27 +165,48 @@ fn counted_line(counted: Counted, end: EndName, number: u64) -> Line
     ensures { result ≡ counted_line counted end number }
 {
     match counted {
-        Counted::Tick => Line::Tick {
-            end,
-            moment: number,
-        },
-        Counted::Came => Line::Came {
-            end,
-            package: number,
-        },
         Counted::Lost => Line::Lost {
             end,
             package: number,
         },
         Counted::Read => Line::Read { end, number },
-        Counted::Confirm => Line::Confirm { end, number },
         Counted::Status => Line::Status { end, number },
     }
 }
 
-// A copy of these bytes.
-fn octets_of(alloc: Global, bytes: &[u8]) -> Result<Octets, NoMemory>
-    ensures { IfOk result (λ octets. octets ≡ bytes.now) }
+// Reads the end whose power fails.
+#[tactic(auto, using(crate::proofs::SpellLemmas::crash_spells))]
+fn crash_of(tail: &[u8]) -> Option<Line>
+    ensures found { IfSome result (Spells verb.Crash tail.now) }
+    ensures only { (line : Line) → Spells verb.Crash tail.now line → result ≡ Some line }
 {
-    Ok(Octets::of(Vec::from_slice(alloc, bytes)?))
+    let end = end_of(tail)?;
+    Some(Line::Crash { end })
+}
+
+// Reads a stop: the number of the device call, the pick, and the line.
+fn stop_of(alloc: Global, tail: &[u8]) -> Result<Option<Line>, NoMemory>
+    ensures found { IfOk result (λ read. IfSome read (Spells verb.Stop tail.now)) }
+    ensures only { (line : Line) → Spells verb.Stop tail.now line → IfOk result (λ read. read ≡ Some line) }
+{
+    let Some((call, words)) = call_and(tail) else {
+        return Ok(None);
+    };
+    let Some((pick, words)) = pick_and(words) else {
+        return Ok(None);
+    };
+    let Some(line) = stoppable_of(alloc, words)? else {
+        return Ok(None);
+    };
+    Ok(Some(Line::Stop { call, pick, line }))
+}
+
+// Reads the end whose journal is folded.
+#[tactic(auto, using(crate::proofs::SpellLemmas::fold_spells))]
+fn fold_of(tail: &[u8]) -> Option<Line>
+    ensures found { IfSome result (Spells verb.Fold tail.now) }
+    ensures only { (line : Line) → Spells verb.Fold tail.now line → result ≡ Some line }
+{
+    let end = end_of(tail)?;
+    Some(Line::Fold { end })
 }

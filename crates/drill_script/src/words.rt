@@ -1,15 +1,24 @@
 //! The words of a line, one at a time.
-ghost use Rattle.std.specs.Prelude.{◌≡◌, ℕ, Some, List, ◌∷◌, ◌++◌, ◌<◌, ◌^◌, IfSome, IsTrue};
+ghost use Rattle.std.specs.Prelude.{◌≡◌, ℕ, Some, List, ◌∷◌, ◌++◌, ◌<◌, ◌≤◌, ◌^◌, IfOk, IfSome, IsTrue};
 ghost use Rattle.std.specs.List.{list_all};
 ghost use Rattle.std.specs.Option.{IfNone, IsSomeAnd};
 ghost use Rattle.std.specs.Fmt.{decimal};
 ghost use Rattle.drill_script.specs.Lacking.{Lacks, parted, spaced};
-ghost use Rattle.drill_script.specs.LineText.{end_text, way_text, is_drill_byte, is_name};
+ghost use Rattle.drill_script.specs.LineText.{end_text, way_text, pick_text, is_drill_byte, is_name};
+ghost use Rattle.as4_disk.specs.declared.change.Pick.{Pick};
 
 use crate::line::{EndName, Way};
+use as4_disk::Pick;
+use as4_values::{NoMemory, Octets};
 use itoa::Buffer;
 use memchr::memchr;
+use std::alloc::Global;
 use std::str;
+
+/// The last device call at which a line may be stopped, the first being 1.
+pub const MAX_CALL: u64 = 4;
+
+const _: () = prove!(MAX_CALL == 4);
 
 /// Cuts bytes at the first place of a byte.
 pub(crate) fn cut(byte: u8, bytes: &[u8]) -> Option<(&[u8], &[u8])>
@@ -97,6 +106,23 @@ fn way_of(word: &[u8]) -> Option<Way>
     None
 }
 
+// Reads a pick.
+fn pick_of(word: &[u8]) -> Option<Pick>
+    ensures found { IfSome result (λ pick. word.now ≡ pick_text pick) }
+    ensures only { (pick : Pick) → word.now ≡ pick_text pick → result ≡ Some pick }
+{
+    if word == b"old".as_slice() {
+        return Some(Pick::Old);
+    }
+    if word == b"new".as_slice() {
+        return Some(Pick::New);
+    }
+    if word == b"other".as_slice() {
+        return Some(Pick::Other);
+    }
+    None
+}
+
 /// Reads an end, and gives what stands behind it.
 #[tactic(auto, using(crate::proofs::WordLemmas::end_unspaced))]
 pub(crate) fn end_and(words: &[u8]) -> Option<(EndName, &[u8])>
@@ -134,6 +160,44 @@ pub(crate) fn number_and(words: &[u8]) -> Option<(u64, &[u8])>
     Some((number, rest))
 }
 
+/// Reads an end and a number.
+pub(crate) fn end_and_number(words: &[u8]) -> Option<(EndName, u64)>
+    ensures found { IfSome result (λ parts. words.now ≡ spaced (end_text parts.0) (decimal parts.1)) }
+    ensures range { IfSome result (λ parts. parts.1 < 2 ^ 64) }
+    ensures only { (end : EndName) (number : ℕ) → number < 2 ^ 64 → words.now ≡ spaced (end_text end) (decimal number)
+        → result ≡ Some (end, number) }
+{
+    let (end, word) = end_and(words)?;
+    let number = number_of(word)?;
+    Some((end, number))
+}
+
+/// Reads the number of a device call, and gives what stands behind it.
+pub(crate) fn call_and(words: &[u8]) -> Option<(u8, &[u8])>
+    ensures found { IfSome result (λ parts. words.now ≡ spaced (decimal parts.0) parts.1.now) }
+    ensures range { IfSome result (λ parts. (1 ≤ parts.0) × (parts.0 ≤ 4)) }
+    ensures only { (call : ℕ) (rest : List ℕ) → 1 ≤ call → call ≤ 4 → words.now ≡ spaced (decimal call) rest
+        → IsSomeAnd result (λ parts. (parts.0 ≡ call) × (parts.1.now ≡ rest)) }
+{
+    let (call, rest) = number_and(words)?;
+    if call < 1 || call > MAX_CALL {
+        return None;
+    }
+    Some((call as u8, rest))
+}
+
+/// Reads a pick, and gives what stands behind it.
+#[tactic(auto, using(crate::proofs::WordLemmas::pick_unspaced))]
+pub(crate) fn pick_and(words: &[u8]) -> Option<(Pick, &[u8])>
+    ensures found { IfSome result (λ parts. words.now ≡ spaced (pick_text parts.0) parts.1.now) }
+    ensures only { (pick : Pick) (rest : List ℕ) → words.now ≡ spaced (pick_text pick) rest
+        → IsSomeAnd result (λ parts. (parts.0 ≡ pick) × (parts.1.now ≡ rest)) }
+{
+    let (word, rest) = cut(b' ', words)?;
+    let pick = pick_of(word)?;
+    Some((pick, rest))
+}
+
 /// Reads the name of a mode, and gives what stands behind it.
 #[tactic(auto, using(crate::proofs::WordLemmas::name_unspaced))]
 pub(crate) fn name_and(words: &[u8]) -> Option<(&[u8], &[u8])>
@@ -147,4 +211,11 @@ pub(crate) fn name_and(words: &[u8]) -> Option<(&[u8], &[u8])>
         return None;
     }
     Some((word, rest))
+}
+
+/// A copy of these bytes.
+pub(crate) fn octets_of(alloc: Global, bytes: &[u8]) -> Result<Octets, NoMemory>
+    ensures { IfOk result (λ octets. octets ≡ bytes.now) }
+{
+    Ok(Octets::of(Vec::from_slice(alloc, bytes)?))
 }

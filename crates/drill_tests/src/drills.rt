@@ -7,7 +7,7 @@ use drill::{DrillEnd, drill, generate};
 use std::alloc::{AllocError, Global};
 
 /// Whether the script ends so, and writes this.
-fn plays(alloc: Global, script: &[u8], end: DrillEnd, wanted: &[u8]) -> bool {
+pub(crate) fn plays(alloc: Global, script: &[u8], end: DrillEnd, wanted: &[u8]) -> bool {
     match script.to_vec(alloc) {
         Ok(bytes) => {
             let mut source = MemorySource::of(bytes, Vec::new(alloc), Vec::new(alloc));
@@ -23,7 +23,7 @@ fn plays(alloc: Global, script: &[u8], end: DrillEnd, wanted: &[u8]) -> bool {
 }
 
 /// The same of a script and a text that are made for this.
-fn plays_made(
+pub(crate) fn plays_made(
     alloc: Global,
     script: Result<Vec<u8>, AllocError>,
     end: DrillEnd,

@@ -6,6 +6,8 @@ mod drills;
 #[cfg(test)]
 mod scripts;
 #[cfg(test)]
+mod stops;
+#[cfg(test)]
 mod streams;
 #[cfg(test)]
 mod words;

@@ -1,6 +1,9 @@
 //! What no clause says: that memory suffices. Each line of the grammar, lines that are none, and sources line by line.
+use as4_disk::Pick;
 use as4_flow::MemorySource;
-use drill_script::{EndName, LINE_LIMIT, Line, LineGot, LineReader, ScriptLoad, Way, line_of};
+use drill_script::{
+    EndName, LINE_LIMIT, Line, LineGot, LineReader, ScriptLoad, Stoppable, Way, line_of,
+};
 use std::alloc::{AllocError, Global};
 use std::test::Fail;
 
@@ -22,18 +25,42 @@ fn shape_of(line: &Line) -> Shape {
             period,
             ..
         } => told(b'm', *way == Way::Pull, name.bytes().len(), *period),
-        Line::Submit { end, mode, load } => {
-            told(b's', is_b(*end), mode.bytes().len(), weight_of(load))
-        }
-        Line::Tick { end, moment } => told(b't', is_b(*end), 0, *moment),
-        Line::Take { end } => told(b'k', is_b(*end), 0, 0),
+        Line::Run(line) => run_shape_of(line),
         Line::Ask { end, mode } => told(b'a', is_b(*end), mode.bytes().len(), 0),
         Line::Pair { end, mode, number } => told(b'p', is_b(*end), mode.bytes().len(), *number),
-        Line::Came { end, package } => told(b'c', is_b(*end), 0, *package),
         Line::Lost { end, package } => told(b'l', is_b(*end), 0, *package),
         Line::Read { end, number } => told(b'r', is_b(*end), 0, *number),
-        Line::Confirm { end, number } => told(b'f', is_b(*end), 0, *number),
         Line::Status { end, number } => told(b'u', is_b(*end), 0, *number),
+        Line::Crash { end } => told(b'x', is_b(*end), 0, 0),
+        Line::Stop { call, pick, line } => stopped_shape(*call, *pick, run_shape_of(line)),
+        Line::Fold { end } => told(b'z', is_b(*end), 0, 0),
+    }
+}
+
+fn run_shape_of(line: &Stoppable) -> Shape {
+    match line {
+        Stoppable::Submit { end, mode, load } => {
+            told(b's', is_b(*end), mode.bytes().len(), weight_of(load))
+        }
+        Stoppable::Tick { end, moment } => told(b't', is_b(*end), 0, *moment),
+        Stoppable::Take { end } => told(b'k', is_b(*end), 0, 0),
+        Stoppable::Came { end, package } => told(b'c', is_b(*end), 0, *package),
+        Stoppable::Confirm { end, number } => told(b'f', is_b(*end), 0, *number),
+    }
+}
+
+// The shape of the line with a kind of capital letters, and the call and a letter for the pick.
+fn stopped_shape(call: u8, pick: Pick, shape: Shape) -> Shape {
+    let letter = match pick {
+        Pick::Old => b'o',
+        Pick::New => b'n',
+        Pick::Other => b'x',
+    };
+    Shape {
+        kind: shape.kind.to_ascii_uppercase(),
+        named: usize::from(letter),
+        number: shape.number.wrapping_mul(10).wrapping_add(u64::from(call)),
+        ..shape
     }
 }
 
@@ -76,7 +103,7 @@ fn shape_in(alloc: Global, bytes: &[u8]) -> Result<Option<Shape>, Fail> {
 }
 
 /// Lines, and what each says: the fields of its shape.
-const LINES: [(&[u8], u8, bool, usize, u64); 16] = [
+const LINES: [(&[u8], u8, bool, usize, u64); 22] = [
     (b"mode m1 push 3 5000", b'm', false, 2, 5_000),
     (b"mode z pull 1000 1000000000", b'm', true, 1, 1_000_000_000),
     (b"submit a m1 none", b's', false, 2, 0),
@@ -99,6 +126,12 @@ const LINES: [(&[u8], u8, bool, usize, u64); 16] = [
     (b"read a 7", b'r', false, 0, 7),
     (b"confirm b 10", b'f', true, 0, 10),
     (b"status a 2", b'u', false, 0, 2),
+    (b"crash b", b'x', true, 0, 0),
+    (b"stop 1 old take b", b'K', true, 111, 1),
+    (b"stop 4 other came a 7", b'C', false, 120, 74),
+    (b"stop 2 new submit b m1 size=5", b'S', true, 110, 52),
+    (b"stop 3 new confirm a 0", b'F', false, 110, 3),
+    (b"fold a", b'z', false, 0, 0),
 ];
 
 /// The first row that doesn't say this.
@@ -118,7 +151,7 @@ fn each_line_of_the_grammar_is_read(rt: HostRuntime) -> Result<(), Fail> {
     Ok(())
 }
 
-const WRONG_LINES: [&[u8]; 29] = [
+const WRONG_LINES: [&[u8]; 40] = [
     b"",
     b"take",
     b"take  a",
@@ -148,6 +181,17 @@ const WRONG_LINES: [&[u8]; 29] = [
     b"pair b m1 00",
     b"pair b M1 0",
     b"pair b m1 18446744073709551616",
+    b"crash",
+    b"crash a 0",
+    b"fold c",
+    b"stop 0 old take a",
+    b"stop 5 old take a",
+    b"stop 01 old take a",
+    b"stop 1 next take a",
+    b"stop 1 old lost a 0",
+    b"stop 1 old tick a 253402300800000",
+    b"stop 1 old crash a",
+    b"stop 1 old stop 1 old take a",
 ];
 
 /// The first row that is a line.

@@ -9,7 +9,8 @@ mod made;
 use as4_values::{Load, Message, Mode, NoMemory, Octets, Route, Seq};
 use drill_script::{EndName, ScriptLoad, Way};
 use drill_texts::{
-    drill_mode, end_line, loads_of, modes_of, no_package_line, reply_line, unknown_line,
+    drill_mode, end_line, folded_line, loads_of, modes_of, no_package_line, reopened_line,
+    reply_line, unknown_line,
 };
 use end_tables::Totals;
 use exchange_model::Reply;
@@ -138,6 +139,13 @@ fn an_answer_is_sent_or_lost(rt: HostRuntime) {
         answers(alloc, false, made::error(alloc), error),
     ];
     assert_eq!(rt; told, [true; 3]);
+}
+
+#[test]
+fn what_became_of_a_disk_is_told(rt: HostRuntime) {
+    let alloc = rt.alloc();
+    assert!(rt; is_line(reopened_line(alloc, EndName::A), b"a reopened\n"));
+    assert!(rt; is_line(folded_line(alloc, EndName::B), b"b folded\n"));
 }
 
 #[test]

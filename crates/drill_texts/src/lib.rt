@@ -9,4 +9,6 @@ mod replies;
 
 pub use loads::loads_of;
 pub use modes::{drill_mode, modes_of};
-pub use replies::{end_line, no_package_line, reply_line, unknown_line};
+pub use replies::{
+    end_line, folded_line, no_package_line, reopened_line, reply_line, unknown_line,
+};

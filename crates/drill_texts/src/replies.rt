@@ -14,6 +14,8 @@
 //!     END status NUMBER STATUS             STATUS is pending TRIES, receipted, failed EBMS:0301,
 //!                                          refused CODE or unknown
 //!     END full or stopped
+//!     END reopened
+//!     END folded
 //!     END end SUBMITTED RECEIPTED FAILED REFUSED INBOX
 
 ghost use Rattle.std.specs.Prelude.{◌≡◌, ◌++◌, ℕ, IfOk, OnOk, codes};
@@ -50,8 +52,29 @@ pub fn reply_line(
 pub fn no_package_line(alloc: Global, end: EndName) -> Result<Octets, NoMemory>
     ensures { IfOk result (λ text. text ≡ said_line end (codes "no-package")) }
 {
+    word_line(alloc, end, b"no-package")
+}
+
+/// The disk of the end was opened again.
+pub fn reopened_line(alloc: Global, end: EndName) -> Result<Octets, NoMemory>
+    ensures { IfOk result (λ text. text ≡ said_line end (codes "reopened")) }
+{
+    word_line(alloc, end, b"reopened")
+}
+
+/// The journal of the end was folded, where that made it shorter.
+pub fn folded_line(alloc: Global, end: EndName) -> Result<Octets, NoMemory>
+    ensures { IfOk result (λ text. text ≡ said_line end (codes "folded")) }
+{
+    word_line(alloc, end, b"folded")
+}
+
+// A line of one word.
+fn word_line(alloc: Global, end: EndName, word: &[u8]) -> Result<Octets, NoMemory>
+    ensures { IfOk result (λ text. text ≡ said_line end word.now) }
+{
     let mut line = begun_line(alloc, end)?;
-    add(&mut line, b"no-package")?;
+    add(&mut line, word)?;
     ended_line(line)
 }
 

@@ -12,7 +12,7 @@ ghost use Rattle.as4_effects.specs.declared.effect.Effect.TheVariants.{Ticked, C
 use crate::spelled::Spelled;
 use crate::written::{Written, push_all, push_number};
 use as4_effects::{Carried, Effect, Mark, Measured};
-use as4_values::{NoMemory, Octets, Seq};
+use as4_values::{MAX_MOMENT, NoMemory, Octets, Seq};
 use std::alloc::Global;
 
 /// How many bytes an effect has.
@@ -73,7 +73,7 @@ pub fn body_len(effects: &Seq<Effect>) -> u64
 /// The body of one tick to this moment.
 #[tactic(auto, unfolding(as4_effects::specs::Effects::effect_body, as4_effects::specs::Effects::effects_body, as4_effects::specs::Bodies::number_body))]
 pub fn tick_body(moment: u64) -> [u8; 11]
-    requires { moment ≤ 253402300799999 }
+    requires { moment ≤ MAX_MOMENT }
     ensures { (tick : Tick) → tick.moment ≡ moment → result ≡ effects_body (Ticked tick ∷ []) }
 {
     body_of_number(2, moment)

@@ -454,7 +454,7 @@ accounted_all done (Does act ∷ later) end all may =
     let new : End = applied act.outcome.effects end in
     subst (λ (list : List Act). AreAccounted list (end_after later new)) (append_assoc done (act ∷ []) (acts_of later))
     (accounted_all (done ++ act ∷ []) later new (accounted_act done act end all may.0) may.1)
-accounted_all done (Folds side size ∷ later) end all may =
+accounted_all done (Folds site size ∷ later) end all may =
     accounted_all done later (resized size end) (accounted_fold done size end all) may.1
 
 -- the journal has what was written
@@ -462,7 +462,7 @@ pub sized : (all : List Happening) (end : End) → (end_after all end).size ≡ 
 sized [] end = refl
 sized (Does act ∷ later) end =
     sized later (applied act.outcome.effects end) ∙ ap (size_after later) (size_applied act.outcome.effects end)
-sized (Folds side size ∷ later) end = sized later (resized size end)
+sized (Folds site size ∷ later) end = sized later (resized size end)
 
 none_yet : AreAccounted [] empty_end
 none_yet = record {

@@ -18,7 +18,7 @@ stays_numbered [] end numbered may = numbered
 stays_numbered (Does act ∷ later) end numbered may =
     let goes = step_goes act.modes end act.event act.outcome numbered may.0 in
     stays_numbered later (applied act.outcome.effects end) goes.sent.numbered may.1
-stays_numbered (Folds side size ∷ later) end numbered may = stays_numbered later (resized size end) numbered may.1
+stays_numbered (Folds site size ∷ later) end numbered may = stays_numbered later (resized size end) numbered may.1
 
 -- and what is pending no more stays as it is
 pub stays_settled : (all : List Happening) (end : End) (s : Sent) → AreNumberedFrom 0 end.sent → MayHappenTo all end → Has end.sent s
@@ -27,7 +27,7 @@ stays_settled [] end s numbered may h settled = h
 stays_settled (Does act ∷ later) end s numbered may h settled =
     let goes = step_goes act.modes end act.event act.outcome numbered may.0 in
     stays_settled later (applied act.outcome.effects end) s goes.sent.numbered may.1 (goes.sent.settled s h settled) settled
-stays_settled (Folds side size ∷ later) end s numbered may h settled = stays_settled later (resized size end) s numbered may.1 h settled
+stays_settled (Folds site size ∷ later) end s numbered may h settled = stays_settled later (resized size end) s numbered may.1 h settled
 
 -- of what happens in two parts the first may happen, and the second where the first has led
 pub may_split : (all more : List Happening) (end : End) → MayHappenTo (all ++ more) end
@@ -35,10 +35,10 @@ pub may_split : (all more : List Happening) (end : End) → MayHappenTo (all ++ 
 may_split [] more end may = (tt, may)
 may_split (Does act ∷ later) more end may =
     let rest = may_split later more (applied act.outcome.effects end) may.1 in ((may.0, rest.0), rest.1)
-may_split (Folds side size ∷ later) more end may =
+may_split (Folds site size ∷ later) more end may =
     let rest = may_split later more (resized size end) may.1 in ((may.0, rest.0), rest.1)
 
 pub after_both : (all more : List Happening) (end : End) → end_after (all ++ more) end ≡ end_after more (end_after all end)
 after_both [] more end = refl
 after_both (Does act ∷ later) more end = after_both later more (applied act.outcome.effects end)
-after_both (Folds side size ∷ later) more end = after_both later more (resized size end)
+after_both (Folds site size ∷ later) more end = after_both later more (resized size end)

@@ -23,7 +23,7 @@ use Rattle.as4_codes.specs.ErrorCodes.{ErrorRow, error_row, error_item}
 use Rattle.exchange_model.specs.LosslessRound.{IsReceiptAt}
 use Rattle.exchange_model.specs.Numbered.{AreNumberedFrom}
 use Rattle.exchange_model.specs.Questions.{head_of, is_known, is_pending, sent_of}
-use Rattle.exchange_model.specs.Refusing.{Refusal, refusal_of, refusals_of, once}
+use Rattle.exchange_model.specs.Refusing.{Rejection, refusal_of, refusals_of, once}
 use Rattle.exchange_model.specs.Table.{Errs, Receipts as Answers, Delivers, UserComes, PullComes, Settles, IsOther, ReceiptComes, SignalComes, PairComes, Comes}
 use Rattle.exchange_model.specs.declared.event.Event.{Event}
 use Rattle.exchange_model.specs.declared.inbox_entry.InboxEntry.{InboxEntry}
@@ -150,11 +150,11 @@ receipt_comes signal copy end event outcome receipt numbered h =
         settles s there.0 brought own.1
 
 -- the effects of refusals
-abbrev refused : List Refusal → List Effect
-refused refusals = map (λ (refusal : Refusal). effect.Refused refusal.number refusal.code) refusals
+abbrev refused : List Rejection → List Effect
+refused refusals = map (λ (refusal : Rejection). effect.Refused refusal.number refusal.code) refusals
 
 -- refusals are no tries
-refused_stay : (refusals : List Refusal) (end : End) → TriesStay end.sent (after_all (refused refusals) end).sent
+refused_stay : (refusals : List Rejection) (end : End) → TriesStay end.sent (after_all (refused refusals) end).sent
 unfolding after
 refused_stay [] end = stay_same end.sent
 refused_stay (refusal ∷ refusals) end =
@@ -162,20 +162,20 @@ refused_stay (refusal ∷ refusals) end =
     (refused_stay refusals (after (effect.Refused refusal.number refusal.code) end))
 
 -- a failure is about each submission that is refused
-abbrev AreFailures : What → List Refusal → List Sent → Type 0
-AreFailures what refusals sent = (refusal : Refusal) → Has refusals refusal
+abbrev AreFailures : What → List Rejection → List Sent → Type 0
+AreFailures what refusals sent = (refusal : Rejection) → Has refusals refusal
     → (s : Sent) → Has sent s → s.submission.number ≡ refusal.number → Fails what s.submission refusal.code
 
 -- the same behind a refusal
-failures_behind : (what : What) (refusal : Refusal) (refusals : List Refusal) (sent : List Sent) → AreFailures what refusals sent
+failures_behind : (what : What) (refusal : Rejection) (refusals : List Rejection) (sent : List Sent) → AreFailures what refusals sent
     → AreFailures what refusals (changed refusal.number (marked (mark.Refused refusal.code)) sent)
 failures_behind what refusal refusals sent fail later h t there number =
     let s = stay_marked sent refusal.number (mark.Refused refusal.code) t there in
     subst (λ (u : Submission). Fails what u later.code) s.2 (fail later h s.0 s.1 (ap (λ (u : Submission). u.number) s.2 ∙ number))
 
 -- the refusals, one after another, where each is of a pending submission
-refuses : (what : What) (refusals : List Refusal) (end : End) → AreNumberedFrom 0 end.sent → AreApart refusals
-    → ((refusal : Refusal) → Has refusals refusal → IsPendingNumber refusal.number end.sent) → AreFailures what refusals end.sent
+refuses : (what : What) (refusals : List Rejection) (end : End) → AreNumberedFrom 0 end.sent → AreApart refusals
+    → ((refusal : Rejection) → Has refusals refusal → IsPendingNumber refusal.number end.sent) → AreFailures what refusals end.sent
     → EndGoes what reply.Quiet end (after_all (refused refusals) end)
 unfolding after
 refuses what [] end numbered apart pend fail =

@@ -19,7 +19,7 @@ pub mod SentChanges
 pub mod SentLemmas
 pub mod SentSteps
 pub mod SettleLemmas
-pub mod SideLemmas
+pub mod SiteLemmas
 pub mod StayLemmas
 pub mod StepLemmas
 pub mod TimesLemmas

@@ -24,7 +24,7 @@ use Rattle.as4_values.specs.declared.signal_body.SignalBody.{SignalBody}
 use Rattle.as4_values.specs.declared.signal_body.SignalBody.TheVariants as body
 use Rattle.exchange_model.specs.End.{End}
 use Rattle.exchange_model.specs.Questions.{head_of, is_known, is_pending, sent_of}
-use Rattle.exchange_model.specs.Refusing.{Refusal, refusal_of, refusals_of, once}
+use Rattle.exchange_model.specs.Refusing.{Rejection, refusal_of, refusals_of, once}
 use Rattle.exchange_model.specs.Submitting.{IsHeaderOf, are_too_large}
 use Rattle.exchange_model.specs.Table.{Rests, Gives, Errs, Receipts, Submits, TakesIn, Ticks, Takes, Asks, AsksBy, AsksWith, AsksWithBy, AsksWithEntry, UserComes, PullComes, Settles, IsOther, ReceiptComes, SignalComes, PairComes, Comes, Confirms, RowOf, IsLimited, Step, has_room, read_reply, entry_reply, standing_reply, mark_reply}
 use Rattle.exchange_model.specs.declared.event.Event.{Event}
@@ -253,7 +253,7 @@ receipt_comes end event id ref_to copy outcome h =
     settles : (s : Sent) → Settles s outcome → IsPlain outcome
     settles s k = by_bool _ _ _ (is_pending s) k (λ _ g. plain_of _ _ outcome (tt, tt) tt g) (λ _. plain_rest reply.Quiet outcome tt)
 
-refusals_plain : (refusals : List Refusal) → ArePlain (map (λ (refusal : Refusal). effect.Refused refusal.number refusal.code) refusals)
+refusals_plain : (refusals : List Rejection) → ArePlain (map (λ (refusal : Rejection). effect.Refused refusal.number refusal.code) refusals)
 refusals_plain [] = tt
 refusals_plain (refusal ∷ refusals) = (tt, refusals_plain refusals)
 

@@ -14,7 +14,7 @@ use Rattle.as4_values.specs.declared.signal_body.SignalBody.TheVariants as body
 use Rattle.exchange_model.specs.Apply.{is_one}
 use Rattle.exchange_model.specs.Numbered.{AreNumberedFrom}
 use Rattle.exchange_model.specs.Questions.{is_pending, sent_at, sent_of}
-use Rattle.exchange_model.specs.Refusing.{Refusal, refusal_by, refusal_of, refusal_with, once}
+use Rattle.exchange_model.specs.Refusing.{Rejection, refusal_by, refusal_of, refusal_with, once}
 use Rattle.exchange_model.specs.declared.sent.Sent.{Sent}
 use Rattle.exchange_model.specs.declared.what.What.TheVariants.{Came}
 use Rattle.exchange_model.proofs.FoundLemmas.{sent_at_has, sent_of_has}
@@ -25,20 +25,20 @@ use Rattle.exchange_laws.proofs.SentSteps.{Fails}
 use Rattle.exchange_laws.proofs.SentChanges.{IsPendingNumber, pending_number}
 
 -- no two refuse one submission
-abbrev pub AreApart : List Refusal → Type 0
+abbrev pub AreApart : List Rejection → Type 0
 AreApart [] = Unit {0}
-AreApart (refusal ∷ refusals) = ((later : Refusal) → Has refusals later → later.number ≡ refusal.number → ⊥) × AreApart refusals
+AreApart (refusal ∷ refusals) = ((later : Rejection) → Has refusals later → later.number ≡ refusal.number → ⊥) × AreApart refusals
 
 -- what stands once stands there
-once_has : (refusals : List Refusal) (refusal : Refusal) → Has (once refusals) refusal → Has refusals refusal
+once_has : (refusals : List Rejection) (refusal : Rejection) → Has (once refusals) refusal → Has refusals refusal
 unfolding once
 once_has [] refusal h = absurd h
 once_has (first ∷ refusals) refusal (inl e) = inl e
 once_has (first ∷ refusals) refusal (inr h) =
-    inr (once_has refusals refusal (has_filtered (λ (later : Refusal). not (later.number == first.number)) (once refusals) refusal h).0)
+    inr (once_has refusals refusal (has_filtered (λ (later : Rejection). not (later.number == first.number)) (once refusals) refusal h).0)
 
 -- by the first test's answer
-filtered_apart : (p : Refusal → Bool) (refusals : List Refusal) → AreApart refusals → AreApart (filter p refusals)
+filtered_apart : (p : Rejection → Bool) (refusals : List Rejection) → AreApart refusals → AreApart (filter p refusals)
 filtered_apart p [] apart = tt
 filtered_apart p (refusal ∷ refusals) apart = by_test (p refusal) (filtered_apart p refusals apart.1)
   where
@@ -46,15 +46,15 @@ filtered_apart p (refusal ∷ refusals) apart = by_test (p refusal) (filtered_ap
     by_test true rest = (λ later h. apart.0 later (has_filtered p refusals later h).0, rest)
     by_test false rest = rest
 
-pub once_apart : (refusals : List Refusal) → AreApart (once refusals)
+pub once_apart : (refusals : List Rejection) → AreApart (once refusals)
 unfolding once
 once_apart [] = tt
 once_apart (first ∷ refusals) = (
-  λ later h e. differs later (has_filtered (λ (r : Refusal). not (r.number == first.number)) (once refusals) later h).1 e,
-  filtered_apart (λ (r : Refusal). not (r.number == first.number)) (once refusals) (once_apart refusals),
+  λ later h e. differs later (has_filtered (λ (r : Rejection). not (r.number == first.number)) (once refusals) later h).1 e,
+  filtered_apart (λ (r : Rejection). not (r.number == first.number)) (once refusals) (once_apart refusals),
 )
   where
-    differs : (later : Refusal) → not (later.number == first.number) ≡ true → later.number ≡ first.number → ⊥
+    differs : (later : Rejection) → not (later.number == first.number) ≡ true → later.number ≡ first.number → ⊥
     differs later test e = grind (arith, nat_tests)
 
 -- what some items give is given by one of them
@@ -79,7 +79,7 @@ found_pending number sent (Some s) numbered e pending =
 
 -- each submission that is refused is pending
 pub refusals_pend : (sent : List Sent) (ref_to : Option (List ℕ)) (items : List ErrorItem) → AreNumberedFrom 0 sent
-    → (refusal : Refusal) → Has (once (filter_map (refusal_of ref_to sent) items)) refusal → IsPendingNumber refusal.number sent
+    → (refusal : Rejection) → Has (once (filter_map (refusal_of ref_to sent) items)) refusal → IsPendingNumber refusal.number sent
 refusals_pend sent ref_to items numbered refusal h =
     let by = given (refusal_of ref_to sent) items refusal (once_has (filter_map (refusal_of ref_to sent) items) refusal h) in
     let item : ErrorItem = by.0 in
@@ -89,7 +89,7 @@ refusals_pend sent ref_to items numbered refusal h =
     found_pending refusal.number sent (sent_at refusal.number sent) numbered refl pending
 
 -- a refusal by an error is one by a failure, about a submission of its number, with its code
-record IsAbout (severity : Severity) (code : List ℕ) (about : Option (List ℕ)) (sent : List Sent) (refusal : Refusal) : Type 0 where
+record IsAbout (severity : Severity) (code : List ℕ) (about : Option (List ℕ)) (sent : List Sent) (refusal : Rejection) : Type 0 where
   failure : severity ≡ Failure
   one : Sent
   there : Has sent one
@@ -97,7 +97,7 @@ record IsAbout (severity : Severity) (code : List ℕ) (about : Option (List ℕ
   number : one.submission.number ≡ refusal.number
   told : code ≡ refusal.code
 
-about_by : (severity : Severity) (code : List ℕ) (about : Option (List ℕ)) (sent : List Sent) (refusal : Refusal)
+about_by : (severity : Severity) (code : List ℕ) (about : Option (List ℕ)) (sent : List Sent) (refusal : Rejection)
     → refusal_by severity code about sent ≡ Some refusal → IsAbout severity code about sent refusal
 about_by Warning code about sent refusal e = absurd cc
 about_by Failure code None sent refusal e = absurd cc
@@ -113,8 +113,8 @@ about_by Failure code (Some id) sent refusal e = by_found (sent_of id sent) refl
           one = s;
           there = has.0;
           named = ap Some (sym has.1);
-          number = ap (λ (r : Refusal). r.number) same;
-          told = ap (λ (r : Refusal). r.code) same;
+          number = ap (λ (r : Rejection). r.number) same;
+          told = ap (λ (r : Rejection). r.code) same;
         }
     by_pending s found false f = absurd cc
 
@@ -125,7 +125,7 @@ about_by Failure code (Some id) sent refusal e = by_found (sent_of id sent) refl
 
 -- so each submission that is refused is so by a failure about it
 pub refusals_fail : (sent : List Sent) (signal : Signal) (items : List ErrorItem) → AreNumberedFrom 0 sent → signal.body ≡ body.Errors items
-    → (refusal : Refusal) → Has (once (filter_map (refusal_of signal.ref_to sent) items)) refusal
+    → (refusal : Rejection) → Has (once (filter_map (refusal_of signal.ref_to sent) items)) refusal
     → (s : Sent) → Has sent s → s.submission.number ≡ refusal.number → Fails (Came (message.Signal signal)) s.submission refusal.code
 refusals_fail sent signal items numbered errors refusal h s there number =
     let by = given (refusal_of signal.ref_to sent) items refusal (once_has (filter_map (refusal_of signal.ref_to sent) items) refusal h) in

@@ -1,4 +1,4 @@
--- A round of three acts, between the parties at either side.
+-- A round of three acts, between the speakers at either site.
 use Rattle.std.proofs.Common.{◌≡◌, ℕ, suc, inl, inr, List, [], ◌∷◌, ◌++◌, Bool, true, false, Some, refl, sym, ap, ◌∙◌, subst}
 use Rattle.std.specs.Prelude.{if◌then◌else◌, slice_get}
 use Rattle.std.specs.List.{Contains}
@@ -14,7 +14,7 @@ use Rattle.exchange_model.specs.LosslessRound.{IsNext, IsAskedFor, IsBroughtOver
 use Rattle.exchange_model.specs.Numbered.{AreNumberedFrom}
 use Rattle.exchange_model.specs.Questions.{is_known, sent_of}
 use Rattle.exchange_model.specs.Table.{IsOther, message_of}
-use Rattle.exchange_model.specs.World.{Act, Party, World, Side, Left, Right, sends, MayAct, MayHappenAt, acted, across, party_at, world_at}
+use Rattle.exchange_model.specs.World.{Act, Speaker, World, Site, Left, Right, sends, MayAct, MayHappenAt, acted, across, speaker_at, world_at}
 use Rattle.exchange_model.specs.declared.inbox_entry.InboxEntry.{InboxEntry}
 use Rattle.as4_effects.specs.declared.mark.Mark.TheVariants as mark
 use Rattle.exchange_model.specs.declared.sent.Sent.{Sent}
@@ -25,63 +25,63 @@ use Rattle.exchange_laws.proofs.ListLemmas.{contains_had, had_right}
 use Rattle.exchange_laws.proofs.SentLemmas.{one_of_number, sent_of_own}
 use Rattle.exchange_laws.proofs.InboxLemmas.{ids, known_has}
 use Rattle.exchange_laws.proofs.RoundLemmas.{IsPendingAt, IsOut, out_sends, IsDelivered, over_delivers, back_settles}
-use Rattle.exchange_laws.proofs.WorldLemmas.{PartyHolds, Holds, WorldHolds, party_acts, world_acts}
+use Rattle.exchange_laws.proofs.WorldLemmas.{SpeakerHolds, Holds, WorldHolds, speaker_acts, world_acts}
 
--- the parties at the two sides, before and after an act at one of them
-may_act : (side : Side) (act : Act) (world : World) → MayHappenAt side act world
-    → MayAct act (party_at side world) (party_at (across side) world)
+-- the speakers at the two sites, before and after an act at one of them
+may_act : (site : Site) (act : Act) (world : World) → MayHappenAt site act world
+    → MayAct act (speaker_at site world) (speaker_at (across site) world)
 may_act Left act world may = may
 may_act Right act world may = may
 
-party_acted : (side : Side) (act : Act) (world : World) → party_at side (world_at side act world) ≡ acted act (party_at side world)
-party_acted Left act world = refl
-party_acted Right act world = refl
+speaker_acted : (site : Site) (act : Act) (world : World) → speaker_at site (world_at site act world) ≡ acted act (speaker_at site world)
+speaker_acted Left act world = refl
+speaker_acted Right act world = refl
 
-other_rests : (side : Side) (act : Act) (world : World) → party_at (across side) (world_at side act world) ≡ party_at (across side) world
+other_rests : (site : Site) (act : Act) (world : World) → speaker_at (across site) (world_at site act world) ≡ speaker_at (across site) world
 other_rests Left act world = refl
 other_rests Right act world = refl
 
-party_rests : (side : Side) (act : Act) (world : World) → party_at side (world_at (across side) act world) ≡ party_at side world
-party_rests Left act world = refl
-party_rests Right act world = refl
+speaker_rests : (site : Site) (act : Act) (world : World) → speaker_at site (world_at (across site) act world) ≡ speaker_at site world
+speaker_rests Left act world = refl
+speaker_rests Right act world = refl
 
-party_holds : (side : Side) (world : World) → WorldHolds world → PartyHolds (party_at side world)
-party_holds Left world holds = holds.left
-party_holds Right world holds = holds.right
+speaker_holds : (site : Site) (world : World) → WorldHolds world → SpeakerHolds (speaker_at site world)
+speaker_holds Left world holds = holds.left
+speaker_holds Right world holds = holds.right
 
-holds_across : (side : Side) (world : World) → WorldHolds world → Holds (party_at side world).end (party_at (across side) world).end
+holds_across : (site : Site) (world : World) → WorldHolds world → Holds (speaker_at site world).end (speaker_at (across site) world).end
 holds_across Left world holds = holds.to_right
 holds_across Right world holds = holds.to_left
 
 -- an act that is next
-next_may : (side : Side) (act : Act) (world : World) → IsNext side world act → MayHappenAt side act world
-next_may side act world next = subst (λ (a : Side). MayHappenAt a act world) next.here next.may.0
+next_may : (site : Site) (act : Act) (world : World) → IsNext site world act → MayHappenAt site act world
+next_may site act world next = subst (λ (a : Site). MayHappenAt a act world) next.here next.may.0
 
-behind_at : (side : Side) (act : Act) (world : World) → act.side ≡ side → behind_act act world ≡ world_at side act world
-behind_at side act world here = ap (λ (a : Side). world_at a act world) here
+behind_at : (site : Site) (act : Act) (world : World) → act.site ≡ site → behind_act act world ≡ world_at site act world
+behind_at site act world here = ap (λ (a : Site). world_at a act world) here
 
 -- the message that it sends may come, where the reply isn't lost
-said_then : (act : Act) (party : Party) (m : Message) → sends act.outcome.reply ≡ m ∷ [] → act.lost ≡ false
-    → Contains (acted act party).said m
-said_then act party m one kept = contains_had (acted act party).said m
-    (subst (λ (said : List Message). Has said m) (sym said) (had_right party.said (m ∷ []) m (inl refl)))
+said_then : (act : Act) (speaker : Speaker) (m : Message) → sends act.outcome.reply ≡ m ∷ [] → act.lost ≡ false
+    → Contains (acted act speaker).said m
+said_then act speaker m one kept = contains_had (acted act speaker).said m
+    (subst (λ (said : List Message). Has said m) (sym said) (had_right speaker.said (m ∷ []) m (inl refl)))
   where
-    said : (acted act party).said ≡ party.said ++ m ∷ []
+    said : (acted act speaker).said ≡ speaker.said ++ m ∷ []
     said =
-        ap (λ (b : Bool). if b then party.said else party.said ++ sends act.outcome.reply) kept
-        ∙ ap (λ (ms : List Message). party.said ++ ms) one
+        ap (λ (b : Bool). if b then speaker.said else speaker.said ++ sends act.outcome.reply) kept
+        ∙ ap (λ (ms : List Message). speaker.said ++ ms) one
 
-sends_one : (side : Side) (world : World) (act : Act) (m : Message) → act.side ≡ side → sends act.outcome.reply ≡ m ∷ []
-    → SendsOne side world act m
-sends_one side world act m here one = record {
+sends_one : (site : Site) (world : World) (act : Act) (m : Message) → act.site ≡ site → sends act.outcome.reply ≡ m ∷ []
+    → SendsOne site world act m
+sends_one site world act m here one = record {
   one = one;
-  heard = λ kept. subst (λ (w : World). Contains (party_at side w).said m) (sym (behind_at side act world here))
-      (subst (λ (p : Party). Contains p.said m) (sym (party_acted side act world)) (said_then act (party_at side world) m one kept));
+  heard = λ kept. subst (λ (w : World). Contains (speaker_at site w).said m) (sym (behind_at site act world here))
+      (subst (λ (p : Speaker). Contains p.said m) (sym (speaker_acted site act world)) (said_then act (speaker_at site world) m one kept));
 }
 
 -- the submission is receipted
-abbrev IsReceiptedAt : Submission → Party → Type 0
-IsReceiptedAt u party = (t : Sent) × (sent_of u.header.id party.end.sent ≡ Some t) × (t.mark ≡ mark.Receipted)
+abbrev IsReceiptedAt : Submission → Speaker → Type 0
+IsReceiptedAt u speaker = (t : Sent) × (sent_of u.header.id speaker.end.sent ≡ Some t) × (t.mark ≡ mark.Receipted)
 
 -- what the inbox knows by this identifier is the message of the submission
 entry_of : (id : List ℕ) (inbox : List InboxEntry) → Has (ids inbox) id
@@ -110,28 +110,28 @@ known_stands s sender receiver numbered holds pending known =
     )
 
 -- the third act
-third : (side : Side) (s : Sent) (world : World) (signal : Signal) → WorldHolds world
-    → IsPendingAt s.submission (party_at side world).end
-    → StandsIn s (party_at (across side) world).end
+third : (site : Site) (s : Sent) (world : World) (signal : Signal) → WorldHolds world
+    → IsPendingAt s.submission (speaker_at site world).end
+    → StandsIn s (speaker_at (across site) world).end
     → signal.ref_to ≡ Some s.submission.header.id → signal.body ≡ body.Receipt (Some s.submission.header)
-    → ThirdSettles side s (message.Signal signal) world
-third side s world signal holds pending stands refers copies back next came =
-    subst (IsSettled side s) (sym (behind_at side back world next.here)) (record {
-      receipted = subst (IsReceiptedAt s.submission) (sym (party_acted side back world)) receipted;
-      delivered = subst (λ (p : Party). StandsIn s p.end) (sym (other_rests side back world)) stands;
+    → ThirdSettles site s (message.Signal signal) world
+third site s world signal holds pending stands refers copies back next came =
+    subst (IsSettled site s) (sym (behind_at site back world next.here)) (record {
+      receipted = subst (IsReceiptedAt s.submission) (sym (speaker_acted site back world)) receipted;
+      delivered = subst (λ (p : Speaker). StandsIn s p.end) (sym (other_rests site back world)) stands;
     })
   where
-    party : Party
-    party = party_at side world
+    speaker : Speaker
+    speaker = speaker_at site world
 
-    may : MayAct back party (party_at (across side) world)
-    may = may_act side back world (next_may side back world next)
+    may : MayAct back speaker (speaker_at (across site) world)
+    may = may_act site back world (next_may site back world next)
 
-    last : Party
-    last = acted back party
+    last : Speaker
+    last = acted back speaker
 
-    last_holds : PartyHolds last
-    last_holds = party_acts back party (party_at (across side) world) (party_holds side world holds) may
+    last_holds : SpeakerHolds last
+    last_holds = speaker_acts back speaker (speaker_at (across site) world) (speaker_holds site world holds) may
 
     settled : Sent
     settled = record pending.0 { mark = mark.Receipted }
@@ -141,10 +141,10 @@ third side s world signal holds pending stands refers copies back next came =
 
     there : Has last.end.sent settled
     there =
-        back_settles back party.end pending.0 signal (Some s.submission.header) may.step next.roomy
+        back_settles back speaker.end pending.0 signal (Some s.submission.header) may.step next.roomy
         (subst (λ (w : What). BringsSignal back.modes w signal) (sym came) refl)
         (refers ∙ ap (λ (u : Submission). Some u.header.id) (sym pending.2)) copies own_copy
-        (party_holds side world holds).numbered pending.1 pending.3
+        (speaker_holds site world holds).numbered pending.1 pending.3
 
     receipted : IsReceiptedAt s.submission last
     receipted = (
@@ -154,39 +154,39 @@ third side s world signal holds pending stands refers copies back next came =
     )
 
 -- the second act
-second : (side : Side) (s : Sent) (world : World) → WorldHolds world → IsPendingAt s.submission (party_at side world).end
-    → SecondSettles side s world
-second side s world holds pending over next brought = (
+second : (site : Site) (s : Sent) (world : World) → WorldHolds world → IsPendingAt s.submission (speaker_at site world).end
+    → SecondSettles site s world
+second site s world holds pending over next brought = (
   message.Signal delivered.signal,
-  sends_one (across side) world over (message.Signal delivered.signal) next.here (ap sends delivered.answers),
-  subst (ThirdSettles side s (message.Signal delivered.signal)) (sym (behind_at (across side) over world next.here))
-      (third side s (world_at (across side) over world) delivered.signal
-      (world_acts (across side) over world holds (next_may (across side) over world next))
-      (subst (λ (p : Party). IsPendingAt s.submission p.end) (sym (party_rests side over world)) pending)
-      (subst (λ (p : Party). StandsIn s p.end) (sym (party_acted (across side) over world)) delivered.stands)
+  sends_one (across site) world over (message.Signal delivered.signal) next.here (ap sends delivered.answers),
+  subst (ThirdSettles site s (message.Signal delivered.signal)) (sym (behind_at (across site) over world next.here))
+      (third site s (world_at (across site) over world) delivered.signal
+      (world_acts (across site) over world holds (next_may (across site) over world next))
+      (subst (λ (p : Speaker). IsPendingAt s.submission p.end) (sym (speaker_rests site over world)) pending)
+      (subst (λ (p : Speaker). StandsIn s p.end) (sym (speaker_acted (across site) over world)) delivered.stands)
       delivered.refers delivered.copies),
 )
   where
-    other : Party
-    other = party_at (across side) world
+    other : Speaker
+    other = speaker_at (across site) world
 
     delivered : IsDelivered s over.outcome.reply (acted over other).end
     delivered =
-        over_delivers over other.end s (may_act (across side) over world (next_may (across side) over world next)).step
+        over_delivers over other.end s (may_act (across site) over world (next_may (across site) over world next)).step
         next.roomy brought.message brought.mode
-        (known_stands s (party_at side world).end other.end (party_holds side world holds).numbered (holds_across side world holds) pending)
+        (known_stands s (speaker_at site world).end other.end (speaker_holds site world holds).numbered (holds_across site world holds) pending)
 
 -- the first act
-pub settles : (side : Side) (s : Sent) (world : World) → WorldHolds world → ARoundSettles side s world
-settles side s world holds out next asked = (
-  sends_one side world out (message_of s.submission) next.here handed.sent,
-  subst (SecondSettles side s) (sym (behind_at side out world next.here))
-      (second side s (world_at side out world) (world_acts side out world holds (next_may side out world next))
-      (subst (λ (p : Party). IsPendingAt s.submission p.end) (sym (party_acted side out world)) handed.pends)),
+pub settles : (site : Site) (s : Sent) (world : World) → WorldHolds world → ARoundSettles site s world
+settles site s world holds out next asked = (
+  sends_one site world out (message_of s.submission) next.here handed.sent,
+  subst (SecondSettles site s) (sym (behind_at site out world next.here))
+      (second site s (world_at site out world) (world_acts site out world holds (next_may site out world next))
+      (subst (λ (p : Speaker). IsPendingAt s.submission p.end) (sym (speaker_acted site out world)) handed.pends)),
 )
   where
-    party : Party
-    party = party_at side world
+    speaker : Speaker
+    speaker = speaker_at site world
 
-    handed : IsOut s out.outcome (acted out party).end
-    handed = out_sends out party.end s (may_act side out world (next_may side out world next)).step next.roomy asked
+    handed : IsOut s out.outcome (acted out speaker).end
+    handed = out_sends out speaker.end s (may_act site out world (next_may site out world next)).step next.roomy asked

@@ -40,6 +40,6 @@ keeps_all (Does act ∷ later) end numbered may =
     let new : End = applied act.outcome.effects end in
     let goes = step_goes act.modes end act.event act.outcome numbered may.0 in
     keeps_then end new (end_after later new) (keeps_step act end new goes) (keeps_all later new goes.sent.numbered may.1)
-keeps_all (Folds side size ∷ later) end numbered may =
+keeps_all (Folds site size ∷ later) end numbered may =
     let rest = keeps_all later (resized size end) numbered may.1 in
     record { entries = rest.entries; confirmed = rest.confirmed; submissions = rest.submissions }

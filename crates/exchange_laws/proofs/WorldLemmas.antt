@@ -9,7 +9,7 @@ use Rattle.as4_values.specs.declared.signal_body.SignalBody.TheVariants as body
 use Rattle.exchange_model.specs.DeliveredOnce.{CameFrom}
 use Rattle.exchange_model.specs.End.{End}
 use Rattle.exchange_model.specs.Numbered.{AreNumberedFrom}
-use Rattle.exchange_model.specs.World.{Act, Happening, Does, Folds, Party, World, Side, Left, Right, new_world, sends, IsHeard, MayAct, acted, folded, folded_at, MayHappenAt, world_at, MayHappen, world_after}
+use Rattle.exchange_model.specs.World.{Act, Happening, Does, Folds, Speaker, World, Site, Left, Right, new_world, sends, IsHeard, MayAct, acted, folded, folded_at, MayHappenAt, world_at, MayHappen, world_after}
 use Rattle.exchange_model.specs.declared.inbox_entry.InboxEntry.{InboxEntry}
 use Rattle.exchange_model.specs.declared.reply.Reply.{Reply}
 use Rattle.as4_effects.specs.declared.mark.Mark.TheVariants as mark
@@ -25,11 +25,11 @@ use Rattle.exchange_laws.proofs.InboxSteps.{Stood}
 use Rattle.exchange_laws.proofs.EndSteps.{Backs, BacksSignal, EndGoes}
 use Rattle.exchange_laws.proofs.StepLemmas.{step_goes}
 
--- of a party: its submissions are numbered, its inbox has no identifier twice, and it stands by what it said
-pub record PartyHolds (party : Party) : Type 0 where
-  pub numbered : AreNumberedFrom 0 party.end.sent
-  pub apart : Apart (ids party.end.inbox)
-  pub said : (m : Message) → Has party.said m → Backs party.end.sent party.end.inbox m
+-- of a speaker: its submissions are numbered, its inbox has no identifier twice, and it stands by what it said
+pub record SpeakerHolds (speaker : Speaker) : Type 0 where
+  pub numbered : AreNumberedFrom 0 speaker.end.sent
+  pub apart : Apart (ids speaker.end.inbox)
+  pub said : (m : Message) → Has speaker.said m → Backs speaker.end.sent speaker.end.inbox m
 
 -- from one end to the other: each entry was submitted, and what is receipted came
 pub record Holds (sender receiver : End) : Type 0 where
@@ -37,10 +37,10 @@ pub record Holds (sender receiver : End) : Type 0 where
       → (s : Sent) × Has sender.sent s × CameFrom s entry (receiver.confirmed ≤ n)
   pub receipted : (s : Sent) → Has sender.sent s → s.mark ≡ mark.Receipted → Has (ids receiver.inbox) s.submission.header.id
 
--- of both parties, and both ways
+-- of both speakers, and both ways
 pub record WorldHolds (world : World) : Type 0 where
-  pub left : PartyHolds world.left
-  pub right : PartyHolds world.right
+  pub left : SpeakerHolds world.left
+  pub right : SpeakerHolds world.right
   pub to_right : Holds world.left.end world.right.end
   pub to_left : Holds world.right.end world.left.end
 
@@ -69,31 +69,31 @@ said_either true said new m h = inl h
 said_either false said new m h = has_either said new m h
 
 -- what an act leaves
-act_goes : (act : Act) (party other : Party) → PartyHolds party → MayAct act party other
-    → EndGoes act.event.what act.outcome.reply party.end (acted act party).end
-act_goes act party other holds may = step_goes act.modes party.end act.event act.outcome holds.numbered may.step
+act_goes : (act : Act) (speaker other : Speaker) → SpeakerHolds speaker → MayAct act speaker other
+    → EndGoes act.event.what act.outcome.reply speaker.end (acted act speaker).end
+act_goes act speaker other holds may = step_goes act.modes speaker.end act.event act.outcome holds.numbered may.step
 
--- after an act at the party
-pub party_acts : (act : Act) (party other : Party) → PartyHolds party → MayAct act party other → PartyHolds (acted act party)
-party_acts act party other holds may = record {
+-- after an act at the speaker
+pub speaker_acts : (act : Act) (speaker other : Speaker) → SpeakerHolds speaker → MayAct act speaker other → SpeakerHolds (acted act speaker)
+speaker_acts act speaker other holds may = record {
   numbered = goes.sent.numbered;
   apart = goes.inbox.apart holds.apart;
-  said = λ m h. elim (said_either act.lost party.said (sends act.outcome.reply) m h) [
-    | inl old ↦ backs_later act.event.what act.outcome.reply party.end (acted act party).end m goes (holds.said m old)
+  said = λ m h. elim (said_either act.lost speaker.said (sends act.outcome.reply) m h) [
+    | inl old ↦ backs_later act.event.what act.outcome.reply speaker.end (acted act speaker).end m goes (holds.said m old)
     | inr new ↦ goes.says m new
   ];
 }
   where
-    goes : EndGoes act.event.what act.outcome.reply party.end (acted act party).end
-    goes = act_goes act party other holds may
+    goes : EndGoes act.event.what act.outcome.reply speaker.end (acted act speaker).end
+    goes = act_goes act speaker other holds may
 
 -- the other end stands by what comes
-heard : (w : What) (m : Message) (other : Party) → PartyHolds other → IsHeard other.said w → w ≡ what.Came m
+heard : (w : What) (m : Message) (other : Speaker) → SpeakerHolds other → IsHeard other.said w → w ≡ what.Came m
     → Backs other.end.sent other.end.inbox m
 heard w m other holds h e = holds.said m (has_contained other.said m (subst (IsHeard other.said) e h))
 
 -- a receipt that comes is of a message that the other end knows
-receipt_heard : (w : What) (s : Sent) (other : Party) → PartyHolds other → IsHeard other.said w → Receipts w s.submission
+receipt_heard : (w : What) (s : Sent) (other : Speaker) → SpeakerHolds other → IsHeard other.said w → Receipts w s.submission
     → Has (ids other.end.inbox) s.submission.header.id
 receipt_heard w s other holds h r =
     let backs : BacksSignal other.end.inbox r.signal.ref_to r.signal.body = elim (brings_either w r.signal r.came) [
@@ -106,45 +106,45 @@ receipt_heard w s other holds h r =
     of_receipt s.submission.header.id r.names
 
 -- the sender acts
-sender_acts : (act : Act) (party other : Party) → PartyHolds party → PartyHolds other → MayAct act party other
-    → Holds party.end other.end
-    → Holds (acted act party).end other.end
-sender_acts act party other holds other_holds may h = record {
+sender_acts : (act : Act) (speaker other : Speaker) → SpeakerHolds speaker → SpeakerHolds other → MayAct act speaker other
+    → Holds speaker.end other.end
+    → Holds (acted act speaker).end other.end
+sender_acts act speaker other holds other_holds may h = record {
   submitted = λ n entry at. later entry (other.end.confirmed ≤ n) (h.submitted n entry at);
-  receipted = λ t there m. of_receipted t (receipted_by act.event.what party.end.sent (acted act party).end.sent t goes.sent there m);
+  receipted = λ t there m. of_receipted t (receipted_by act.event.what speaker.end.sent (acted act speaker).end.sent t goes.sent there m);
 }
   where
-    goes : EndGoes act.event.what act.outcome.reply party.end (acted act party).end
-    goes = act_goes act party other holds may
+    goes : EndGoes act.event.what act.outcome.reply speaker.end (acted act speaker).end
+    goes = act_goes act speaker other holds may
 
-    later : (entry : InboxEntry) (kept : Type 0) → (s : Sent) × Has party.end.sent s × CameFrom s entry kept
-        → (s : Sent) × Has (acted act party).end.sent s × CameFrom s entry kept
+    later : (entry : InboxEntry) (kept : Type 0) → (s : Sent) × Has speaker.end.sent s × CameFrom s entry kept
+        → (s : Sent) × Has (acted act speaker).end.sent s × CameFrom s entry kept
     later entry kept s =
         let t = goes.sent.kept s.0 s.1 in
         (t.0, t.1, record { header = s.2.header ∙ ap (λ u. u.header) (sym t.2); payloads = λ k. s.2.payloads k ∙ ap (λ u. u.payloads) (sym t.2) })
 
     of_receipted : (t : Sent)
-        → ((s : Sent) × Has party.end.sent s × (s.mark ≡ mark.Receipted) × (s.submission ≡ t.submission)) ⊎ Receipts act.event.what t.submission
+        → ((s : Sent) × Has speaker.end.sent s × (s.mark ≡ mark.Receipted) × (s.submission ≡ t.submission)) ⊎ Receipts act.event.what t.submission
         → Has (ids other.end.inbox) t.submission.header.id
     of_receipted t (inl s) = subst (Has (ids other.end.inbox)) (ap (λ u. u.header.id) s.3) (h.receipted s.0 s.1 s.2)
     of_receipted t (inr r) = receipt_heard act.event.what t other other_holds may.heard r
 
 -- the receiver acts
-receiver_acts : (act : Act) (party other : Party) → PartyHolds party → PartyHolds other → MayAct act party other
-    → Holds other.end party.end
-    → Holds other.end (acted act party).end
-receiver_acts act party other holds other_holds may h = record {
+receiver_acts : (act : Act) (speaker other : Speaker) → SpeakerHolds speaker → SpeakerHolds other → MayAct act speaker other
+    → Holds other.end speaker.end
+    → Holds other.end (acted act speaker).end
+receiver_acts act speaker other holds other_holds may h = record {
   submitted = λ n entry at. came n entry (goes.inbox.entries n entry at);
   receipted = λ s there m. goes.inbox.known s.submission.header.id (h.receipted s there m);
 }
   where
-    goes : EndGoes act.event.what act.outcome.reply party.end (acted act party).end
-    goes = act_goes act party other holds may
+    goes : EndGoes act.event.what act.outcome.reply speaker.end (acted act speaker).end
+    goes = act_goes act speaker other holds may
 
     came : (n : ℕ) (entry : InboxEntry)
-        → Stood party.end.inbox party.end.confirmed n entry ((acted act party).end.confirmed ≤ n)
+        → Stood speaker.end.inbox speaker.end.confirmed n entry ((acted act speaker).end.confirmed ≤ n)
         ⊎ (act.event.what ≡ what.Came (message.User entry.header entry.payloads))
-        → (s : Sent) × Has other.end.sent s × CameFrom s entry ((acted act party).end.confirmed ≤ n)
+        → (s : Sent) × Has other.end.sent s × CameFrom s entry ((acted act speaker).end.confirmed ≤ n)
     came n entry (inl old) =
         let s = h.submitted n old.before old.there in
         (s.0, s.1, record { header = old.header ∙ s.2.header; payloads = λ k. old.payloads k ∙ s.2.payloads (old.unconfirmed k) })
@@ -152,36 +152,36 @@ receiver_acts act party other holds other_holds may h = record {
         let s = heard act.event.what (message.User entry.header entry.payloads) other other_holds may.heard new in
         (s.0, s.1, record { header = sym s.2; payloads = λ k. sym s.3 })
 
--- after an act at either side
-pub world_acts : (side : Side) (act : Act) (world : World) → WorldHolds world → MayHappenAt side act world
-    → WorldHolds (world_at side act world)
+-- after an act at either site
+pub world_acts : (site : Site) (act : Act) (world : World) → WorldHolds world → MayHappenAt site act world
+    → WorldHolds (world_at site act world)
 world_acts Left act world holds may = record {
-  left = party_acts act world.left world.right holds.left may;
+  left = speaker_acts act world.left world.right holds.left may;
   right = holds.right;
   to_right = sender_acts act world.left world.right holds.left holds.right may holds.to_right;
   to_left = receiver_acts act world.left world.right holds.left holds.right may holds.to_left;
 }
 world_acts Right act world holds may = record {
   left = holds.left;
-  right = party_acts act world.right world.left holds.right may;
+  right = speaker_acts act world.right world.left holds.right may;
   to_right = receiver_acts act world.right world.left holds.right holds.left may holds.to_right;
   to_left = sender_acts act world.right world.left holds.right holds.left may holds.to_left;
 }
 
 -- where a journal is folded, nothing else changes
-party_folds : (size : ℕ) (party : Party) → PartyHolds party → PartyHolds (folded size party)
-party_folds size party holds = record { numbered = holds.numbered; apart = holds.apart; said = holds.said }
+speaker_folds : (size : ℕ) (speaker : Speaker) → SpeakerHolds speaker → SpeakerHolds (folded size speaker)
+speaker_folds size speaker holds = record { numbered = holds.numbered; apart = holds.apart; said = holds.said }
 
-world_folds : (side : Side) (size : ℕ) (world : World) → WorldHolds world → WorldHolds (folded_at side size world)
+world_folds : (site : Site) (size : ℕ) (world : World) → WorldHolds world → WorldHolds (folded_at site size world)
 world_folds Left size world holds = record {
-  left = party_folds size world.left holds.left;
+  left = speaker_folds size world.left holds.left;
   right = holds.right;
   to_right = record { submitted = holds.to_right.submitted; receipted = holds.to_right.receipted };
   to_left = record { submitted = holds.to_left.submitted; receipted = holds.to_left.receipted };
 }
 world_folds Right size world holds = record {
   left = holds.left;
-  right = party_folds size world.right holds.right;
+  right = speaker_folds size world.right holds.right;
   to_right = record { submitted = holds.to_right.submitted; receipted = holds.to_right.receipted };
   to_left = record { submitted = holds.to_left.submitted; receipted = holds.to_left.receipted };
 }
@@ -191,9 +191,9 @@ pub world_holds : (all : List Happening) (world : World) → WorldHolds world �
     → WorldHolds (world_after all world)
 world_holds [] world holds may = holds
 world_holds (Does act ∷ later) world holds may =
-    world_holds later (world_at act.side act world) (world_acts act.side act world holds may.0) may.1
-world_holds (Folds side size ∷ later) world holds may =
-    world_holds later (folded_at side size world) (world_folds side size world holds) may.1
+    world_holds later (world_at act.site act world) (world_acts act.site act world holds may.0) may.1
+world_holds (Folds site size ∷ later) world holds may =
+    world_holds later (folded_at site size world) (world_folds site size world holds) may.1
 
 -- at the start
 pub new_world_holds : WorldHolds new_world

@@ -33,7 +33,7 @@ ghost use Rattle.exchange_model.specs.Staying.{Keeps};
 ghost use Rattle.exchange_model.specs.Submitting.{address_of, are_too_large};
 ghost use Rattle.exchange_model.specs.Table.{IsOther, Step, message_of};
 ghost use Rattle.exchange_model.specs.Telling.{Tells};
-ghost use Rattle.exchange_model.specs.World.{Act, Happening, Does, Side, MayHappen, new_world, sends, world_after};
+ghost use Rattle.exchange_model.specs.World.{Act, Happening, Does, Site, MayHappen, new_world, sends, world_after};
 ghost use Rattle.exchange_model.specs.declared.event.Event.{Event};
 ghost use Rattle.exchange_model.specs.declared.inbox_entry.InboxEntry.{InboxEntry};
 ghost use Rattle.exchange_model.specs.declared.outcome.Outcome.{Outcome};
@@ -54,7 +54,7 @@ pub fn messages_are_delivered_once()
 /// it, for the first time or again, one message is answered; and where that is brought back, the sender holds the
 /// receipt and the other inbox the message.
 pub fn a_round_settles()
-    ensures { (all : List Happening) (side : Side) (s : Sent) → MayHappen all new_world → ARoundSettles side s (world_after all new_world) }
+    ensures { (all : List Happening) (site : Site) (s : Sent) → MayHappen all new_world → ARoundSettles site s (world_after all new_world) }
 {}
 
 /// Whatever comes to an end, forged messages too: what it holds is accounted for by what happened there. Each submission

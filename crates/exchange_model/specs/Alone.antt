@@ -26,12 +26,12 @@ abbrev pub MayHappenTo : List Happening → End → Type 0
 MayHappenTo [] end = Unit {0}
 MayHappenTo (Does act ∷ later) end =
     Step act.modes end act.event act.outcome × MayHappenTo later (applied act.outcome.effects end)
-MayHappenTo (Folds side size ∷ later) end = IsFoldedSize end size × MayHappenTo later (resized size end)
+MayHappenTo (Folds site size ∷ later) end = IsFoldedSize end size × MayHappenTo later (resized size end)
 
 abbrev pub end_after : List Happening → End → End
 end_after [] end = end
 end_after (Does act ∷ later) end = end_after later (applied act.outcome.effects end)
-end_after (Folds side size ∷ later) end = end_after later (resized size end)
+end_after (Folds site size ∷ later) end = end_after later (resized size end)
 
 -- the producer is told that the submission is taken in
 abbrev pub is_submitted : Reply → Bool
@@ -85,7 +85,7 @@ written (e ∷ effects) = record_len (e ∷ effects)
 abbrev pub size_after : List Happening → ℕ → ℕ
 size_after [] size = size
 size_after (Does act ∷ later) size = size_after later (size + written act.outcome.effects)
-size_after (Folds side left ∷ later) size = size_after later left
+size_after (Folds site left ∷ later) size = size_after later left
 
 -- what holds at an end whatever its partner sends
 pub record IsSafe (all : List Happening) (end : End) : Type 0 where

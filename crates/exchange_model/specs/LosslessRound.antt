@@ -20,7 +20,7 @@ use Rattle.exchange_model.specs.End.{End}
 use Rattle.exchange_model.specs.Questions.{head_of, is_pending, sent_of}
 use Rattle.exchange_model.specs.Room.{HasRoomForOne}
 use Rattle.exchange_model.specs.Table.{IsOther, message_of}
-use Rattle.exchange_model.specs.World.{Act, Does, Side, World, MayHappen, across, party_at, sends, world_after}
+use Rattle.exchange_model.specs.World.{Act, Does, Site, World, MayHappen, across, speaker_at, sends, world_after}
 use Rattle.exchange_model.specs.declared.inbox_entry.InboxEntry.{InboxEntry}
 use Rattle.exchange_model.specs.declared.reply.Reply.{Reply}
 use Rattle.exchange_model.specs.declared.reply.Reply.TheVariants as reply
@@ -33,20 +33,20 @@ abbrev pub IsFull : Reply → Type 0
 IsFull (reply.Full size need) = Unit {0}
 IsFull other = ⊥
 
--- the act is at this side, may happen next, and has room in the journal
-pub record IsNext (side : Side) (world : World) (act : Act) : Type 0 where
-  pub here : act.side ≡ side
+-- the act is at this site, may happen next, and has room in the journal
+pub record IsNext (site : Site) (world : World) (act : Act) : Type 0 where
+  pub here : act.site ≡ site
   pub may : MayHappen (Does act ∷ []) world
-  pub roomy : (¬ IsFull act.outcome.reply) ⊎ HasRoomForOne (party_at side world).end
+  pub roomy : (¬ IsFull act.outcome.reply) ⊎ HasRoomForOne (speaker_at site world).end
 
 -- the world behind an act
 abbrev pub behind_act : Act → World → World
 behind_act act world = world_after (Does act ∷ []) world
 
 -- the act sends this message and no other, and where its reply isn't lost, the message may come at the other end
-pub record SendsOne (side : Side) (world : World) (act : Act) (m : Message) : Type 0 where
+pub record SendsOne (site : Site) (world : World) (act : Act) (m : Message) : Type 0 where
   pub one : sends act.outcome.reply ≡ m ∷ []
-  pub heard : act.lost ≡ false → Contains (party_at side (behind_act act world)).said m
+  pub heard : act.lost ≡ false → Contains (speaker_at site (behind_act act world)).said m
 
 -- a pull request asks an end for the head of a channel of these modes
 abbrev pub IsPulled : Sent → List Mode → Signal → End → Type 0
@@ -83,14 +83,14 @@ abbrev pub StandsIn : Sent → End → Type 0
 StandsIn s end = (n : ℕ) × (entry : InboxEntry) × (slice_get end.inbox n ≡ Some entry) × CameFrom s entry (end.confirmed ≤ n)
 
 -- the sender has the receipt, and the message stands in the receiver's inbox
-pub record IsSettled (side : Side) (s : Sent) (world : World) : Type 0 where
-  pub receipted : (t : Sent) × (sent_of s.submission.header.id (party_at side world).end.sent ≡ Some t) × (t.mark ≡ Receipted)
-  pub delivered : StandsIn s (party_at (across side) world).end
+pub record IsSettled (site : Site) (s : Sent) (world : World) : Type 0 where
+  pub receipted : (t : Sent) × (sent_of s.submission.header.id (speaker_at site world).end.sent ≡ Some t) × (t.mark ≡ Receipted)
+  pub delivered : StandsIn s (speaker_at (across site) world).end
 
 -- the third act: each that brings the answer back settles both ends
-abbrev pub ThirdSettles : Side → Sent → Message → World → Type 0
-ThirdSettles side s answer world =
-    (back : Act) → IsNext side world back → back.event.what ≡ what.Came answer → IsSettled side s (behind_act back world)
+abbrev pub ThirdSettles : Site → Sent → Message → World → Type 0
+ThirdSettles site s answer world =
+    (back : Act) → IsNext site world back → back.event.what ≡ what.Came answer → IsSettled site s (behind_act back world)
 
 -- the message comes at an end that has a mode for it, for the first time or again
 pub record IsBroughtOver (s : Sent) (act : Act) : Type 0 where
@@ -98,13 +98,13 @@ pub record IsBroughtOver (s : Sent) (act : Act) : Type 0 where
   pub mode : IsSome (mode_of act.modes s.submission.header)
 
 -- the second act: each that brings the message over is answered with one message, for which the third holds
-abbrev pub SecondSettles : Side → Sent → World → Type 0
-SecondSettles side s world =
-    (over : Act) → IsNext (across side) world over → IsBroughtOver s over
-    → (answer : Message) × SendsOne (across side) world over answer × ThirdSettles side s answer (behind_act over world)
+abbrev pub SecondSettles : Site → Sent → World → Type 0
+SecondSettles site s world =
+    (over : Act) → IsNext (across site) world over → IsBroughtOver s over
+    → (answer : Message) × SendsOne (across site) world over answer × ThirdSettles site s answer (behind_act over world)
 
 -- the first act: each that asks for the head of a queue sends its message, for which the second holds
-abbrev pub ARoundSettles : Side → Sent → World → Type 0
-ARoundSettles side s world =
-    (out : Act) → IsNext side world out → IsAskedFor s out (party_at side world).end
-    → SendsOne side world out (message_of s.submission) × SecondSettles side s (behind_act out world)
+abbrev pub ARoundSettles : Site → Sent → World → Type 0
+ARoundSettles site s world =
+    (out : Act) → IsNext site world out → IsAskedFor s out (speaker_at site world).end
+    → SendsOne site world out (message_of s.submission) × SecondSettles site s (behind_act out world)

@@ -10,28 +10,28 @@ use Rattle.as4_values.specs.declared.signal_body.Severity.TheVariants.{Failure, 
 use Rattle.exchange_model.specs.Questions.{is_pending, sent_of}
 use Rattle.exchange_model.specs.declared.sent.Sent.{Sent}
 
--- the refusal of a submission, by its number, with an error's code
-pub record Refusal : Type 0 where
+-- the rejection of a submission, by its number, with an error's code
+pub record Rejection : Type 0 where
   pub number : ℕ
   pub code : List ℕ
 
 -- the refusal of a submission, where it is pending
-abbrev pub refusal_with : List ℕ → Sent → Option Refusal
+abbrev pub refusal_with : List ℕ → Sent → Option Rejection
 refusal_with code s = if is_pending s then Some (record { number = s.submission.number; code = code }) else None
 
 -- by a failure, the pending submission that it is about: the one that it names, else the one that its signal
 -- refers to; a warning refuses none
-abbrev pub refusal_by : Severity → List ℕ → Option (List ℕ) → List Sent → Option Refusal
+abbrev pub refusal_by : Severity → List ℕ → Option (List ℕ) → List Sent → Option Rejection
 refusal_by Warning code about sent = None
 refusal_by Failure code about sent =
     option_and_then (refusal_with code) (option_and_then (λ id. sent_of id sent) about)
 
 -- by an error of a signal with this reference
-abbrev pub refusal_of : Option (List ℕ) → List Sent → ErrorItem → Option Refusal
+abbrev pub refusal_of : Option (List ℕ) → List Sent → ErrorItem → Option Rejection
 refusal_of ref_to sent item = refusal_by item.severity item.code (option_or item.about ref_to) sent
 
 -- the first of each number, in order
-unfoldable pub once : List Refusal → List Refusal
+unfoldable pub once : List Rejection → List Rejection
 once [] = []
 once (refusal ∷ refusals) = refusal ∷ filter (λ later. not (later.number == refusal.number)) (once refusals)
 

@@ -17,32 +17,32 @@ use Rattle.exchange_model.specs.declared.what.What.{What}
 use Rattle.exchange_model.specs.declared.what.What.TheVariants as what
 
 -- an end, and each message that it ever sent
-pub record Party : Type 0 where
+pub record Speaker : Type 0 where
   pub end : End
   pub said : List Message
 
 pub record World : Type 0 where
-  pub left : Party
-  pub right : Party
+  pub left : Speaker
+  pub right : Speaker
 
-abbrev pub new_party : Party
-new_party = record { end = empty_end; said = [] }
+abbrev pub new_speaker : Speaker
+new_speaker = record { end = empty_end; said = [] }
 
 abbrev pub new_world : World
-new_world = record { left = new_party; right = new_party }
+new_world = record { left = new_speaker; right = new_speaker }
 
-pub data Side : Type 0 where
-  Left : Side
-  Right : Side
+pub data Site : Type 0 where
+  Left : Site
+  Right : Site
 
-abbrev pub is_same_side : Side → Side → Bool
-is_same_side Left Left = true
-is_same_side Right Right = true
-is_same_side a b = false
+abbrev pub is_same_site : Site → Site → Bool
+is_same_site Left Left = true
+is_same_site Right Right = true
+is_same_site a b = false
 
 -- what happens at one end: an event under some modes, its outcome, and whether the reply is lost
 pub record Act : Type 0 where
-  pub side : Side
+  pub site : Site
   pub modes : List Mode
   pub event : Event
   pub outcome : Outcome
@@ -60,69 +60,69 @@ abbrev pub IsHeard : List Message → What → Type 0
 IsHeard said (what.Came message) = Contains said message
 IsHeard said other = Unit {0}
 
--- what happens in a world: an act, or the journal of the end at a side is folded to this size
+-- what happens in a world: an act, or the journal of the end at a site is folded to this size
 pub data Happening : Type 0 where
   Does : Act → Happening
-  Folds : Side → ℕ → Happening
+  Folds : Site → ℕ → Happening
 
 -- the act may happen at an end that hears the other
-pub record MayAct (act : Act) (party other : Party) : Type 0 where
+pub record MayAct (act : Act) (speaker other : Speaker) : Type 0 where
   pub heard : IsHeard other.said act.event.what
-  pub step : Step act.modes party.end act.event act.outcome
+  pub step : Step act.modes speaker.end act.event act.outcome
 
 -- the end behind an outcome whose reply leaves or is lost
-abbrev pub party_after : Outcome → Bool → Party → Party
-party_after outcome lost party = record {
-  end = applied outcome.effects party.end;
-  said = if lost then party.said else party.said ++ sends outcome.reply;
+abbrev pub speaker_after : Outcome → Bool → Speaker → Speaker
+speaker_after outcome lost speaker = record {
+  end = applied outcome.effects speaker.end;
+  said = if lost then speaker.said else speaker.said ++ sends outcome.reply;
 }
 
 -- what the act leads to at its end
-abbrev pub acted : Act → Party → Party
-acted act party = party_after act.outcome act.lost party
+abbrev pub acted : Act → Speaker → Speaker
+acted act speaker = speaker_after act.outcome act.lost speaker
 
-abbrev pub MayHappenAt : Side → Act → World → Type 0
+abbrev pub MayHappenAt : Site → Act → World → Type 0
 MayHappenAt Left act world = MayAct act world.left world.right
 MayHappenAt Right act world = MayAct act world.right world.left
 
-abbrev pub world_at : Side → Act → World → World
+abbrev pub world_at : Site → Act → World → World
 world_at Left act world = record world { left = acted act world.left }
 world_at Right act world = record world { right = acted act world.right }
 
-abbrev pub party_at : Side → World → Party
-party_at Left world = world.left
-party_at Right world = world.right
+abbrev pub speaker_at : Site → World → Speaker
+speaker_at Left world = world.left
+speaker_at Right world = world.right
 
--- the world where the journal of the end at a side has another size
-abbrev pub folded : ℕ → Party → Party
-folded size party = record party { end = resized size party.end }
+-- the world where the journal of the end at a site has another size
+abbrev pub folded : ℕ → Speaker → Speaker
+folded size speaker = record speaker { end = resized size speaker.end }
 
-abbrev pub folded_at : Side → ℕ → World → World
+abbrev pub folded_at : Site → ℕ → World → World
 folded_at Left size world = record world { left = folded size world.left }
 folded_at Right size world = record world { right = folded size world.right }
 
 -- one after another, each may happen where those before it have led
 abbrev pub MayHappen : List Happening → World → Type 0
 MayHappen [] world = Unit {0}
-MayHappen (Does act ∷ later) world = MayHappenAt act.side act world × MayHappen later (world_at act.side act world)
-MayHappen (Folds side size ∷ later) world =
-    IsFoldedSize (party_at side world).end size × MayHappen later (folded_at side size world)
+MayHappen (Does act ∷ later) world = MayHappenAt act.site act world × MayHappen later (world_at act.site act world)
+MayHappen (Folds site size ∷ later) world =
+    IsFoldedSize (speaker_at site world).end size × MayHappen later (folded_at site size world)
 
 abbrev pub world_after : List Happening → World → World
 world_after [] world = world
-world_after (Does act ∷ later) world = world_after later (world_at act.side act world)
-world_after (Folds side size ∷ later) world = world_after later (folded_at side size world)
+world_after (Does act ∷ later) world = world_after later (world_at act.site act world)
+world_after (Folds site size ∷ later) world = world_after later (folded_at site size world)
 
 -- the acts among what happens
 abbrev pub acts_of : List Happening → List Act
 acts_of [] = []
 acts_of (Does act ∷ later) = act ∷ acts_of later
-acts_of (Folds side size ∷ later) = acts_of later
+acts_of (Folds site size ∷ later) = acts_of later
 
--- the acts at one side
-abbrev pub acts_at : Side → List Happening → List Act
-acts_at side all = filter (λ (act : Act). is_same_side act.side side) (acts_of all)
+-- the acts at one site
+abbrev pub acts_at : Site → List Happening → List Act
+acts_at site all = filter (λ (act : Act). is_same_site act.site site) (acts_of all)
 
-abbrev pub across : Side → Side
+abbrev pub across : Site → Site
 across Left = Right
 across Right = Left

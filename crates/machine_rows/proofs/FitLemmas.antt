@@ -14,30 +14,30 @@ use Rattle.exchange_model.specs.Apply.{after, changed, first_unfit, is_fit, is_o
 use Rattle.exchange_model.specs.End.{End}
 use Rattle.exchange_model.specs.Numbered.{AreNumberedFrom}
 use Rattle.exchange_model.specs.Questions.{is_pending, sent_at}
-use Rattle.exchange_model.specs.Refusing.{Refusal, once, refusal_of, refusals_of}
+use Rattle.exchange_model.specs.Refusing.{Rejection, once, refusal_of, refusals_of}
 use Rattle.as4_effects.specs.declared.mark.Mark.{Mark}
 use Rattle.as4_effects.specs.declared.mark.Mark.TheVariants as mark
 use Rattle.exchange_model.specs.declared.sent.Sent.{Sent}
 use Rattle.exchange_model.proofs.PendingLemmas.{pending_by}
 
-abbrev pub effect_of : Refusal → Effect
+abbrev pub effect_of : Rejection → Effect
 effect_of refusal = Refused refusal.number refusal.code
 
-abbrev pub is_other : ℕ → Refusal → Bool
+abbrev pub is_other : ℕ → Rejection → Bool
 is_other number refusal = not (eqb refusal.number number)
 
 -- each names a pending submission
-abbrev pub ArePending : List Sent → List Refusal → Type 0
+abbrev pub ArePending : List Sent → List Rejection → Type 0
 ArePending sent [] = Unit {0}
 ArePending sent (r ∷ refusals) = (is_one is_pending (sent_at r.number sent) ≡ true) × ArePending sent refusals
 
 -- none has this number
-abbrev pub AreOthers : ℕ → List Refusal → Type 0
+abbrev pub AreOthers : ℕ → List Rejection → Type 0
 AreOthers number [] = Unit {0}
 AreOthers number (r ∷ refusals) = (eqb r.number number ≡ false) × AreOthers number refusals
 
 -- no two have one number
-abbrev pub Differ : List Refusal → Type 0
+abbrev pub Differ : List Rejection → Type 0
 Differ [] = Unit {0}
 Differ (r ∷ refusals) = AreOthers r.number refusals × Differ refusals
 
@@ -55,13 +55,13 @@ other_at n m to (s ∷ sent) d =
     ]
 
 -- those of other numbers stay pending
-still_pending : (n : ℕ) (to : Mark) (sent : List Sent) (refusals : List Refusal) → AreOthers n refusals → ArePending sent refusals
+still_pending : (n : ℕ) (to : Mark) (sent : List Sent) (refusals : List Rejection) → AreOthers n refusals → ArePending sent refusals
     → ArePending (changed n (marked to) sent) refusals
 still_pending n to sent [] others pending = tt
 still_pending n to sent (r ∷ refusals) others pending =
     (ap (is_one is_pending) (other_at n r.number to sent others.0) ∙ pending.0, still_pending n to sent refusals others.1 pending.1)
 
-pub fits_all : (refusals : List Refusal) (end : End) → Differ refusals → ArePending end.sent refusals → first_unfit (map effect_of refusals) end ≡ None
+pub fits_all : (refusals : List Rejection) (end : End) → Differ refusals → ArePending end.sent refusals → first_unfit (map effect_of refusals) end ≡ None
 unfolding is_fit after
 fits_all [] end differ pending = refl
 fits_all (r ∷ refusals) end differ pending =
@@ -70,32 +70,32 @@ fits_all (r ∷ refusals) end differ pending =
     (still_pending r.number (mark.Refused r.code) end.sent refusals differ.0 pending.1)))
 
 -- what is left of them
-pending_left : (p : Refusal → Bool) (sent : List Sent) (refusals : List Refusal) → ArePending sent refusals → ArePending sent (filter p refusals)
+pending_left : (p : Rejection → Bool) (sent : List Sent) (refusals : List Rejection) → ArePending sent refusals → ArePending sent (filter p refusals)
 pending_left p sent [] pending = tt
 pending_left p sent (r ∷ refusals) pending =
     elim (p r) as (λ b. ArePending sent (cond b (r ∷ filter p refusals) (filter p refusals)))
     [ true ↦ (pending.0, pending_left p sent refusals pending.1) | false ↦ pending_left p sent refusals pending.1 ]
 
-others_left : (p : Refusal → Bool) (n : ℕ) (refusals : List Refusal) → AreOthers n refusals → AreOthers n (filter p refusals)
+others_left : (p : Rejection → Bool) (n : ℕ) (refusals : List Rejection) → AreOthers n refusals → AreOthers n (filter p refusals)
 others_left p n [] others = tt
 others_left p n (r ∷ refusals) others =
     elim (p r) as (λ b. AreOthers n (cond b (r ∷ filter p refusals) (filter p refusals)))
     [ true ↦ (others.0, others_left p n refusals others.1) | false ↦ others_left p n refusals others.1 ]
 
-differ_left : (p : Refusal → Bool) (refusals : List Refusal) → Differ refusals → Differ (filter p refusals)
+differ_left : (p : Rejection → Bool) (refusals : List Rejection) → Differ refusals → Differ (filter p refusals)
 differ_left p [] differ = tt
 differ_left p (r ∷ refusals) differ =
     elim (p r) as (λ b. Differ (cond b (r ∷ filter p refusals) (filter p refusals)))
     [ true ↦ (others_left p r.number refusals differ.0, differ_left p refusals differ.1) | false ↦ differ_left p refusals differ.1 ]
 
-few_left : (p : Refusal → Bool) (refusals : List Refusal) → length (filter p refusals) ≤ length refusals
+few_left : (p : Rejection → Bool) (refusals : List Rejection) → length (filter p refusals) ≤ length refusals
 few_left p [] = omega arith
 few_left p (r ∷ refusals) =
     elim (p r) as (λ b. length (cond b (r ∷ filter p refusals) (filter p refusals)) ≤ suc (length refusals))
     [ true ↦ omega (arith, few_left p refusals) | false ↦ omega (arith, few_left p refusals) ]
 
 -- those that are left are of other numbers
-others_of : (n : ℕ) (refusals : List Refusal) → AreOthers n (filter (is_other n) refusals)
+others_of : (n : ℕ) (refusals : List Rejection) → AreOthers n (filter (is_other n) refusals)
 others_of n [] = tt
 others_of n (r ∷ refusals) =
     elim (cases_Bool (eqb r.number n)) [
@@ -103,24 +103,24 @@ others_of n (r ∷ refusals) =
       | inr e ↦ rw e (e, others_of n refusals)
     ]
 
-once_pending : (sent : List Sent) (refusals : List Refusal) → ArePending sent refusals → ArePending sent (once refusals)
+once_pending : (sent : List Sent) (refusals : List Rejection) → ArePending sent refusals → ArePending sent (once refusals)
 unfolding once
 once_pending sent [] pending = tt
 once_pending sent (r ∷ refusals) pending =
     (pending.0, pending_left (is_other r.number) sent (once refusals) (once_pending sent refusals pending.1))
 
-once_differ : (refusals : List Refusal) → Differ (once refusals)
+once_differ : (refusals : List Rejection) → Differ (once refusals)
 unfolding once
 once_differ [] = tt
 once_differ (r ∷ refusals) =
     (others_of r.number (once refusals), differ_left (is_other r.number) (once refusals) (once_differ refusals))
 
-few_once : (refusals : List Refusal) → length (once refusals) ≤ length refusals
+few_once : (refusals : List Rejection) → length (once refusals) ≤ length refusals
 unfolding once
 few_once [] = omega arith
 few_once (r ∷ refusals) = omega (arith, few_left (is_other r.number) (once refusals), few_once refusals)
 
-consed : (sent : List Sent) (o : Option Refusal) (refusals : List Refusal) → IfSome o (λ r. is_one is_pending (sent_at r.number sent) ≡ true)
+consed : (sent : List Sent) (o : Option Rejection) (refusals : List Rejection) → IfSome o (λ r. is_one is_pending (sent_at r.number sent) ≡ true)
     → ArePending sent refusals → ArePending sent (cons_option o refusals)
 consed sent None refusals one pending = pending
 consed sent (Some r) refusals one pending = (one, pending)
@@ -132,7 +132,7 @@ all_pending ref_to sent (item ∷ items) h =
     consed sent (refusal_of ref_to sent item) (filter_map (refusal_of ref_to sent) items)
     (pending_by item.severity item.code (option_or item.about ref_to) sent h) (all_pending ref_to sent items h)
 
-few_consed : (o : Option Refusal) (refusals : List Refusal) → length (cons_option o refusals) ≤ suc (length refusals)
+few_consed : (o : Option Rejection) (refusals : List Rejection) → length (cons_option o refusals) ≤ suc (length refusals)
 few_consed None refusals = omega arith
 few_consed (Some r) refusals = omega arith
 
@@ -141,7 +141,7 @@ few_refusals ref_to sent [] = omega arith
 few_refusals ref_to sent (item ∷ items) =
     omega (arith, few_consed (refusal_of ref_to sent item) (filter_map (refusal_of ref_to sent) items), few_refusals ref_to sent items)
 
-one_room : (refusals : List Refusal) → TakeOneRoom (map effect_of refusals)
+one_room : (refusals : List Rejection) → TakeOneRoom (map effect_of refusals)
 unfolding TakesNoRoom
 one_room [] = tt
 one_room (r ∷ []) = tt
@@ -152,7 +152,7 @@ pub all_stand : (ref_to : Option (List ℕ)) (end : End) (items : List ErrorItem
     → CanStand end (refusals_of ref_to end.sent items)
 unfolding refusals_of
 all_stand ref_to end items stand few =
-    let refusals : List Refusal = filter_map (refusal_of ref_to end.sent) items in
+    let refusals : List Rejection = filter_map (refusal_of ref_to end.sent) items in
     let short : length refusals ≤ length items = few_refusals ref_to end.sent items in
     let shorter : length (once refusals) ≤ length refusals = few_once refusals in
     record {

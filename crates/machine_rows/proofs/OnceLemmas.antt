@@ -13,21 +13,21 @@ use Rattle.as4_values.specs.declared.signal_body.ErrorItem.{ErrorItem}
 use Rattle.as4_values.specs.declared.signal_body.Severity.{Severity}
 use Rattle.as4_values.specs.declared.signal_body.Severity.TheVariants.{Failure, Warning}
 use Rattle.exchange_model.specs.Questions.{is_pending, sent_of}
-use Rattle.exchange_model.specs.Refusing.{Refusal, once, refusal_by, refusal_of, refusal_with, refusals_of}
+use Rattle.exchange_model.specs.Refusing.{Rejection, once, refusal_by, refusal_of, refusal_with, refusals_of}
 use Rattle.exchange_model.specs.declared.sent.Sent.{Sent}
 use Rattle.machine_rows.proofs.FitLemmas.{effect_of, is_other}
 use Rattle.machine_rows.specs.Naming.{has_number}
 
 -- one of the refusals has this number
-abbrev has : ℕ → List Refusal → Bool
-has number refusals = list_any (λ (r : Refusal). eqb r.number number) refusals
+abbrev has : ℕ → List Rejection → Bool
+has number refusals = list_any (λ (r : Rejection). eqb r.number number) refusals
 
 turned : (a b : ℕ) (v : Bool) → eqb a b ≡ v → eqb b a ≡ v
 turned a b true e = eq-eqb b a (sym (eqb-true a b e))
 turned a b false e = ne_eqb b a (λ same. let f : true ≡ false = sym (eq-eqb a b (sym same)) ∙ e in cc)
 
 -- a number stays among those that are left where others go
-has_left : (n m : ℕ) (refusals : List Refusal) → eqb m n ≡ false → has n (filter (is_other m) refusals) ≡ has n refusals
+has_left : (n m : ℕ) (refusals : List Rejection) → eqb m n ≡ false → has n (filter (is_other m) refusals) ≡ has n refusals
 has_left n m [] d = refl
 has_left n m (r ∷ refusals) d =
     elim (cases_Bool (eqb r.number m)) [
@@ -38,10 +38,10 @@ has_left n m (r ∷ refusals) d =
     ]
 
 -- one more behind those, where its number isn't there
-abbrev with_one : Refusal → List Refusal → List Refusal
+abbrev with_one : Rejection → List Rejection → List Rejection
 with_one r refusals = cond (has r.number refusals) refusals (refusals ++ r ∷ [])
 
-same_left : (q r : Refusal) (refusals : List Refusal) → eqb q.number r.number ≡ true
+same_left : (q r : Rejection) (refusals : List Rejection) → eqb q.number r.number ≡ true
     → filter (is_other q.number) (with_one r refusals) ≡ filter (is_other q.number) refusals
 same_left q r refusals e =
     elim (has r.number refusals) as (λ b. filter (is_other q.number) (cond b refusals (refusals ++ r ∷ [])) ≡ filter (is_other q.number) refusals) [
@@ -50,7 +50,7 @@ same_left q r refusals e =
           ∙ rw (turned q.number r.number true e) (append-nil (filter (is_other q.number) refusals))
     ]
 
-other_left : (q r : Refusal) (refusals : List Refusal) → eqb q.number r.number ≡ false
+other_left : (q r : Rejection) (refusals : List Rejection) → eqb q.number r.number ≡ false
     → filter (is_other q.number) (with_one r refusals)
     ≡ cond (has r.number refusals) (filter (is_other q.number) refusals) (filter (is_other q.number) refusals ++ r ∷ [])
 other_left q r refusals e =
@@ -60,33 +60,33 @@ other_left q r refusals e =
       | false ↦ filter-append (is_other q.number) refusals (r ∷ []) ∙ rw (turned q.number r.number false e) refl
     ]
 
-cons_cond : (b : Bool) (q : Refusal) (xs ys : List Refusal) → q ∷ cond b xs ys ≡ cond b (q ∷ xs) (q ∷ ys)
+cons_cond : (b : Bool) (q : Rejection) (xs ys : List Rejection) → q ∷ cond b xs ys ≡ cond b (q ∷ xs) (q ∷ ys)
 cons_cond true q xs ys = refl
 cons_cond false q xs ys = refl
 
-one_behind : (q r : Refusal) (refusals : List Refusal)
+one_behind : (q r : Rejection) (refusals : List Rejection)
     → q ∷ filter (is_other q.number) (with_one r refusals) ≡ with_one r (q ∷ filter (is_other q.number) refusals)
 one_behind q r refusals =
     elim (cases_Bool (eqb q.number r.number)) [
-      | inl e ↦ rw e (ap (λ (xs : List Refusal). q ∷ xs) (same_left q r refusals e))
+      | inl e ↦ rw e (ap (λ (xs : List Rejection). q ∷ xs) (same_left q r refusals e))
       | inr e ↦ rw (e, has_left r.number q.number refusals e)
-          (ap (λ (xs : List Refusal). q ∷ xs) (other_left q r refusals e)
+          (ap (λ (xs : List Rejection). q ∷ xs) (other_left q r refusals e)
           ∙ cons_cond (has r.number refusals) q (filter (is_other q.number) refusals) (filter (is_other q.number) refusals ++ r ∷ []))
     ]
 
-once_more : (refusals : List Refusal) (r : Refusal) → once (refusals ++ r ∷ []) ≡ with_one r (once refusals)
+once_more : (refusals : List Rejection) (r : Rejection) → once (refusals ++ r ∷ []) ≡ with_one r (once refusals)
 unfolding once
 once_more [] r = refl
 once_more (q ∷ refusals) r =
-    ap (λ (xs : List Refusal). q ∷ filter (is_other q.number) xs) (once_more refusals r) ∙ one_behind q r (once refusals)
+    ap (λ (xs : List Rejection). q ∷ filter (is_other q.number) xs) (once_more refusals r) ∙ one_behind q r (once refusals)
 
 -- the effects say which numbers are there
-has_effect : (n : ℕ) (refusals : List Refusal) → list_any (has_number n) (map effect_of refusals) ≡ has n refusals
+has_effect : (n : ℕ) (refusals : List Rejection) → list_any (has_number n) (map effect_of refusals) ≡ has n refusals
 has_effect n [] = refl
 has_effect n (r ∷ refusals) = ap (λ b. eqb r.number n || b) (has_effect n refusals)
 
 -- the refusals of the first items
-abbrev first : Option (List ℕ) → List Sent → ℕ → List ErrorItem → List Refusal
+abbrev first : Option (List ℕ) → List Sent → ℕ → List ErrorItem → List Rejection
 first ref_to sent i items = filter_map (refusal_of ref_to sent) (take i items)
 
 first_more : (ref_to : Option (List ℕ)) (sent : List Sent) (i : ℕ) (items : List ErrorItem) (d : ErrorItem) → i < length items
@@ -101,17 +101,17 @@ none_more : (ref_to : Option (List ℕ)) (sent : List Sent) (i : ℕ) (items : L
     → refusals_of ref_to sent (take (i + 1) items) ≡ refusals_of ref_to sent (take i items)
 unfolding refusals_of
 none_more ref_to sent i items d l e =
-    ap (λ (xs : List Refusal). map effect_of (once xs))
+    ap (λ (xs : List Rejection). map effect_of (once xs))
     (first_more ref_to sent i items d l ∙ rw e (append-nil (first ref_to sent i items)))
 
-one_first : (ref_to : Option (List ℕ)) (sent : List Sent) (i : ℕ) (items : List ErrorItem) (d : ErrorItem) (r : Refusal) → i < length items
+one_first : (ref_to : Option (List ℕ)) (sent : List Sent) (i : ℕ) (items : List ErrorItem) (d : ErrorItem) (r : Rejection) → i < length items
     → refusal_of ref_to sent (get_or items i d) ≡ Some r
     → once (first ref_to sent (i + 1) items) ≡ with_one r (once (first ref_to sent i items))
 one_first ref_to sent i items d r l e =
     ap once (first_more ref_to sent i items d l ∙ rw e refl) ∙ once_more (first ref_to sent i items) r
 
 -- an item that refuses what is refused already
-had_more : (ref_to : Option (List ℕ)) (sent : List Sent) (i : ℕ) (items : List ErrorItem) (d : ErrorItem) (r : Refusal) → i < length items
+had_more : (ref_to : Option (List ℕ)) (sent : List Sent) (i : ℕ) (items : List ErrorItem) (d : ErrorItem) (r : Rejection) → i < length items
     → refusal_of ref_to sent (get_or items i d) ≡ Some r
     → list_any (has_number r.number) (refusals_of ref_to sent (take i items)) ≡ true
     → refusals_of ref_to sent (take (i + 1) items) ≡ refusals_of ref_to sent (take i items)
@@ -121,7 +121,7 @@ had_more ref_to sent i items d r l e had =
     ap (map effect_of) (one_first ref_to sent i items d r l e ∙ rw there refl)
 
 -- an item that refuses one more
-one_more : (ref_to : Option (List ℕ)) (sent : List Sent) (i : ℕ) (items : List ErrorItem) (d : ErrorItem) (r : Refusal) → i < length items
+one_more : (ref_to : Option (List ℕ)) (sent : List Sent) (i : ℕ) (items : List ErrorItem) (d : ErrorItem) (r : Rejection) → i < length items
     → refusal_of ref_to sent (get_or items i d) ≡ Some r
     → list_any (has_number r.number) (refusals_of ref_to sent (take i items)) ≡ false
     → refusals_of ref_to sent (take (i + 1) items) ≡ refusals_of ref_to sent (take i items) ++ Refused r.number r.code ∷ []
@@ -131,10 +131,10 @@ one_more ref_to sent i items d r l e had =
     ap (map effect_of) (one_first ref_to sent i items d r l e ∙ rw there refl)
     ∙ map-append effect_of (once (first ref_to sent i items)) (r ∷ [])
 
-abbrev number_of : Option Refusal → Option ℕ
-number_of o = option_map (λ (r : Refusal). r.number) o
+abbrev number_of : Option Rejection → Option ℕ
+number_of o = option_map (λ (r : Rejection). r.number) o
 
-no_refusal : (o : Option Refusal) → None ≡ number_of o → o ≡ None
+no_refusal : (o : Option Rejection) → None ≡ number_of o → o ≡ None
 no_refusal None e = refl
 no_refusal (Some r) e = cc
 
@@ -143,10 +143,10 @@ code_with : (code : List ℕ) (o : Option Sent) (n : ℕ) → Some n ≡ number_
     → option_and_then (refusal_with code) o ≡ Some (record { number = n; code = code })
 code_with code None n e = cc
 code_with code (Some s) n e =
-    let r : Refusal = record { number = s.submission.number; code = code } in
-    let by : Bool → Option Refusal = λ b. cond b (Some r) None in
+    let r : Rejection = record { number = s.submission.number; code = code } in
+    let by : Bool → Option Rejection = λ b. cond b (Some r) None in
     (elim (is_pending s) as (λ b. Some n ≡ number_of (by b) → by b ≡ Some (record { number = n; code = code })) [
-      | true ↦ λ f. ap (λ (k : ℕ). let q : Refusal = record { number = k; code = code } in Some q) (sym (same_Some n s.submission.number f))
+      | true ↦ λ f. ap (λ (k : ℕ). let q : Rejection = record { number = k; code = code } in Some q) (sym (same_Some n s.submission.number f))
       | false ↦ λ f. cc
     ]) e
 

@@ -5,6 +5,7 @@ use Rattle.std.proofs.lemmas.Option.{get_or_from_slice_get, same_Some, slice_get
 use Rattle.std.proofs.lemmas.List.{length-append, length-drop, length-take}
 use Rattle.as4_values.specs.declared.header.UserHeader.{UserHeader}
 use Rattle.as4_values.specs.declared.payload.Payload.{Payload}
+use Rattle.as4_values.specs.declared.moment.TheConstants.{MAX_MOMENT}
 use Rattle.as4_effects.specs.Pairing.{pair}
 use Rattle.as4_effects.specs.Sound.{delivered_body, fits_an_effect, kept_body}
 use Rattle.as4_effects.specs.declared.effect.Effect.{Effect}
@@ -196,7 +197,7 @@ found_clock end part at found reached is came clock =
     )
 
 -- a clock that never was set has no record, and no clock has a second one
-pub clock_none : (moment at : ℕ) → moment ≤ 253402300799999 → (moment ≡ 0) ⊎ (0 < at)
+pub clock_none : (moment at : ℕ) → moment ≤ MAX_MOMENT → (moment ≡ 0) ⊎ (0 < at)
     → (clock : List Effect) × SetsClock moment clock × (None ≡ slice_get clock at)
 clock_none zero at dated none = ([], refl, refl)
 clock_none (suc moment) at dated (inl e) = absurd (omega (arith, e))

@@ -9,6 +9,7 @@ use Rattle.as4_effects.specs.declared.effect.Effect.{Effect}
 use Rattle.as4_effects.specs.declared.effect.Effect.TheVariants as effect
 use Rattle.as4_effects.specs.declared.effect.Tick.{Tick}
 use Rattle.as4_values.specs.declared.mode.Mode.{Mode}
+use Rattle.as4_values.specs.declared.moment.TheConstants.{MAX_MOMENT}
 use Rattle.exchange_model.specs.Apply.{after, applied, failed_if_spent, record_len}
 use Rattle.exchange_model.specs.Coming.{may_come}
 use Rattle.exchange_model.specs.End.{End}
@@ -209,7 +210,7 @@ rest_done end r outcome stands =
     (ap (λ (o : Outcome). applied o.effects end) (sym stands), ap (λ (o : Outcome). o.reply) (sym stands))
 
 -- what is planned for every tick to a moment, and can go, is ready
-pub tick_ready : (machine : Machine) (stamp : ℕ) (p : SmallPlan) → stamp ≤ 253402300799999
+pub tick_ready : (machine : Machine) (stamp : ℕ) (p : SmallPlan) → stamp ≤ MAX_MOMENT
     → ((event : Event) → event.what ≡ what.Tick → event.stamp ≡ stamp → PlansFor machine event p) → CanGo machine.end p
     → IsSmallReady machine p
 unfolding may_come

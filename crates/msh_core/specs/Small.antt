@@ -1,6 +1,7 @@
 -- The plans that take no memory: those of a tick and of a confirmation.
 use Rattle.std.specs.Prelude.{◌≡◌, ◌+◌, ◌<◌, ◌≤◌, [], ◌∷◌, length}
 use Rattle.std.specs.List.{count_by}
+use Rattle.as4_values.specs.declared.moment.TheConstants.{MAX_MOMENT}
 use Rattle.as4_effects.specs.declared.effect.Effect.TheVariants as effect
 use Rattle.as4_effects.specs.declared.effect.Tick.{Tick}
 use Rattle.exchange_model.specs.End.{End}
@@ -30,7 +31,7 @@ PlansFor machine event p =
 -- the plan can be carried out; its record has 20 bytes
 abbrev pub CanGo : End → SmallPlan → Type 0
 CanGo end (plan.Tick moment) =
-    (end.moment < moment) × (moment ≤ 253402300799999) × (end.size + 20 ≤ journal_limit)
+    (end.moment < moment) × (moment ≤ MAX_MOMENT) × (end.size + 20 ≤ journal_limit)
 CanGo end (plan.Confirm upto) =
     (end.confirmed ≤ upto) × (upto < length end.inbox) × (end.size + 20 ≤ journal_limit)
 CanGo end (plan.Rest r) = Unit {0}

@@ -6,6 +6,7 @@ use crate::disks::{
 };
 use crate::steps::{AT_1000, AT_2000, FAILED, STOPPED, Said, Step, Steps};
 use as4_disk::{MemoryDisk, Part};
+use as4_values::Severity;
 use std::alloc::Global;
 
 /// What a disk has.
@@ -31,6 +32,14 @@ const TWO: Steps = &[
     (Step::Checkpoint, Said::Count(9)),
     (Step::Tick(1000), Said::Ticked(0)),
     (Step::Tick(2000), Said::Ticked(0)),
+    (Step::Seen, Said::Count(2)),
+];
+
+/// Nothing waits in the channel: the answer warns. There is no other channel. Neither is written to the journal.
+const PULLS: Steps = &[
+    (Step::Stop(0), Said::Done),
+    (Step::Pulled(b"c"), Said::Error(Severity::Warning)),
+    (Step::Pulled(b"x"), Said::Error(Severity::Failure)),
     (Step::Seen, Said::Count(2)),
 ];
 
@@ -102,7 +111,7 @@ const GONE: Steps = &[
     (Step::Read(1), Said::NoEntry),
 ];
 
-static CASES: [Case; 10] = [
+static CASES: [Case; 11] = [
     Case {
         what: "a new office",
         store: EMPTY,
@@ -119,6 +128,14 @@ static CASES: [Case; 10] = [
         store: [b"", b"777777777", b""],
         failing: &[],
         steps: &[(Step::Checkpoint, Said::Count(9))],
+        left: Left::Has(b"", &NEW_LEAF),
+        again: &[(Step::Checkpoint, Said::Count(9))],
+    },
+    Case {
+        what: "pull requests that give nothing",
+        store: EMPTY,
+        failing: &[],
+        steps: PULLS,
         left: Left::Has(b"", &NEW_LEAF),
         again: &[(Step::Checkpoint, Said::Count(9))],
     },

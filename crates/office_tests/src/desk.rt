@@ -3,9 +3,10 @@ ghost use Rattle.std.specs.Prelude.{◌≡◌, ◌^◌, IfOk};
 
 use crate::said::{summary, told};
 use crate::steps::{FAILED, Said, Step, Steps};
+use as4_codes::pull_request;
 use as4_disk::{MemoryDisk, Pick};
 use as4_effects::Delivery;
-use as4_values::Message;
+use as4_values::{Message, Text};
 use exchange_model::{Event, What};
 use made_messages::delivery;
 use office::{Call, Office, OfficeFault};
@@ -13,14 +14,25 @@ use pass_book::Pass;
 use pmodes::Modes;
 use std::alloc::Global;
 
-/// The mode of the one message.
-const MODE: &[u8] = b"[[mode]]
+/// The mode of the one message, and one by which the channel `c` is pulled.
+const MODES: &[u8] = b"[[mode]]
 name = \"m\"
 from = { role = \"r\", party = [ { id = \"a\" } ] }
 to = { role = \"r\", party = [ { id = \"b\" } ] }
 service = \"s\"
 action = \"act\"
 push = \"http://h/\"
+retries = 3
+period = 60000
+
+[[mode]]
+name = \"p\"
+from = { role = \"r\", party = [ { id = \"a\" } ] }
+to = { role = \"r\", party = [ { id = \"b\" } ] }
+service = \"s\"
+action = \"pulled\"
+pull = \"c\"
+address = \"http://h/\"
 retries = 3
 period = 60000
 ";
@@ -36,7 +48,7 @@ pub(crate) fn opened<'a>(
     ensures book { IfOk result (λ o. o.1.book ≡ o.0.book) }
     ensures stake { IfOk result (λ o. o.1.stake ≡ 2 ^ 63) }
 {
-    match Modes::read(alloc, MODE) {
+    match Modes::read(alloc, MODES) {
         Ok(modes) => Office::open(alloc, disk, modes),
         Err(_) => Err((OfficeFault::NoMemory, disk)),
     }
@@ -175,6 +187,7 @@ pub(crate) fn does(
         Step::Tick(moment) => ticks(office, pass, moment),
         Step::Came => comes(alloc, office, pass),
         Step::CameInTwo => comes_in_two(alloc, office, pass),
+        Step::Pulled(channel) => is_pulled(alloc, office, pass, channel),
         Step::Read(n) => told(office.step(pass, reading(n))),
         Step::Confirm(upto) => told(office.confirm(pass, upto)),
         Step::Checkpoint => match office.checkpoint(pass) {
@@ -217,6 +230,22 @@ fn comes(alloc: Global, office: &mut Office<'_, MemoryDisk>, pass: &mut Pass<'_,
     }
 }
 
+fn is_pulled(
+    alloc: Global,
+    office: &mut Office<'_, MemoryDisk>,
+    pass: &mut Pass<'_, Call>,
+    channel: &[u8],
+) -> Said
+    requires book { pass.old.book ≡ office.old.book }
+    ensures office { office.new.book ≡ office.old.book }
+    ensures pass { pass.new.book ≡ pass.old.book }
+{
+    match pulling(alloc, channel) {
+        Some(event) => told(office.step(pass, event)),
+        None => Said::Other,
+    }
+}
+
 /// The step is prepared and then made. Where another reply is made than was prepared, it says neither.
 fn comes_in_two(
     alloc: Global,
@@ -251,6 +280,18 @@ fn coming(alloc: Global) -> Option<Event> {
         stamp: 0,
         nonce: 7,
         what: What::Came(Message::User { header, payloads }),
+    })
+}
+
+/// A pull request for this channel comes.
+#[tactic(auto, unfolding(exchange_model::specs::Coming::may_come, exchange_model::specs::Coming::is_deliverable))]
+fn pulling(alloc: Global, channel: &[u8]) -> Option<Event> {
+    let mpc = Text::read(alloc, channel).ok()?;
+    let signal = pull_request(alloc, &mpc, 0, 1).ok()?;
+    Some(Event {
+        stamp: 0,
+        nonce: 2,
+        what: What::Came(Message::Signal(signal)),
     })
 }
 

@@ -32,6 +32,10 @@ pub(crate) fn summary(reply: &Reply) -> Said {
 fn summary_of(signal: &Signal) -> Said {
     match &signal.body {
         SignalBody::Receipt { .. } => Said::Receipt,
-        _ => Said::Other,
+        SignalBody::Errors { items } => match items.items() {
+            [item] => Said::Error(item.severity),
+            _ => Said::Other,
+        },
+        SignalBody::Pull { .. } => Said::Other,
     }
 }

@@ -1,4 +1,5 @@
 //! What happens to an office, and what it says.
+use as4_values::Severity;
 use office::OfficeFault;
 
 /// What is done with an office and a pass.
@@ -9,6 +10,8 @@ pub(crate) enum Step {
     Came,
     /// The same, prepared first and then made.
     CameInTwo,
+    /// A pull request for this channel comes.
+    Pulled(&'static [u8]),
     Read(u64),
     Confirm(u64),
     Checkpoint,
@@ -29,6 +32,8 @@ pub(crate) enum Step {
 pub(crate) enum Said {
     Ticked(u64),
     Receipt,
+    /// A signal of one error.
+    Error(Severity),
     Entry,
     NoEntry,
     Gone,

@@ -11,6 +11,7 @@ use Rattle.as4_values.specs.declared.message.Pair.{Pair}
 use Rattle.as4_values.specs.declared.signal.Signal.{Signal}
 use Rattle.as4_values.specs.declared.signal_body.SignalBody.{SignalBody}
 use Rattle.as4_values.specs.declared.signal_body.SignalBody.TheVariants as body
+use Rattle.as4_values.specs.declared.moment.TheConstants.{MAX_MOMENT}
 use Rattle.as4_codes.specs.ErrorCodes.{ErrorRow, error_row, error_item}
 use Rattle.as4_codes.specs.Signals.{IsReceiptOf, IsErrorSignalOf, IsPullOf, IsPairOf, next_nonce}
 use Rattle.outcome_laws.proofs.SomeStamp.{some_stamp}
@@ -75,14 +76,14 @@ one_pair header mpc ms nonce a b h k =
         a.receipted a.asked
 
 -- and there is one
-pub some_receipt : (header : UserHeader) (ms nonce : ℕ) → ms ≤ 253402300799999 → (signal : Signal) × IsReceiptOf header ms nonce signal
+pub some_receipt : (header : UserHeader) (ms nonce : ℕ) → ms ≤ MAX_MOMENT → (signal : Signal) × IsReceiptOf header ms nonce signal
 some_receipt header ms nonce dated =
     let stamp = some_stamp ms dated in (
       record { stamp = stamp.0; id = signal_id nonce; ref_to = Some header.id; body = body.Receipt (Some header); whole = refl },
       record { stamped = stamp.1; named = refl; refers = refl; copies = refl },
     )
 
-pub some_error : (code : ℕ) (row : ErrorRow) (about : Option (List ℕ)) (ms nonce : ℕ) → error_row code ≡ Some row → ms ≤ 253402300799999
+pub some_error : (code : ℕ) (row : ErrorRow) (about : Option (List ℕ)) (ms nonce : ℕ) → error_row code ≡ Some row → ms ≤ MAX_MOMENT
     → (signal : Signal) × IsErrorSignalOf code about ms nonce signal
 some_error code row about ms nonce found dated =
     let stamp = some_stamp ms dated in (
@@ -90,14 +91,14 @@ some_error code row about ms nonce found dated =
       record { stamped = stamp.1; named = refl; refers = refl; tells = ap (option_map (λ r. body.Errors (error_item r about ∷ []))) found },
     )
 
-pub some_pull : (mpc : List ℕ) (ms nonce : ℕ) → ms ≤ 253402300799999 → (signal : Signal) × IsPullOf mpc ms nonce signal
+pub some_pull : (mpc : List ℕ) (ms nonce : ℕ) → ms ≤ MAX_MOMENT → (signal : Signal) × IsPullOf mpc ms nonce signal
 some_pull mpc ms nonce dated =
     let stamp = some_stamp ms dated in (
       record { stamp = stamp.0; id = signal_id nonce; ref_to = None; body = body.Pull mpc; whole = refl },
       record { stamped = stamp.1; named = refl; refers = refl; asks = refl },
     )
 
-pub some_pair : (header : UserHeader) (mpc : List ℕ) (ms nonce : ℕ) → ms ≤ 253402300799999 → (pair : Pair) × IsPairOf header mpc ms nonce pair
+pub some_pair : (header : UserHeader) (mpc : List ℕ) (ms nonce : ℕ) → ms ≤ MAX_MOMENT → (pair : Pair) × IsPairOf header mpc ms nonce pair
 some_pair header mpc ms nonce dated =
     let receipt = some_receipt header ms (next_nonce nonce) dated in
     let pull = some_pull mpc ms nonce dated in (

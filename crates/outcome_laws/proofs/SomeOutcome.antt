@@ -24,6 +24,7 @@ use Rattle.as4_values.specs.declared.route.Route.TheVariants as route
 use Rattle.as4_values.specs.declared.signal.Signal.{Signal}
 use Rattle.as4_values.specs.declared.signal_body.SignalBody.{SignalBody}
 use Rattle.as4_values.specs.declared.signal_body.SignalBody.TheVariants as body
+use Rattle.as4_values.specs.declared.moment.TheConstants.{MAX_MOMENT}
 use Rattle.exchange_model.specs.Alone.{end_after}
 use Rattle.exchange_model.specs.Apply.{after, after_all, applied}
 use Rattle.exchange_model.specs.Coming.{is_deliverable, may_come}
@@ -91,7 +92,7 @@ below n e = grind (arith, nat_tests)
 
 -- Submit
 submits : (modes : List Mode) (end : End) (event : Event) (name : List ℕ) (conversation : Option (List ℕ)) (loads : List Load)
-    → IsTyped event → HasTexts (what.Submit name conversation loads) → end.moment ≤ 253402300799999
+    → IsTyped event → HasTexts (what.Submit name conversation loads) → end.moment ≤ MAX_MOMENT
     → Some_ (Submits modes end event name conversation loads)
 unfolding Submits
 submits modes end event name conversation loads held texts dated =
@@ -209,7 +210,7 @@ confirms end upto =
 
 -- by the rows of the event
 some_row : (modes : List Mode) (end : End) (event : Event) (w : What) → IsTyped event → HasTexts w → may_come w ≡ true
-    → end.moment ≤ 253402300799999 → Some_ (RowOf modes end event w)
+    → end.moment ≤ MAX_MOMENT → Some_ (RowOf modes end event w)
 some_row modes end event (what.Submit mode conversation loads) held texts may dated = submits modes end event mode conversation loads held texts dated
 some_row modes end event what.Tick held texts may dated = ticks end event
 some_row modes end event what.Take held texts may dated = takes end
@@ -220,7 +221,7 @@ some_row modes end event (what.Read n) held texts may dated = rests _
 some_row modes end event (what.Confirm upto) held texts may dated = confirms end upto
 some_row modes end event (what.Status id) held texts may dated = rests _
 
-pub some_outcome : (modes : List Mode) (end : End) (event : Event) → IsTyped event → end.moment ≤ 253402300799999
+pub some_outcome : (modes : List Mode) (end : End) (event : Event) → IsTyped event → end.moment ≤ MAX_MOMENT
     → (outcome : Outcome) × Step modes end event outcome
 some_outcome modes end event held dated =
     let row = some_row modes end event event.what held held.texts event.deliverable dated in
@@ -229,7 +230,7 @@ some_outcome modes end event held dated =
     (limited.0, record { row = row.0; decided = row.1; limited = limited.1 })
 
 -- the clock stays within its range
-after_one : (e : Effect) (end : End) → end.moment ≤ 253402300799999 → (after e end).moment ≤ 253402300799999
+after_one : (e : Effect) (end : End) → end.moment ≤ MAX_MOMENT → (after e end).moment ≤ MAX_MOMENT
 unfolding after
 after_one (effect.Submitted submission) end dated = dated
 after_one (effect.Ticked tick) end dated = tick.dated
@@ -241,16 +242,16 @@ after_one (effect.Confirmed upto) end dated = dated
 after_one (effect.Carried carried) end dated = dated
 after_one (effect.Kept kept) end dated = dated
 
-after_some : (effects : List Effect) (end : End) → end.moment ≤ 253402300799999 → (after_all effects end).moment ≤ 253402300799999
+after_some : (effects : List Effect) (end : End) → end.moment ≤ MAX_MOMENT → (after_all effects end).moment ≤ MAX_MOMENT
 after_some [] end dated = dated
 after_some (e ∷ effects) end dated = after_some effects (after e end) (after_one e end dated)
 
-after_applied : (effects : List Effect) (end : End) → end.moment ≤ 253402300799999 → (applied effects end).moment ≤ 253402300799999
+after_applied : (effects : List Effect) (end : End) → end.moment ≤ MAX_MOMENT → (applied effects end).moment ≤ MAX_MOMENT
 unfolding applied
 after_applied [] end dated = dated
 after_applied (e ∷ effects) end dated = after_some (e ∷ effects) end dated
 
-pub dated_after : (all : List Happening) (end : End) → end.moment ≤ 253402300799999 → (end_after all end).moment ≤ 253402300799999
+pub dated_after : (all : List Happening) (end : End) → end.moment ≤ MAX_MOMENT → (end_after all end).moment ≤ MAX_MOMENT
 dated_after [] end dated = dated
 dated_after (Does act ∷ later) end dated = dated_after later (applied act.outcome.effects end) (after_applied act.outcome.effects end dated)
 dated_after (Folds side size ∷ later) end dated = dated_after later (resized size end) dated

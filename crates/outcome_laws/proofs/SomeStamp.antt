@@ -9,6 +9,7 @@ use Rattle.jiff_core.proofs.DateLemmas.{days_from_civil-day, days_from_civil-nex
 use Rattle.jiff_core.proofs.StandardFacts.{known_days}
 use Rattle.as4_values.specs.Moment.{IsStampOf, stamp_of}
 use Rattle.as4_values.proofs.MomentLemmas.{date_from, civil_at, stamp_is_of}
+use Rattle.as4_values.specs.declared.moment.TheConstants.{MAX_MOMENT}
 
 -- a date since 1970 has this day number
 pub record IsDay (n y m d : ℕ) : Type 0 where
@@ -93,7 +94,7 @@ days zero few = first_day
 days (suc n) few = let day = days n (omega arith) in next_day n day.0 day.1 day.2 (omega arith) day.3
 
 -- up to the end of the year 9999
-pub some_stamp : (ms : ℕ) → ms ≤ 253402300799999 → (stamp : List ℕ) × IsStampOf ms stamp
+pub some_stamp : (ms : ℕ) → ms ≤ MAX_MOMENT → (stamp : List ℕ) × IsStampOf ms stamp
 unfolding date_from
 some_stamp ms dated =
     let day = days (ms / 86400000) (omega arith) in

@@ -13,6 +13,7 @@ use Rattle.as4_values.specs.declared.header.UserHeader.{UserHeader}
 use Rattle.as4_values.specs.declared.mode.Mode.{Mode}
 use Rattle.as4_values.specs.declared.payload.Load.{Load}
 use Rattle.as4_values.specs.declared.payload.Payload.{Payload}
+use Rattle.as4_values.specs.declared.moment.TheConstants.{MAX_MOMENT}
 use Rattle.exchange_model.specs.Submitting.{IsHeaderOf, ArePayloadsOf, IsSubmissionOf, are_too_large, channel_of, cids_of}
 use Rattle.submissions.specs.Names.{IsStem, cid_at}
 use Rattle.submissions.proofs.LimitLemmas.{are_small}
@@ -90,7 +91,7 @@ header_with mode id stamp conversation parts few = record {
 }
 
 pub some_submission : (mode : Mode) (number now ms nonce : ℕ) (conversation : Option (List ℕ)) (loads : List Load) → number < 1048576
-    → now ≤ 253402300799999 → ms ≤ 253402300799999 → nonce < 2 ^ 128 → IfSome conversation (λ text. length text ≤ 65536)
+    → now ≤ MAX_MOMENT → ms ≤ MAX_MOMENT → nonce < 2 ^ 128 → IfSome conversation (λ text. length text ≤ 65536)
     → are_too_large loads ≡ false → (s : Submission) × IsSubmissionOf mode number now ms nonce conversation loads s
 unfolding cids_of cid_at
 some_submission mode number now ms nonce conversation loads below dated stamped fits talks small_enough = (

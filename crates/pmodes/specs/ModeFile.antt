@@ -10,7 +10,7 @@ use Rattle.pmodes.specs.Values.{name_of, number_of}
 use Rattle.pmodes.specs.Verdicts.{and_then, in_range, needed, needed_text}
 use Rattle.pmodes.specs.declared.fault.Fault.{Fault}
 use Rattle.pmodes.specs.declared.fault.Fault.TheVariants as fault
-use Rattle.pmodes.specs.declared.parts.Ends.{Ends}
+use Rattle.pmodes.specs.declared.parts.Partners.{Partners}
 use Rattle.pmodes.specs.declared.parts.Business.{Business}
 use Rattle.pmodes.specs.declared.parts.Sending.{Sending}
 use Rattle.pmodes.specs.declared.refusal.Key.TheVariants as key
@@ -18,17 +18,17 @@ use Rattle.pmodes.specs.declared.refusal.ModeRefusal.{ModeRefusal}
 use Rattle.pmodes.specs.declared.refusal.ModeRefusal.TheVariants as refusal
 
 -- a name and two sides, without the facts that their types keep
-pub record EndFields : Type 0 where
+pub record PartnerFields : Type 0 where
   pub name : List ℕ
   pub from : SideFields
   pub to : SideFields
 
-abbrev pub end_fields : Ends → EndFields
-end_fields ends = record { name = ends.name; from = side_fields ends.from; to = side_fields ends.to }
+abbrev pub partner_fields : Partners → PartnerFields
+partner_fields partners = record { name = partners.name; from = side_fields partners.from; to = side_fields partners.to }
 
 -- `name`, `from`, `to`
-unfoldable pub ends_in : Members → Result EndFields Fault
-ends_in t =
+unfoldable pub partners_in : Members → Result PartnerFields Fault
+partners_in t =
     and_then (needed key.Name name_of (get_member (codes "name") t)) (λ name.
     and_then (side_in key.From (get_member (codes "from") t)) (λ from.
     and_then (side_in key.To (get_member (codes "to") t)) (λ to.
@@ -54,13 +54,13 @@ sending_in t =
 -- the mode of a table: all keys in order
 unfoldable pub mode_in : Members → Result ModeFields Fault
 mode_in t =
-    and_then (ends_in t) (λ ends.
+    and_then (partners_in t) (λ partners.
     and_then (business_in t) (λ business.
     and_then (sending_in t) (λ sending.
     Ok (record {
-      name = ends.name;
-      from = ends.from;
-      to = ends.to;
+      name = partners.name;
+      from = partners.from;
+      to = partners.to;
       service = business.service;
       action = business.action;
       agreement = business.agreement;

@@ -2,7 +2,7 @@ use as4_values::{Agreement, Route, Service, Side, Text};
 
 /// Who exchanges messages in a mode.
 #[derive(Drop)]
-pub struct Ends {
+pub struct Partners {
     pub name: Text,
     pub from: Side,
     pub to: Side,

@@ -5,7 +5,7 @@ ghost use Rattle.toml.specs.Data.{get_member};
 ghost use Rattle.toml.specs.View.{view, table_view};
 ghost use Rattle.as4_values.specs.ModeFields.{mode_fields};
 ghost use Rattle.as4_values.specs.ModeRanges.{is_mode_name, is_short, is_short_side, is_short_service, is_mode_agreement, is_mode_route, may_collect, IsRetries, IsPeriod};
-ghost use Rattle.pmodes.specs.ModeFile.{end_fields, ends_in, business_in, sending_in, mode_in, mode_of_item, modes_from, listed_in, at_place};
+ghost use Rattle.pmodes.specs.ModeFile.{partner_fields, partners_in, business_in, sending_in, mode_in, mode_of_item, modes_from, listed_in, at_place};
 ghost use Rattle.pmodes.specs.Values.{name_of};
 ghost use Rattle.pmodes.specs.Verdicts.{needed, Refuses};
 
@@ -13,7 +13,7 @@ use crate::business::{agreement_in, service_in};
 use crate::fault::Fault;
 use crate::fields::needed_text;
 use crate::modes::MAX_MODES;
-use crate::parts::{Business, Ends, Sending};
+use crate::parts::{Business, Partners, Sending};
 use crate::refusal::{Key, ModeRefusal};
 use crate::sending::{collect_in, number_in, route_in};
 use crate::sides::{array_of_tables, side_in};
@@ -28,11 +28,11 @@ pub fn mode_in(alloc: Global, table: &Table) -> Result<Mode, Fault>
     ensures found { IfOk result (λ mode. mode_in (table_view table.now) ≡ Ok (mode_fields mode)) }
     ensures refused { IfErr result (Refuses (mode_in (table_view table.now))) }
 {
-    let ends = ends_in(alloc, table)?;
+    let partners = partners_in(alloc, table)?;
     match business_in(alloc, table) {
         Ok(business) => match sending_in(alloc, table) {
             Ok(sending) => {
-                let Ends { name, from, to } = ends;
+                let Partners { name, from, to } = partners;
                 let Business {
                     service,
                     action,
@@ -59,29 +59,29 @@ pub fn mode_in(alloc: Global, table: &Table) -> Result<Mode, Fault>
             }
             Err(fault) => {
                 drop(business);
-                drop(ends);
+                drop(partners);
                 Err(fault)
             }
         },
         Err(fault) => {
-            drop(ends);
+            drop(partners);
             Err(fault)
         }
     }
 }
 
-#[tactic(auto, unfolding(crate::specs::ModeFile::ends_in))]
-fn ends_in(alloc: Global, table: &Table) -> Result<Ends, Fault>
-    ensures found { IfOk result (λ ends. ends_in (table_view table.now) ≡ Ok (end_fields ends)) }
-    ensures refused { IfErr result (Refuses (ends_in (table_view table.now))) }
-    ensures named { IfOk result (λ ends. IsTrue (is_mode_name ends.name)) }
-    ensures from_short { IfOk result (λ ends. IsTrue (is_short_side ends.from.parties ends.from.role)) }
-    ensures to_short { IfOk result (λ ends. IsTrue (is_short_side ends.to.parties ends.to.role)) }
+#[tactic(auto, unfolding(crate::specs::ModeFile::partners_in))]
+fn partners_in(alloc: Global, table: &Table) -> Result<Partners, Fault>
+    ensures found { IfOk result (λ partners. partners_in (table_view table.now) ≡ Ok (partner_fields partners)) }
+    ensures refused { IfErr result (Refuses (partners_in (table_view table.now))) }
+    ensures named { IfOk result (λ partners. IsTrue (is_mode_name partners.name)) }
+    ensures from_short { IfOk result (λ partners. IsTrue (is_short_side partners.from.parties partners.from.role)) }
+    ensures to_short { IfOk result (λ partners. IsTrue (is_short_side partners.to.parties partners.to.role)) }
 {
     let name = name_in(alloc, table)?;
     match side_in(alloc, table, "from", Key::From) {
         Ok(from) => match side_in(alloc, table, "to", Key::To) {
-            Ok(to) => Ok(Ends { name, from, to }),
+            Ok(to) => Ok(Partners { name, from, to }),
             Err(fault) => {
                 drop(from);
                 drop(name);

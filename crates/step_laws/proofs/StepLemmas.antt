@@ -239,4 +239,4 @@ leads_on [] end reached may = reached
 leads_on (Does act ∷ later) end reached may =
     leads_on later (applied act.outcome.effects end)
     (reached_applied end act.outcome.effects reached (step_fits act.modes end act.event act.outcome reached may.0)) may.1
-leads_on (Folds side size ∷ later) end reached may = leads_on later (resized size end) (reached_resized end size reached) may.1
+leads_on (Folds site size ∷ later) end reached may = leads_on later (resized size end) (reached_resized end size reached) may.1

@@ -4,7 +4,7 @@ use crate::ended::{NOTHING_FAILS, end_so, ends, words_of};
 use as4_tool::{Command, HELP, LIMIT, MAX_COUNT, VERSION, command_of};
 use as4_values::{MAX_MOMENT, Seq};
 use drill::{MAX_EVENTS, MAX_LINES, MAX_MODES};
-use drill_script::{LINE_LIMIT, MAX_PERIOD, MAX_RETRIES, MAX_SIZE};
+use drill_script::{LINE_LIMIT, MAX_CALL, MAX_PERIOD, MAX_RETRIES, MAX_SIZE};
 use std::alloc::Global;
 use std::str;
 
@@ -181,7 +181,7 @@ fn the_help_has_each_line(rt: HostRuntime) {
 }
 
 /// What stands before a number in the help, the number, and what stands behind it.
-const NUMBERS: [(&str, u64, &str); 13] = [
+const NUMBERS: [(&str, u64, &str); 14] = [
     ("1970-01-01T00:00:00Z, 0 to ", MAX_MOMENT, "\n"),
     ("messages follow from: 0 to ", u64::MAX, ";"),
     ("script submits: 0 to ", MAX_COUNT, "\n"),
@@ -195,6 +195,7 @@ const NUMBERS: [(&str, u64, &str); 13] = [
     ("makes at most ", MAX_EVENTS, "\n"),
     ("6  more than ", MAX_EVENTS, " events"),
     ("NAME and MODE are 1 to ", 32, " of a to"),
+    ("its device call CALL, 1 to ", MAX_CALL, ", is\n"),
 ];
 
 /// The first of these numbers that the help hasn't in its place.

@@ -1,5 +1,6 @@
 use Rattle.std.proofs.Common.{[], ◌∷◌, arith}
 use Rattle.drill_script.specs.declared.line.Line.TheVariants as line
+use Rattle.drill_script.specs.declared.line.Stoppable.TheVariants as run
 use Rattle.drill.proofs.GeneratedLemmas.{came_right, came_said, came_short, carried_twice, lost_right, lost_said, lost_short}
 use Rattle.drill.proofs.SpendLemmas.{leads_events}
 use Rattle.drill.proofs.generated.carry.Goals as goal
@@ -24,7 +25,7 @@ play_one-requires-then-counter-eq4-clause-right c = lost_right c.args.end c.args
 
 pub play_one-requires-then-counter-eq4-clause-few : goal.play_one-requires-then-counter-eq4-clause-few
 play_one-requires-then-counter-eq4-clause-few c =
-    let more = leads_events (line.Came c.args.end c.args.place ∷ []) c.args.state.now c.play_one.new.state c.in_ok-play_one.ensures in
+    let more = leads_events (line.Run (run.Came c.args.end c.args.place) ∷ []) c.args.state.now c.play_one.new.state c.in_ok-play_one.ensures in
     omega (arith, more)
 
 pub returns-then-counter-eq4 : goal.returns-then-counter-eq4

@@ -1,7 +1,7 @@
 use Rattle.std.proofs.Common.{◌≡◌, ◌≤◌, List, Some, ap, ◌∙◌}
 use Rattle.exchange_model.specs.DeliveredOnce.{CameFrom, DeliversOnce}
 use Rattle.exchange_model.specs.Questions.{sent_of}
-use Rattle.exchange_model.specs.World.{Act, Party, Left, Right, acts_at, new_world, world_after}
+use Rattle.exchange_model.specs.World.{Act, Speaker, Left, Right, acts_at, new_world, world_after}
 use Rattle.exchange_model.specs.declared.inbox_entry.InboxEntry.{InboxEntry}
 use Rattle.exchange_model.specs.declared.sent.Sent.{Sent}
 use Rattle.exchange_model.proofs.ListLemmas.{Has}
@@ -10,11 +10,11 @@ use Rattle.exchange_laws.proofs.SentLemmas.{sent_of_own}
 use Rattle.exchange_laws.proofs.InboxLemmas.{ids, all_apart, count_one}
 use Rattle.exchange_laws.proofs.Accounts.{AreCounted}
 use Rattle.exchange_laws.proofs.TimesLemmas.{ids_apart}
-use Rattle.exchange_laws.proofs.SideLemmas.{counted_at}
-use Rattle.exchange_laws.proofs.WorldLemmas.{PartyHolds, Holds, world_holds, new_world_holds}
+use Rattle.exchange_laws.proofs.SiteLemmas.{counted_at}
+use Rattle.exchange_laws.proofs.WorldLemmas.{SpeakerHolds, Holds, world_holds, new_world_holds}
 use Rattle.exchange_laws.proofs.laws.messages_are_delivered_once.Goals as goal
 
-delivers_once : (acts : List Act) (sender receiver : Party) → AreCounted acts sender.end → PartyHolds sender → PartyHolds receiver
+delivers_once : (acts : List Act) (sender receiver : Speaker) → AreCounted acts sender.end → SpeakerHolds sender → SpeakerHolds receiver
     → Holds sender.end receiver.end → DeliversOnce acts sender.end receiver.end
 delivers_once acts sender receiver counted sends receives h = record {
   told_apart = all_apart _ (ids_apart 0 sender.end.sent counted.numbered);

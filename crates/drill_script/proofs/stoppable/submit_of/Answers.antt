@@ -2,7 +2,7 @@ use Rattle.std.proofs.Common.{◌≡◌, true, Some, ◌∙◌}
 use Rattle.drill_script.specs.Lacking.{spaced}
 use Rattle.drill_script.specs.LineText.{end_text, load_text, is_name}
 use Rattle.drill_script.proofs.SpellLemmas.{submit_spells, submit_spelled, submit_again}
-use Rattle.drill_script.proofs.reading.submit_of.Goals as goal
+use Rattle.drill_script.proofs.stoppable.submit_of.Goals as goal
 
 pub returns-in_default-name_and-clause-only : goal.returns-in_default-name_and-clause-only
 returns-in_default-name_and-clause-only c line spells =

@@ -1,0 +1,12 @@
+use Rattle.drill_script.proofs.SpellLemmas.{confirm_spelled, numbered_again}
+use Rattle.drill_script.proofs.stoppable.confirm_of.Goals as goal
+
+pub returns-in_err-end-clause-only : goal.returns-in_err-end-clause-only
+returns-in_err-end-clause-only c line spells =
+    let s = confirm_spelled c.args.tail.now line spells in
+    cc (c.in_err-end.ensures.only s.0 s.1 s.2.small s.2.tail_is)
+
+pub returns-clause-only : goal.returns-clause-only
+returns-clause-only c line spells =
+    let s = confirm_spelled c.args.tail.now line spells in
+    numbered_again _ c.args.tail.now line s.0 c.in_ok-end.end s.1 c.in_ok-end.number s.2 (c.in_ok-end.ensures.only s.0 s.1 s.2.small s.2.tail_is)

@@ -1,0 +1,109 @@
+//! A line that can be stopped, read from its bytes.
+ghost use Rattle.std.specs.Prelude.{◌≡◌, Some, IfOk, IfSome, IsErr, IsTrue};
+ghost use Rattle.drill_script.specs.LineText.{stoppable_text, is_stoppable};
+ghost use Rattle.drill_script.specs.LineParts.{IsKept, SpellsRun};
+ghost use Rattle.drill_script.specs.declared.line.Stoppable.{Stoppable};
+ghost use Rattle.drill_script.specs.declared.verb.RunVerb.TheVariants as run;
+ghost use Rattle.drill_script.specs.declared.verb.Verb.TheVariants.{Run};
+
+use crate::line::Stoppable;
+use crate::load::load_of;
+use crate::verb::{RunVerb, read_run_verb};
+use crate::words::{cut, end_and, end_and_number, end_of, name_and, octets_of};
+use as4_values::{MAX_MOMENT, NoMemory};
+use std::alloc::Global;
+
+/// Reads a line that can be stopped.
+pub(crate) fn stoppable_of(alloc: Global, bytes: &[u8]) -> Result<Option<Stoppable>, NoMemory>
+    ensures found { IfOk result (λ read. IfSome read (λ line. (bytes.now ≡ stoppable_text line) × IsTrue (is_stoppable line))) }
+    ensures only { (line : Stoppable) → bytes.now ≡ stoppable_text line → IsTrue (is_stoppable line)
+        → IfOk result (λ read. read ≡ Some line) }
+{
+    let Some((word, tail)) = cut(b' ', bytes) else {
+        return Ok(None);
+    };
+    let Some(verb) = read_run_verb(word) else {
+        return Ok(None);
+    };
+    run_of(alloc, verb, tail)
+}
+
+/// Reads what stands behind the first word of a line that can be stopped.
+pub(crate) fn run_of(
+    alloc: Global,
+    verb: RunVerb,
+    tail: &[u8],
+) -> Result<Option<Stoppable>, NoMemory>
+    ensures found { IfOk result (λ read. IfSome read (SpellsRun verb tail.now)) }
+    ensures only { (line : Stoppable) → SpellsRun verb tail.now line → IfOk result (λ read. read ≡ Some line) }
+    ensures lean { IsErr result → IsKept (Run verb) }
+{
+    match verb {
+        RunVerb::Submit => submit_of(alloc, tail),
+        RunVerb::Tick => Ok(tick_of(tail)),
+        RunVerb::Take => Ok(take_of(tail)),
+        RunVerb::Came => Ok(came_of(tail)),
+        RunVerb::Confirm => Ok(confirm_of(tail)),
+    }
+}
+
+// Reads a submission: its end, its mode and what it carries.
+fn submit_of(alloc: Global, tail: &[u8]) -> Result<Option<Stoppable>, NoMemory>
+    ensures found { IfOk result (λ read. IfSome read (SpellsRun run.Submit tail.now)) }
+    ensures only { (line : Stoppable) → SpellsRun run.Submit tail.now line → IfOk result (λ read. read ≡ Some line) }
+{
+    let Some((end, words)) = end_and(tail) else {
+        return Ok(None);
+    };
+    let Some((mode, word)) = name_and(words) else {
+        return Ok(None);
+    };
+    let Some(load) = load_of(alloc, word)? else {
+        return Ok(None);
+    };
+    let mode = octets_of(alloc, mode)?;
+    Ok(Some(Stoppable::Submit { end, mode, load }))
+}
+
+// Reads the end whose clock is set, and the moment.
+#[tactic(auto, using(crate::proofs::SpellLemmas::tick_spells))]
+fn tick_of(tail: &[u8]) -> Option<Stoppable>
+    ensures found { IfSome result (SpellsRun run.Tick tail.now) }
+    ensures only { (line : Stoppable) → SpellsRun run.Tick tail.now line → result ≡ Some line }
+{
+    let (end, moment) = end_and_number(tail)?;
+    if moment > MAX_MOMENT {
+        return None;
+    }
+    Some(Stoppable::Tick { end, moment })
+}
+
+// Reads the end that takes.
+#[tactic(auto, using(crate::proofs::SpellLemmas::take_spells))]
+fn take_of(tail: &[u8]) -> Option<Stoppable>
+    ensures found { IfSome result (SpellsRun run.Take tail.now) }
+    ensures only { (line : Stoppable) → SpellsRun run.Take tail.now line → result ≡ Some line }
+{
+    let end = end_of(tail)?;
+    Some(Stoppable::Take { end })
+}
+
+// Reads the end to which a package comes, and its number.
+#[tactic(auto, using(crate::proofs::SpellLemmas::came_spells))]
+fn came_of(tail: &[u8]) -> Option<Stoppable>
+    ensures found { IfSome result (SpellsRun run.Came tail.now) }
+    ensures only { (line : Stoppable) → SpellsRun run.Came tail.now line → result ≡ Some line }
+{
+    let (end, package) = end_and_number(tail)?;
+    Some(Stoppable::Came { end, package })
+}
+
+// Reads the end that takes messages over, and the number of the last.
+#[tactic(auto, using(crate::proofs::SpellLemmas::confirm_spells))]
+fn confirm_of(tail: &[u8]) -> Option<Stoppable>
+    ensures found { IfSome result (SpellsRun run.Confirm tail.now) }
+    ensures only { (line : Stoppable) → SpellsRun run.Confirm tail.now line → result ≡ Some line }
+{
+    let (end, number) = end_and_number(tail)?;
+    Some(Stoppable::Confirm { end, number })
+}

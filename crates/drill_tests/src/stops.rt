@@ -1,0 +1,313 @@
+//! What no clause says: that memory suffices. Power that fails in a line, and between two; journals that are folded.
+use crate::drills::{plays, plays_made};
+use drill::DrillEnd;
+use std::alloc::{AllocError, Global};
+
+/// A line that is stopped: what the script has before it, and what that writes; the line, and what is written of its
+/// stop; what the script has behind it, and what that writes where the step of the line is gone, and where it stands.
+struct Stop {
+    front: &'static [u8],
+    front_text: &'static [u8],
+    line: &'static [u8],
+    stop_text: &'static [u8],
+    back: &'static [u8],
+    gone: &'static [u8],
+    stands: &'static [u8],
+}
+
+/// One of each kind of line that can be stopped.
+const STOPS: [Stop; 5] = [
+    Stop {
+        front: b"mode m push 3 1000\n",
+        front_text: b"",
+        line: b"submit a m hex=61\n",
+        stop_text: b"a reopened\n",
+        back: b"status a 0\ntake a\n",
+        gone: b"a status 0 unknown
+a nothing
+a end 0 0 0 0 0
+b end 0 0 0 0 0
+",
+        stands: b"a status 0 pending 0
+a sent 0 user 0.00000000-0000-0000-0000-000000000000@as4
+a end 1 0 0 0 0
+b end 0 0 0 0 0
+",
+    },
+    Stop {
+        front: b"mode m push 0 1000\nsubmit a m hex=61\ntake a\n",
+        front_text: b"a submitted 0 0.00000000-0000-0000-0000-000000000000@as4
+a sent 0 user 0.00000000-0000-0000-0000-000000000000@as4
+",
+        line: b"tick a 1000\n",
+        stop_text: b"a reopened\n",
+        back: b"status a 0\n",
+        gone: b"a status 0 pending 1
+a end 1 0 0 0 0
+b end 0 0 0 0 0
+",
+        stands: b"a status 0 failed EBMS:0301
+a end 1 0 1 0 0
+b end 0 0 0 0 0
+",
+    },
+    Stop {
+        front: b"mode m push 3 1000\nsubmit a m hex=61\n",
+        front_text: b"a submitted 0 0.00000000-0000-0000-0000-000000000000@as4\n",
+        line: b"take a\n",
+        stop_text: b"a reopened\n",
+        back: b"status a 0\ncame b 0\n",
+        gone: b"a status 0 pending 0
+b no-package
+a end 1 0 0 0 0
+b end 0 0 0 0 0
+",
+        stands: b"a status 0 pending 1
+b no-package
+a end 1 0 0 0 0
+b end 0 0 0 0 0
+",
+    },
+    Stop {
+        front: b"mode m push 3 1000\nsubmit a m hex=61\ntake a\n",
+        front_text: b"a submitted 0 0.00000000-0000-0000-0000-000000000000@as4
+a sent 0 user 0.00000000-0000-0000-0000-000000000000@as4
+",
+        line: b"came b 0\n",
+        stop_text: b"b reopened\n",
+        back: b"read b 0\ncame b 0\n",
+        gone: b"b no-entry
+b sent 0 receipt 0.00000000-0000-0000-0000-000000000000@as4
+a end 1 0 0 0 0
+b end 0 0 0 0 1
+",
+        stands: b"b entry 0 0.00000000-0000-0000-0000-000000000000@as4 1 1
+b sent 0 receipt 0.00000000-0000-0000-0000-000000000000@as4
+a end 1 0 0 0 0
+b end 0 0 0 0 1
+",
+    },
+    Stop {
+        front: b"mode m push 3 1000\nsubmit a m hex=61\ntake a\ncame b 0\n",
+        front_text: b"a submitted 0 0.00000000-0000-0000-0000-000000000000@as4
+a sent 0 user 0.00000000-0000-0000-0000-000000000000@as4
+b sent 0 receipt 0.00000000-0000-0000-0000-000000000000@as4
+",
+        line: b"confirm b 0\n",
+        stop_text: b"b reopened\n",
+        back: b"read b 0\n",
+        gone: b"b entry 0 0.00000000-0000-0000-0000-000000000000@as4 1 1
+a end 1 0 0 0 0
+b end 0 0 0 0 1
+",
+        stands: b"b gone
+a end 1 0 0 0 0
+b end 0 0 0 0 1
+",
+    },
+];
+
+/// A device call and an image of the disk, as a script spells them, and whether the step of a line that is stopped there
+/// stands.
+const PLACES: [(&[u8], bool); 12] = [
+    (b"1 old ", false),
+    (b"1 new ", false),
+    (b"1 other ", false),
+    (b"2 old ", false),
+    (b"2 new ", false),
+    (b"2 other ", false),
+    (b"3 old ", false),
+    (b"3 new ", true),
+    (b"3 other ", false),
+    (b"4 old ", false),
+    (b"4 new ", true),
+    (b"4 other ", false),
+];
+
+fn joined(alloc: Global, pieces: &[&[u8]]) -> Result<Vec<u8>, AllocError> {
+    let mut bytes = Vec::new(alloc);
+    match put_all(&mut bytes, pieces) {
+        Ok(()) => Ok(bytes),
+        Err(error) => {
+            drop(bytes);
+            Err(error)
+        }
+    }
+}
+
+fn put_all(bytes: &mut Vec<u8>, pieces: &[&[u8]]) -> Result<(), AllocError> {
+    for piece in pieces {
+        bytes.extend_from_slice(piece)?;
+    }
+    Ok(())
+}
+
+fn stops_so(alloc: Global, stop: &Stop, place: &[u8], stands: bool) -> bool {
+    let left = if stands { stop.stands } else { stop.gone };
+    plays_made(
+        alloc,
+        joined(alloc, &[stop.front, b"stop ", place, stop.line, stop.back]),
+        DrillEnd::Read,
+        joined(alloc, &[stop.front_text, stop.stop_text, left]),
+    )
+}
+
+/// The first place at which the line isn't stopped so.
+fn first_other_place(alloc: Global, stop: &Stop) -> Option<usize> {
+    for (number, (place, stands)) in PLACES.iter().enumerate() {
+        if !stops_so(alloc, stop, place, *stands) {
+            return Some(number);
+        }
+    }
+    None
+}
+
+fn first_other(alloc: Global) -> Option<(usize, usize)> {
+    for (row, stop) in STOPS.iter().enumerate() {
+        if let Some(place) = first_other_place(alloc, stop) {
+            return Some((row, place));
+        }
+    }
+    None
+}
+
+/// A step stands where its record was whole and is left: one of the last two calls came to the disk, and all of it is
+/// opened again.
+#[test]
+fn each_line_is_stopped_at_each_call(rt: HostRuntime) {
+    assert_eq!(rt; first_other(rt.alloc()), None);
+}
+
+const NOTHING_TO_WRITE: &[u8] = b"mode m push 3 1000
+stop 1 old take a
+stop 4 new tick a 0
+stop 2 other confirm b 0
+stop 1 new came b 0
+stop 3 old submit a n hex=61
+submit a m hex=61
+";
+
+const NOTHING_TO_WRITE_TEXT: &[u8] = b"a reopened
+a reopened
+b reopened
+b no-package
+a reopened
+a submitted 0 0.00000000-0000-0000-0000-000000000004@as4
+a end 1 0 0 0 0
+b end 0 0 0 0 0
+";
+
+/// A line that writes nothing to the disk ends before its power fails. Each makes an event, but for one whose package
+/// isn't there: that is told, and nothing is stopped.
+#[test]
+fn a_line_that_writes_nothing_is_stopped_behind_it(rt: HostRuntime) {
+    assert!(rt; plays(rt.alloc(), NOTHING_TO_WRITE, DrillEnd::Read, NOTHING_TO_WRITE_TEXT));
+}
+
+const CRASHES: &[u8] = b"crash b
+mode m push 3 1000
+";
+
+/// Power that fails is more than a mode.
+#[test]
+fn modes_come_before_a_crash(rt: HostRuntime) {
+    let end = DrillEnd::Line { number: 2 };
+    assert!(rt; plays(rt.alloc(), CRASHES, end, b"b reopened\n"));
+}
+
+const BOTH_CRASH: &[u8] = b"mode m push 3 1000
+submit a m hex=68656c6c6f
+crash a
+take a
+crash a
+crash b
+came b 0
+crash b
+came a 0
+crash a
+status a 0
+read b 0
+confirm b 0
+crash b
+read b 0
+came b 0
+";
+
+const BOTH_CRASH_TEXT: &[u8] = b"a submitted 0 0.00000000-0000-0000-0000-000000000000@as4
+a reopened
+a sent 0 user 0.00000000-0000-0000-0000-000000000000@as4
+a reopened
+b reopened
+b sent 0 receipt 0.00000000-0000-0000-0000-000000000000@as4
+b reopened
+a quiet
+a reopened
+a status 0 receipted
+b entry 0 0.00000000-0000-0000-0000-000000000000@as4 1 5
+b confirmed 0
+b reopened
+b gone
+b sent 1 receipt 0.00000000-0000-0000-0000-000000000000@as4
+a end 1 1 0 0 0
+b end 0 0 0 0 1
+";
+
+/// What was answered stands, whichever power fails between two lines.
+#[test]
+fn a_crash_takes_nothing_back(rt: HostRuntime) {
+    assert!(rt; plays(rt.alloc(), BOTH_CRASH, DrillEnd::Read, BOTH_CRASH_TEXT));
+}
+
+const FOLDS: &[u8] = b"mode m push 0 1000
+tick a 1000
+tick a 2000
+fold a
+fold a
+crash a
+submit a m hex=61
+take a
+came b 0
+confirm b 0
+fold b
+crash b
+read b 0
+came b 0
+tick a 2999
+fold a
+status a 0
+tick a 3000
+fold a
+crash a
+status a 0
+";
+
+const FOLDS_TEXT: &[u8] = b"a ticked 0
+a ticked 0
+a folded
+a folded
+a reopened
+a submitted 0 0.00000000-0000-0000-0000-000000000002@as4
+a sent 0 user 0.00000000-0000-0000-0000-000000000002@as4
+b sent 0 receipt 0.00000000-0000-0000-0000-000000000002@as4
+b confirmed 0
+b folded
+b reopened
+b gone
+b sent 1 receipt 0.00000000-0000-0000-0000-000000000002@as4
+a ticked 0
+a folded
+a status 0 pending 1
+a ticked 1
+a folded
+a reopened
+a status 0 failed EBMS:0301
+a end 1 0 1 0 0
+b end 0 0 0 0 1
+";
+
+/// A fold is no event, and the end goes on as if its journal had stayed: with its clock, what was taken over, the tries
+/// of a message and how it was settled.
+#[test]
+fn a_fold_changes_nothing_that_is_told(rt: HostRuntime) {
+    assert!(rt; plays(rt.alloc(), FOLDS, DrillEnd::Read, FOLDS_TEXT));
+}
