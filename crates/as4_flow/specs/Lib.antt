@@ -4,3 +4,4 @@ pub mod Got
 pub mod Put
 pub mod InMemory
 pub mod Streams
+pub mod Flow

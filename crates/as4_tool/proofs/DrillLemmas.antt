@@ -1,7 +1,8 @@
 -- The status of a drill's end, and what it comes from.
 use Rattle.std.proofs.Common.{◌≡◌, ◌≢◌, ℕ, refl, arith}
 use Rattle.as4_flow.specs.Faults.{Rose}
-use Rattle.drill.specs.Ends.{CountsAt, Streams}
+use Rattle.as4_flow.specs.Flow.{Streams}
+use Rattle.drill.specs.Ends.{CountsAt}
 use Rattle.drill.specs.Generated.{GeneratedAt}
 use Rattle.drill.specs.declared.script.DrillEnd.{DrillEnd}
 use Rattle.drill.specs.declared.script.DrillEnd.TheVariants as ends

@@ -1,7 +1,8 @@
 -- How a run ends: with which status, and what it has written then.
 use Rattle.std.specs.Prelude.{◌≡◌, ℕ, ◌≤◌, ◌⊎◌, List, [], ◌∷◌, Bool, if◌then◌else◌, Option, None, length}
+use Rattle.as4_flow.specs.Flow.{Streams}
 use Rattle.as4_flow.specs.Told.{Told, behind, TakesFront}
-use Rattle.drill.specs.Ends.{Streams, Ends as DrillEnds}
+use Rattle.drill.specs.Ends.{Ends as DrillEnds}
 use Rattle.drill.specs.Generated.{GeneratedEnds}
 use Rattle.drill.specs.declared.script.DrillEnd.{DrillEnd}
 use Rattle.as4_tool.specs.Answer.{IsAnswer, IsFileLine}

@@ -49,11 +49,14 @@ StoppedStands = (old new : DiskState) (part : Part) (gate : ℕ) (body : List �
 
 opens_of : ReadsWhole → (image : Image) (end : End) (P : End → Type 0) → OpensWith image end P → (IsOld (picked_leaf image) → ⊥) → IsOf end image
 opens_of law image end P opens current = record {
-  reads = law image end (opens.0, record {
-    records = opens.1.records;
-    leads = opens.1.leads;
-    pending = λ body has. let next = opens.1.pending body has in (next.0, next.1, tt);
-  });
+  reads = law image end (
+    opens.0,
+    record {
+      records = opens.1.records;
+      leads = opens.1.leads;
+      pending = λ body has. let next = opens.1.pending body has in (next.0, next.1, tt);
+    },
+  );
   current = current;
 }
 

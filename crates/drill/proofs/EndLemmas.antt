@@ -4,11 +4,12 @@ use Rattle.std.proofs.lemmas.Bool.{and_parts, leb-true}
 use Rattle.std.proofs.lemmas.List.{append-nil}
 use Rattle.std.proofs.lemmas.List.Concat.{flat_map-append}
 use Rattle.as4_flow.specs.Faults.{Rose}
+use Rattle.as4_flow.specs.Flow.{Flow, between, flow}
 use Rattle.as4_flow.specs.Told.{Told, before, behind, LosesFront, TakesFront}
 use Rattle.as4_flow.proofs.ToldLemmas.{before_nil, before_append, behind_nil, behind_append, takes_more}
 use Rattle.drill.specs.Ends.{Ends, IsOutside, IsTooMuch, Played}
 use Rattle.drill.specs.Next.{HoldsNoLine}
-use Rattle.drill.specs.Running.{Flow, SoFar, between, flow}
+use Rattle.drill.specs.Running.{SoFar}
 use Rattle.drill.specs.Transcript.{DrillState, Plays, PlaysAll, doing_of, new_state, script_text, end_lines, is_right, is_too_many, is_placed, lines_limit}
 use Rattle.drill.specs.declared.script.DrillEnd.TheVariants as ends
 use Rattle.drill_script.specs.Lacking.{parted}

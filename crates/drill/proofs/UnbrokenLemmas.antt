@@ -9,8 +9,9 @@ use Rattle.std.proofs.lemmas.Bool.Decides.{nat_tests}
 use Rattle.std.proofs.lemmas.Fmt.{decimal_is_IsNumeral}
 use Rattle.as4_disk.specs.declared.change.Pick.{Pick}
 use Rattle.as4_disk.specs.declared.change.Pick.TheVariants as pick
+use Rattle.byte_forms.specs.Digits.{hex_digit}
 use Rattle.drill_script.specs.Lacking.{Lacks, spaced}
-use Rattle.drill_script.specs.LineText.{line_text, is_line, is_drill_byte, is_name, is_load, is_stoppable, end_text, way_text, pick_text, load_text, hex_text, hex_digit, stoppable_text}
+use Rattle.drill_script.specs.LineText.{line_text, is_line, is_drill_byte, is_name, is_load, is_stoppable, end_text, way_text, pick_text, load_text, hex_text, stoppable_text}
 use Rattle.drill_script.specs.declared.line.EndName.{EndName}
 use Rattle.drill_script.specs.declared.line.EndName.TheVariants.{A, B}
 use Rattle.drill_script.specs.declared.line.Line.{Line}

@@ -1,6 +1,7 @@
 -- How a drill ends: what it has read, and what it has written then.
 use Rattle.std.specs.Prelude.{◌≡◌, ℕ, ◌+◌, ◌<◌, ◌≤◌, ◌⊎◌, List, [], ◌∷◌, ◌++◌, true, false, Option, length}
 use Rattle.as4_flow.specs.Faults.{Rose}
+use Rattle.as4_flow.specs.Flow.{Streams}
 use Rattle.as4_flow.specs.Told.{Told, behind, LosesFront, TakesFront}
 use Rattle.drill.specs.Transcript.{DrillState, PlaysAll, new_state, script_text, end_lines, is_right, is_too_many, lines_limit}
 use Rattle.drill.specs.declared.script.DrillEnd.{DrillEnd}
@@ -9,18 +10,6 @@ use Rattle.drill_script.specs.LineText.{line_text}
 use Rattle.drill_script.specs.Lines.{ahead_limit}
 use Rattle.drill_script.specs.declared.line.Line.{Line}
 use Rattle.exchange_model.specs.DeliveredOnce.{HasDeliveredOnce}
-
--- a source and a sink before and after: what the source had left and has left, what the sink had taken and has taken,
--- and how often each had failed and has
-pub record Streams : Type 0 where
-  pub left : Option (List ℕ)
-  pub rest : Option (List ℕ)
-  pub taken : Option (List ℕ)
-  pub later : Option (List ℕ)
-  pub read_faults : ℕ
-  pub later_read_faults : ℕ
-  pub write_faults : ℕ
-  pub later_write_faults : ℕ
 
 -- the script is these lines, and this behind them
 abbrev pub Reads : List Line → List ℕ → Streams → Type 0

@@ -1,8 +1,9 @@
 //! A script is read line by line, and each line is played.
 ghost use Rattle.std.specs.Prelude.{◌⊎◌, Some, false, true, ◌≡◌, ℕ, [], ◌+◌, ◌<◌, ◌≤◌, List, Option, IsNone, IsTrue, MatchOption, length};
+ghost use Rattle.as4_flow.specs.Flow.{Flow, between, flow};
 ghost use Rattle.as4_flow.specs.Told.{Told, before};
 ghost use Rattle.drill.specs.Ends.{Ends};
-ghost use Rattle.drill.specs.Running.{Flow, SoFar, between, flow};
+ghost use Rattle.drill.specs.Running.{SoFar};
 ghost use Rattle.drill.specs.Transcript.{is_right, is_too_many, lines_limit};
 ghost use Rattle.drill_script.specs.Lacking.{parted};
 ghost use Rattle.drill_script.specs.LineText.{is_line, line_limit, line_text};

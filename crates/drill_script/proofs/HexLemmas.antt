@@ -6,7 +6,8 @@ use Rattle.std.proofs.lemmas.Bool.Decides.{nat_tests}
 use Rattle.std.proofs.lemmas.List.{append-nil}
 use Rattle.std.proofs.lemmas.List.Concat.{flat_map-append}
 use Rattle.std.proofs.lemmas.List.Folds.{list_all-append}
-use Rattle.drill_script.specs.LineText.{are_bytes, hex_digit, hex_text}
+use Rattle.byte_forms.specs.Digits.{hex_digit}
+use Rattle.drill_script.specs.LineText.{are_bytes, hex_text}
 
 -- a digit has one value
 pub one_digit : (m n : ℕ) → m < 16 → n < 16 → hex_digit m ≡ hex_digit n → m ≡ n

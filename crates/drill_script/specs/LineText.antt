@@ -24,6 +24,7 @@ use Rattle.std.specs.List.{flat_map, join_with_byte, list_all}
 use Rattle.as4_values.specs.declared.moment.TheConstants.{MAX_MOMENT}
 use Rattle.as4_disk.specs.declared.change.Pick.{Pick}
 use Rattle.as4_disk.specs.declared.change.Pick.TheVariants as pick
+use Rattle.byte_forms.specs.Digits.{hex_digit}
 use Rattle.drill_script.specs.declared.line.EndName.{EndName}
 use Rattle.drill_script.specs.declared.line.EndName.TheVariants.{A, B}
 use Rattle.drill_script.specs.declared.line.Line.{Line}
@@ -47,10 +48,6 @@ abbrev pub pick_text : Pick → List ℕ
 pick_text pick.Old = codes "old"
 pick_text pick.New = codes "new"
 pick_text pick.Other = codes "other"
-
--- 0 to 9, a to f
-abbrev pub hex_digit : ℕ → ℕ
-hex_digit n = if nat_lt n 10 then 48 + n else 87 + n
 
 -- two digits for each byte
 unfoldable pub hex_text : List ℕ → List ℕ

@@ -1,6 +1,7 @@
 //! Bytes as hexadecimal digits: two for each byte, 0 to 9 and a to f.
 ghost use Rattle.std.specs.Prelude.{◌≡◌, ℕ, ◌/◌, ◌%◌, ◌<◌, Some, List, IfOk, IfSome, IsTrue};
-ghost use Rattle.drill_script.specs.LineText.{are_bytes, hex_digit, hex_text};
+ghost use Rattle.byte_forms.specs.Digits.{hex_digit};
+ghost use Rattle.drill_script.specs.LineText.{are_bytes, hex_text};
 
 use as4_values::{NoMemory, Octets};
 use std::alloc::Global;

@@ -201,7 +201,14 @@ b end 0 0 0 0 0
 /// isn't there: that is told, and nothing is stopped.
 #[test]
 fn a_line_that_writes_nothing_is_stopped_behind_it(rt: HostRuntime) {
-    assert!(rt; plays(rt.alloc(), NOTHING_TO_WRITE, DrillEnd::Read, NOTHING_TO_WRITE_TEXT));
+    assert!(rt;
+        plays(
+            rt.alloc(),
+            NOTHING_TO_WRITE,
+            DrillEnd::Read,
+            NOTHING_TO_WRITE_TEXT
+        )
+    );
 }
 
 const CRASHES: &[u8] = b"crash b

@@ -1,13 +1,14 @@
 -- A record that is added to the journal of an end.
-use Rattle.std.proofs.Common.{◌≡◌, ◌⊎◌, ℕ, ◌+◌, ◌∙◌, List, [], ◌∷◌, ◌++◌, Option, Some, IsNone, is_some, length, arith, subst, sym}
+use Rattle.std.proofs.Common.{◌≡◌, ℕ, ◌+◌, ◌∙◌, List, [], ◌∷◌, ◌++◌, Option, Some, IsNone, is_some, length, arith, subst, sym}
 use Rattle.as4_disk.specs.Image.{Image}
 use Rattle.as4_disk.specs.Runs.{LeavesOnly}
 use Rattle.as4_disk.proofs.RunLemmas.{weaken}
 use Rattle.exchange_model.specs.End.{End, empty_end}
 use Rattle.journal.specs.State.{HasRecords}
-use Rattle.journal.specs.Store.{OpensToOneOf}
+use Rattle.journal.specs.Store.{InVersion, OpensToOneOf}
 use Rattle.journal.specs.declared.journal.Journal.{Journal}
-use Rattle.end_records.specs.Opens.{IsJournalOf, OpensOnly, OpensWith}
+use Rattle.journal.specs.declared.version.Version.TheVariants.{Two}
+use Rattle.end_records.specs.Opens.{IsAtOneOf, IsJournalOf}
 use Rattle.end_records.specs.Records.{RecordLeads}
 use Rattle.end_records.proofs.RecordLemmas.{lead_more}
 use Rattle.end_records.proofs.OpenLemmas.{one_of_opens}
@@ -28,10 +29,10 @@ module _ {D : Type 0} (moment : D → ℕ) (left_since : D → ℕ → Image →
         (had.0 ++ body ∷ [], settled had.0 had.1, lead_more had.0 body empty_end end next had.2 leads);
   }
 
-  pub added_run : ((bodies : List (List ℕ)) → HasRecords seen may_leave old bodies → LeavesOnly moment left_since old.disk new.disk (OpensToOneOf bodies body))
+  pub added_run : ((bodies : List (List ℕ)) → HasRecords seen may_leave old bodies → LeavesOnly moment left_since old.disk new.disk (InVersion Two (OpensToOneOf bodies body)))
       → IsJournalOf seen may_leave end old → RecordLeads body end next → (image : Image) → seen old.disk ≡ Some image
-      → LeavesOnly moment left_since old.disk new.disk (λ c. OpensWith c end (λ n. n ≡ next) ⊎ OpensOnly c next)
+      → LeavesOnly moment left_since old.disk new.disk (λ c. IsAtOneOf c end next)
   added_run any_moment is leads image told =
       let had = is.records image told in
-      weaken moment left_since old.disk new.disk (OpensToOneOf had.0 body) (λ (c : Image). OpensWith c end (λ n. n ≡ next) ⊎ OpensOnly c next)
+      weaken moment left_since old.disk new.disk (InVersion Two (OpensToOneOf had.0 body)) (λ (c : Image). IsAtOneOf c end next)
       (λ c opens. one_of_opens had.0 body end next c had.2 leads opens) (any_moment had.0 had.1)

@@ -21,14 +21,15 @@ use Rattle.fold_laws.proofs.OneFold.{one_fold}
 use Rattle.fold_laws.proofs.Sound.{reached_sound}
 use Rattle.journal.specs.Leaf.{front_of}
 use Rattle.journal.specs.State.{HasFold, HasRecords}
-use Rattle.journal.specs.Store.{OpensSettled, OpensToEither}
+use Rattle.journal.specs.Store.{InVersion, OpensSettled, OpensToEither}
 use Rattle.journal.specs.declared.journal.Journal.{Journal}
+use Rattle.journal.specs.declared.version.Version.{Version}
 use Rattle.journal.specs.declared.version.Version.TheVariants.{Two}
-use Rattle.journal.proofs.StoreLemmas.{closed_opens, settled_left}
-use Rattle.end_records.specs.Opens.{IsJournalOf, OpensOnly}
+use Rattle.journal.proofs.StoreLemmas.{closed_in, settled_left}
+use Rattle.end_records.specs.Opens.{IsAt, IsJournalOf}
 use Rattle.end_records.specs.Records.{RecordsLead, alone}
 use Rattle.end_records.proofs.FoldLemmas.{fold_leads}
-use Rattle.end_records.proofs.OpenLemmas.{settled_opens}
+use Rattle.end_records.proofs.OpenLemmas.{settled_at}
 use Rattle.end_journal.specs.Adding.{AddsPart, HasAdded, bytes_of}
 use Rattle.end_journal.proofs.RunLemmas.{first_weaken, then_first, told_before}
 
@@ -188,37 +189,49 @@ module _ {D : Type 0} (seen : D → Option Image) (may_leave : D → Image → T
 module _ {D : Type 0} (moment : D → ℕ) (left_since : D → ℕ → Image → Type 0) (seen : D → Option Image) (may_leave : D → Image → Type 0) where
   -- while no part is added a crash leaves the records
   pub still_fold : ((disk : D) (c : Image) → left_since disk (moment disk) c → may_leave disk c) → (journal : Journal D) (bodies folded : List (List ℕ)) → HasFold seen may_leave journal bodies folded
-      → LeavesOnly moment left_since journal.disk journal.disk (OpensSettled bodies)
+      → LeavesOnly moment left_since journal.disk journal.disk (InVersion journal.version (OpensSettled bodies))
   still_fold only_now journal bodies folded has =
       let leaf = front_of journal.version bodies ++ 0 ∷ has.rest in
-      no_call moment left_since journal.disk (OpensSettled bodies)
-      (λ c left. closed_opens journal.version bodies has.rest c has.within (settled_left seen may_leave journal.disk journal.is_second leaf c has.settled (only_now journal.disk c left)).2)
+      no_call moment left_since journal.disk (InVersion journal.version (OpensSettled bodies))
+      (λ c left. closed_in journal.version bodies has.rest c has.within (settled_left seen may_leave journal.disk journal.is_second leaf c has.settled (only_now journal.disk c left)).2)
 
   -- and while one more is
   pub fold_run_on : (first old new : Journal D) (effects : List Effect) → HasAdded seen may_leave first old effects
-      → ((bodies : List (List ℕ)) → HasFold seen may_leave first bodies [] → LeavesOnly moment left_since first.disk old.disk (OpensSettled bodies))
-      → ((bodies folded : List (List ℕ)) → HasFold seen may_leave old bodies folded → LeavesOnly moment left_since old.disk new.disk (OpensSettled bodies))
-      → (bodies : List (List ℕ)) → HasFold seen may_leave first bodies [] → LeavesOnly moment left_since first.disk new.disk (OpensSettled bodies)
+      → ((bodies : List (List ℕ)) → HasFold seen may_leave first bodies [] → LeavesOnly moment left_since first.disk old.disk (InVersion first.version (OpensSettled bodies)))
+      → ((bodies folded : List (List ℕ)) → HasFold seen may_leave old bodies folded → LeavesOnly moment left_since old.disk new.disk (InVersion old.version (OpensSettled bodies)))
+      → (bodies : List (List ℕ)) → HasFold seen may_leave first bodies [] → LeavesOnly moment left_since first.disk new.disk (InVersion first.version (OpensSettled bodies))
   fold_run_on first old new effects so_far run next bodies has =
-      then moment left_since first.disk old.disk new.disk (OpensSettled bodies) (run bodies has) (next bodies (map alone effects) (so_far.added bodies has))
+      let P : Version → Type 0 = λ v. LeavesOnly moment left_since old.disk new.disk (InVersion v (OpensSettled bodies)) in
+      then moment left_since first.disk old.disk new.disk (InVersion first.version (OpensSettled bodies)) (run bodies has) (subst P so_far.version (next bodies (map alone effects) (so_far.added bodies has)))
 
 -- a whole fold
-module _ {D : Type 0} (moment : D → ℕ) (left_since : D → ℕ → Image → Type 0) (old started added new : D) (bodies : List (List ℕ)) (starts : LeavesOnly moment left_since old started (OpensSettled bodies)) (adds : LeavesOnly moment left_since started added (OpensSettled bodies)) (end : End) (size : ℕ) where
-  -- none of its records was picked
-  pub dropped_run : new ≡ added → FirstThen moment left_since old new (OpensSettled bodies) (λ (c : Image). OpensSettled bodies c ⊎ OpensOnly c (resized size end))
-  dropped_run same =
-      let P : D → Type 0 = λ d. LeavesOnly moment left_since old d (OpensSettled bodies) in
-      inl (subst P (sym same) (then moment left_since old started added (OpensSettled bodies) starts adds))
+module _ {D : Type 0} (moment : D → ℕ) (left_since : D → ℕ → Image → Type 0) (old started added : Journal D) (bodies : List (List ℕ)) (starts : LeavesOnly moment left_since old.disk started.disk (InVersion old.version (OpensSettled bodies))) (adds : LeavesOnly moment left_since started.disk added.disk (InVersion started.version (OpensSettled bodies))) (same : started.version ≡ old.version) (end : End) (size : ℕ) where
+  abbrev Before : Image → Type 0
+  Before = InVersion old.version (OpensSettled bodies)
 
-  pub finished_run : (effects : List Effect) → IsReached end → IsFolded end effects → AreSpelled effects → IsFoldedSize end size → FirstThen moment left_since added new (OpensSettled bodies) (OpensToEither bodies (map alone effects))
-      → FirstThen moment left_since old new (OpensSettled bodies) (λ (c : Image). OpensSettled bodies c ⊎ OpensOnly c (resized size end))
-  finished_run effects reached folded spelled (others, also, is) finishes =
-      let same : folded_size effects ≡ size = ap folded_size (one_fold end effects others folded also) ∙ sym is in
+  abbrev After : Image → Type 0
+  After c = Before c ⊎ IsAt c (resized size end)
+
+  added_run : LeavesOnly moment left_since old.disk added.disk Before
+  added_run =
+      let P : Version → Type 0 = λ v. LeavesOnly moment left_since started.disk added.disk (InVersion v (OpensSettled bodies)) in
+      then moment left_since old.disk started.disk added.disk Before starts (subst P same adds)
+
+  -- none of its records was picked
+  pub dropped_run : (new : D) → new ≡ added.disk → FirstThen moment left_since old.disk new Before After
+  dropped_run new dropped =
+      let P : D → Type 0 = λ d. LeavesOnly moment left_since old.disk d Before in
+      inl (subst P (sym dropped) added_run)
+
+  pub finished_run : (new : D) (effects : List Effect) → added.version ≡ started.version → IsReached end → IsFolded end effects → AreSpelled effects → IsFoldedSize end size
+      → FirstThen moment left_since added.disk new (InVersion added.version (OpensSettled bodies)) (OpensToEither added.version bodies (map alone effects)) → FirstThen moment left_since old.disk new Before After
+  finished_run new effects kept reached folded spelled (others, also, is) finishes =
+      let sizes : folded_size effects ≡ size = ap folded_size (one_fold end effects others folded also) ∙ sym is in
       let P : ℕ → Type 0 = λ n. RecordsLead (map alone effects) empty_end (resized n end) in
-      let leads = subst P same (effects_lead end effects reached folded spelled) in
-      then_first moment left_since old added new (OpensSettled bodies) (λ (c : Image). OpensSettled bodies c ⊎ OpensOnly c (resized size end))
-      (then moment left_since old started added (OpensSettled bodies) starts adds)
-      (first_weaken moment left_since added new (OpensSettled bodies) (OpensToEither bodies (map alone effects)) (OpensSettled bodies) (λ (c : Image). OpensSettled bodies c ⊎ OpensOnly c (resized size end))
+      let leads = subst P sizes (effects_lead end effects reached folded spelled) in
+      let Q : Version → Type 0 = λ v. FirstThen moment left_since added.disk new (InVersion v (OpensSettled bodies)) (OpensToEither v bodies (map alone effects)) in
+      then_first moment left_since old.disk added.disk new Before After added_run
+      (first_weaken moment left_since added.disk new Before (OpensToEither old.version bodies (map alone effects)) Before After
       (λ c has. has)
-      (λ c one. ⊎_elim (λ (was : OpensSettled bodies c). inl was) (λ (now : OpensSettled (map alone effects) c). inr (settled_opens (λ n. ⊥) (map alone effects) (resized size end) c leads now)) one)
-      finishes)
+      (λ c one. ⊎_elim (λ (was : Before c). inl was) (λ (now : InVersion Two (OpensSettled (map alone effects)) c). inr (settled_at (map alone effects) (resized size end) c leads now)) one)
+      (subst Q (kept ∙ same) finishes))

@@ -2,4 +2,4 @@ mod AddingLemmas
 mod ReadingLemmas
 mod FoldingLemmas
 mod OpeningLemmas
-mod RunLemmas
+pub mod RunLemmas

@@ -5,31 +5,28 @@ use Rattle.std.proofs.lemmas.Bool.{cases_lt}
 use Rattle.as4_disk.specs.Image.{Image}
 use Rattle.as4_disk.specs.Runs.{FirstThen, LeavesOnly}
 use Rattle.as4_disk.proofs.RunLemmas.{then, weaken}
-use Rattle.as4_effects.specs.declared.effect.Effect.{Effect}
 use Rattle.as4_flow.specs.Told.{Told}
 use Rattle.exchange_model.specs.End.{End, empty_end}
-use Rattle.exchange_model.specs.Fold.{CarriesOver, DeliversAgain, IsFoldedSize, ItemByItem, KeepsHeader, folded_size, resized}
+use Rattle.exchange_model.specs.Fold.{IsFoldedSize, folded_size, resized}
 use Rattle.fold_laws.specs.Reached.{IsReached}
 use Rattle.fold_laws.proofs.ReachedLemmas.{reached_applied, reached_first}
 use Rattle.fold_laws.proofs.SomeFold.{reached_written, some_fold}
-use Rattle.journal.specs.Leaf.{IsNew, Lists, front_of, limit_of, magic_of, number_of}
+use Rattle.journal.specs.Leaf.{HasMagic, IsNew, Lists, front_of, limit_of, magic_of, number_of}
 use Rattle.journal.specs.State.{HasRead}
-use Rattle.journal.specs.Store.{KeepsLeaf, OpensSettled, Reopens, picked_leaf}
+use Rattle.journal.specs.Store.{InVersion, KeepsLeaf, OpensSettled, Reopens, picked_leaf}
 use Rattle.journal.specs.declared.journal.Journal.{Journal}
 use Rattle.journal.specs.declared.version.Version.{Version}
 use Rattle.journal.specs.declared.version.Version.TheVariants.{One, Two}
-use Rattle.journal.proofs.JournalLaws.{keeps_lists, keeps_reopens, read_front}
-use Rattle.journal.proofs.LeafLemmas.{front_magic, magics_differ}
-use Rattle.journal.proofs.StoreLemmas.{keeps_pending, keeps_records, lists_once, new_none, whole_lists}
-use Rattle.end_records.specs.Opens.{HasPendingEnd, IsFoldedOf, IsJournalOf, IsOld, OpensBy, OpensFolded, OpensOnly, OpensWith, ReadsAs, ReopensAs}
+use Rattle.journal.proofs.JournalLaws.{keeps_lists, keeps_reopens, keeps_version, read_front}
+use Rattle.journal.proofs.LeafLemmas.{magics_differ}
+use Rattle.journal.proofs.StoreLemmas.{keeps_pending, keeps_records, lists_once, magic_in, whole_lists}
+use Rattle.end_records.specs.Opens.{HasPendingEnd, IsAt, IsFoldedOf, IsJournalOf, IsMigrated, IsOld, OpensAs, OpensBy, OpensOnly, OpensWith, ReadsAs, ReopensAs}
 use Rattle.end_records.specs.Records.{RecordsLead}
 use Rattle.end_records.specs.Unfit.{IsNoJournal}
 use Rattle.end_records.proofs.OpenLemmas.{opens_weaker, reopens_as, settled_opens}
 use Rattle.end_records.proofs.RecordLemmas.{HasOneBody, one_end}
 use Rattle.end_records.proofs.SizeLemmas.{front_len, size_of_end}
-use Rattle.end_journal.specs.Adding.{bytes_of}
 use Rattle.end_journal.specs.Reading.{HasReplayedAll}
-use Rattle.end_journal.proofs.FoldingLemmas.{size_of_fold}
 use Rattle.end_journal.proofs.RunLemmas.{first_all, first_then_next, first_weaken}
 
 -- ---- where the leaf is kept, the disk opens to the same end
@@ -50,16 +47,32 @@ pending_kept b d keeps end next was = record {
   on = was.on;
 }
 
+-- a leaf of version 1 was one before
+old_kept : (b d : Image) → KeepsLeaf b d → IsOld (picked_leaf d) → IsOld (picked_leaf b)
+old_kept b d keeps = keeps_version One b d keeps
+
 pub reopens_then : (b d c : Image) → KeepsLeaf b d → ReopensAs d c → ReopensAs b c
-reopens_then b d c keeps reopens end (bodies, by) =
-    ⊎_elim
-    (λ (here : OpensWith c end (HasPendingEnd d end) ⊎ IsFoldedOf c end).
-    ⊎_elim
-    (λ (opens : OpensWith c end (HasPendingEnd d end)). inl (inl (opens_weaker (HasPendingEnd d end) (HasPendingEnd b end) c end (pending_kept b d keeps end) opens)))
-    (λ (folded : IsFoldedOf c end). inl (inr folded))
-    here)
-    (λ (later : (next : End) × HasPendingEnd d end next × OpensFolded c next). inr (later.0, pending_kept b d keeps end later.0 later.1, later.2))
-    (reopens end (bodies, opens_kept b d keeps bodies end (λ next. Unit {0}) by))
+reopens_then b d c keeps reopens = record { version = λ old. was_old (reopens.version old); opens = opens }
+  where
+    was_old : IsOld (picked_leaf d) → IsOld (picked_leaf b)
+    was_old = old_kept b d keeps
+
+    opens : (end : End) → OpensAs b end
+        → (OpensWith c end (HasPendingEnd b end) ⊎ IsMigrated b c end) ⊎ ((next : End) × HasPendingEnd b end next × (OpensOnly c next ⊎ IsMigrated b c next))
+    opens end (bodies, by) =
+        ⊎_elim
+        (λ (here : OpensWith c end (HasPendingEnd d end) ⊎ IsMigrated d c end).
+        ⊎_elim
+        (λ (same : OpensWith c end (HasPendingEnd d end)). inl (inl (opens_weaker (HasPendingEnd d end) (HasPendingEnd b end) c end (pending_kept b d keeps end) same)))
+        (λ (folded : IsMigrated d c end). inl (inr (was_old folded.0, folded.1)))
+        here)
+        (λ (later : (next : End) × HasPendingEnd d end next × (OpensOnly c next ⊎ IsMigrated d c next)).
+        inr (
+          later.0,
+          pending_kept b d keeps end later.0 later.1,
+          ⊎_elim (λ (only : OpensOnly c later.0). inl only) (λ (folded : IsMigrated d c later.0). inr (was_old folded.0, folded.1)) later.2,
+        ))
+        (reopens.opens end (bodies, opens_kept b d keeps bodies end (λ next. Unit {0}) by))
 
 pub reads_kept : (b d : Image) (end : End) → KeepsLeaf b d → ReadsAs d end → ReadsAs b end
 reads_kept b d end keeps (bodies, lists, leads) = (bodies, keeps_lists bodies b d keeps lists, leads)
@@ -73,20 +86,27 @@ no_journal_kept at b d (inr new) is = absurd (omega (arith, new.1, is.0))
 
 -- ---- while the journal is folded
 
-pub settled_reopens : (b c : Image) (bodies : List (List ℕ)) → Lists bodies (picked_leaf b) → OpensSettled bodies c → ReopensAs b c
-settled_reopens b c bodies lists opens end (others, by) =
-    let same = lists_once others bodies (picked_leaf b) (whole_lists others (picked_leaf b) by.records) lists in
-    let P : List (List ℕ) → Type 0 = λ l. RecordsLead l empty_end end in
-    inl (inl (settled_opens (HasPendingEnd b end) bodies end c (subst P same by.leads) opens))
+-- a leaf of version 1
+module _ (b c : Image) (old : IsOld (picked_leaf b)) (bodies : List (List ℕ)) (lists : Lists bodies (picked_leaf b)) where
+  same_bodies : (others : List (List ℕ)) (end : End) → OpensBy others b end (λ next. Unit {0}) → RecordsLead bodies empty_end end
+  same_bodies others end by =
+      let P : List (List ℕ) → Type 0 = λ l. RecordsLead l empty_end end in
+      subst P (lists_once others bodies (picked_leaf b) (whole_lists others (picked_leaf b) by.records) lists) by.leads
 
-pub folded_reopens : HasOneBody → (b c : Image) (bodies : List (List ℕ)) (end : End) (size : ℕ) → Lists bodies (picked_leaf b) → RecordsLead bodies empty_end end → IsFoldedSize end size
-    → OpensOnly c (resized size end) → ReopensAs b c
-folded_reopens one b c bodies end size lists leads folded opens other (others, by) =
-    let same = lists_once others bodies (picked_leaf b) (whole_lists others (picked_leaf b) by.records) lists in
-    let P : List (List ℕ) → Type 0 = λ l. RecordsLead l empty_end other in
-    let is : end ≡ other = one_end one bodies empty_end end other leads (subst P same by.leads) in
-    let Q : End → Type 0 = λ e. IsFoldedOf c e in
-    inl (inr (subst Q is (size, folded, opens)))
+  pub settled_reopens : OpensSettled bodies c → ReopensAs b c
+  settled_reopens opens = record {
+    version = λ is. old;
+    opens = λ end opened. inl (inl (settled_opens (HasPendingEnd b end) bodies end c (same_bodies opened.0 end opened.1) opens));
+  }
+
+  pub folded_reopens : HasOneBody → (end : End) (size : ℕ) → RecordsLead bodies empty_end end → IsFoldedSize end size → IsAt c (resized size end) → ReopensAs b c
+  folded_reopens one end size leads folded at = record {
+    version = λ is. old;
+    opens = λ other opened.
+        let is : end ≡ other = one_end one bodies empty_end end other leads (same_bodies opened.0 other opened.1) in
+        let Q : End → Type 0 = λ e. IsFoldedOf c e in
+        inl (inr (old, subst Q is (size, folded, at)));
+  }
 
 leads_reached : (bodies : List (List ℕ)) (start end : End) → IsReached start → RecordsLead bodies start end → IsReached end
 leads_reached [] start end reached here = subst IsReached here reached
@@ -113,93 +133,41 @@ pub is_one : (version : Version) → (number_of version ≡ 2 → ⊥) → versi
 is_one One differs = refl
 is_one Two differs = absurd (differs refl)
 
-new_reads : (image : Image) (end : End) → IsNew (picked_leaf image) → ReadsAs image end → end ≡ empty_end
-new_reads image end new (bodies, lists, leads) =
-    let P : List (List ℕ) → Type 0 = λ l. RecordsLead l empty_end end in
-    sym (subst P (none lists) leads)
-  where
-    none : Lists bodies (picked_leaf image) → bodies ≡ []
-    none (inl is) = is.1
-    none (inr is) = new_none is.0 bodies is.1 is.2 (picked_leaf image) is.3 new
-
-no_items : {X Y : Type 0} (is : X → Y → Type 0) (ys : List Y) → ItemByItem is [] ys → ys ≡ []
-no_items is [] items = refl
-no_items is (y ∷ ys) items = absurd items
-
-empty_fold : (size : ℕ) → IsFoldedSize empty_end size → size ≡ 9
-empty_fold size (effects, folded, is) =
-    let carried = no_items CarriesOver folded.carried folded.submissions in
-    let kept = no_items KeepsHeader folded.kept folded.taken_over in
-    let delivered = no_items DeliversAgain folded.delivered folded.waiting in
-    let clock : folded.clock ≡ [] = folded.set in
-    let none : effects ≡ [] =
-    folded.is
-    ∙ ap (λ (l : List Effect). l ++ folded.kept ++ folded.delivered ++ folded.clock) carried
-    ∙ ap (λ (l : List Effect). [] ++ l ++ folded.delivered ++ folded.clock) kept
-    ∙ ap (λ (l : List Effect). [] ++ [] ++ l ++ folded.clock) delivered
-    ∙ ap (λ (l : List Effect). [] ++ [] ++ [] ++ l) clock in
-    omega (arith, is, size_of_fold effects, ap (λ (l : List Effect). bytes_of l) none)
-
--- the empty end is folded to itself
-pub empty_stays : (end other : End) (size : ℕ) → end ≡ empty_end → IsFoldedSize end size → other ≡ resized size end → other ≡ end
-empty_stays end other size is folded same =
-    let P : End → Type 0 = λ e. IsFoldedSize e size in
-    let nine : size ≡ 9 = empty_fold size (subst P is folded) in
-    same ∙ ap (λ (e : End). resized size e) is ∙ ap (λ (n : ℕ). resized n empty_end) nine ∙ sym is
-
 module _ {D : Type 0} (seen : D → Option Image) (may_leave : D → Image → Type 0) where
-  module _ (journal : Journal D) (b d : Image) (keeps : KeepsLeaf b d) (read : HasRead seen may_leave journal []) (told : seen journal.disk ≡ Some d) where
-    -- a leaf that was old when it was opened has version 1
+  module _ (journal : Journal D) (b d : Image) (keeps : KeepsLeaf b d) (read : HasRead seen may_leave journal []) (told : seen journal.disk ≡ Some d) (new : IsNew (picked_leaf d) → journal.version ≡ Two) where
+    front : (rest : List ℕ) × (picked_leaf d ≡ front_of journal.version [] ++ rest) × (length (front_of journal.version []) < limit_of journal.version)
+    front = read_front seen may_leave journal [] d read told
+
+    magic : HasMagic journal.version (picked_leaf d)
+    magic = magic_in journal.version [] front.0 (picked_leaf d) front.1
+
+    -- where it has version 1, the leaf was old
+    pub is_old : journal.version ≡ One → IsOld (picked_leaf b)
+    is_old is = old_kept b d keeps (long (cases_lt 9 (length (picked_leaf d))), magic ∙ ap (λ (v : Version). magic_of v) is)
+      where
+        long : (9 < length (picked_leaf d)) ⊎ (length (picked_leaf d) ≤ 9) → 9 < length (picked_leaf d)
+        long (inl more) = more
+        long (inr short) = let differs : One ≡ Two = sym is ∙ new short in absurd cc
+
+    -- and where it was old, it has version 1
     pub old_version : IsOld (picked_leaf b) → journal.version ≡ One
     old_version old = by_keeps keeps (each_version journal.version)
       where
-        front : (rest : List ℕ) × (picked_leaf d ≡ front_of journal.version [] ++ rest) × (length (front_of journal.version []) < limit_of journal.version)
-        front = read_front seen may_leave journal [] d read told
-
         by_keeps : KeepsLeaf b d → (journal.version ≡ One) ⊎ (journal.version ≡ Two) → journal.version ≡ One
         by_keeps any (inl is) = is
-        by_keeps (inr new) (inr is) = absurd (omega (arith, old.0, new.0))
+        by_keeps (inr short) (inr is) = absurd (omega (arith, old.0, short.0))
         by_keeps (inl same) (inr is) =
-            let magic : magic_of journal.version ≡ magic_of One =
-            sym (front_magic journal.version [] front.0) ∙ ap (λ (l : List ℕ). take 8 l) (sym front.1 ∙ same) ∙ old.1 in
-            absurd (magics_differ (ap (λ (v : Version). magic_of v) (sym is) ∙ magic))
+            absurd (magics_differ (ap (λ (v : Version). magic_of v) (sym is) ∙ sym magic ∙ ap (λ (l : List ℕ). take 8 l) same ∙ old.1))
 
-    -- one that wasn't has version 2, or was new
-    pub young_version : (IsOld (picked_leaf b) → ⊥) → (journal.version ≡ Two) ⊎ IsNew (picked_leaf b)
-    young_version young = by_keeps keeps (each_version journal.version)
-      where
-        front : (rest : List ℕ) × (picked_leaf d ≡ front_of journal.version [] ++ rest) × (length (front_of journal.version []) < limit_of journal.version)
-        front = read_front seen may_leave journal [] d read told
-
-        by_length : (journal.version ≡ One) → picked_leaf d ≡ picked_leaf b → (9 < length (picked_leaf b)) ⊎ (length (picked_leaf b) ≤ 9) → (journal.version ≡ Two) ⊎ IsNew (picked_leaf b)
-        by_length is same (inr short) = inr short
-        by_length is same (inl long) =
-            let magic : take 8 (picked_leaf b) ≡ magic_of One =
-            ap (λ (l : List ℕ). take 8 l) (sym same ∙ front.1) ∙ front_magic journal.version [] front.0 ∙ ap (λ (v : Version). magic_of v) is in
-            absurd (young (long, magic))
-
-        by_keeps : KeepsLeaf b d → (journal.version ≡ One) ⊎ (journal.version ≡ Two) → (journal.version ≡ Two) ⊎ IsNew (picked_leaf b)
-        by_keeps any (inr is) = inl is
-        by_keeps (inr new) (inl is) = inr new.0
-        by_keeps (inl same) (inl is) = by_length is same (cases_lt 9 (length (picked_leaf b)))
+    -- one that wasn't has version 2
+    pub young_version : (IsOld (picked_leaf b) → ⊥) → journal.version ≡ Two
+    young_version young = ⊎_elim (λ (is : journal.version ≡ One). absurd (young (is_old is))) (λ (is : journal.version ≡ Two). is) (each_version journal.version)
 
     -- the end that was read, with the journal folded or as it was
     pub opened_end : (end other : End) → ReadsAs d end → (journal.version ≡ One → (size : ℕ) × IsFoldedSize end size × (other ≡ resized size end)) → (journal.version ≡ Two → other ≡ end)
         → ReadsAs b end × (IsOld (picked_leaf b) → (size : ℕ) × IsFoldedSize end size × (other ≡ resized size end)) × ((IsOld (picked_leaf b) → ⊥) → other ≡ end)
     opened_end end other reads was_one was_two =
-        let reads_b = reads_kept b d end keeps reads in (
-          reads_b,
-          λ old. was_one (old_version old),
-          λ young.
-              ⊎_elim
-              was_two
-              (λ (new : IsNew (picked_leaf b)).
-              ⊎_elim
-              (λ (one : journal.version ≡ One). let folded = was_one one in empty_stays end other folded.0 (new_reads b end new reads_b) folded.1 folded.2)
-              was_two
-              (each_version journal.version))
-              (young_version young),
-        )
+        (reads_kept b d end keeps reads, λ old. was_one (old_version old), λ young. was_two (young_version young))
 
   -- a journal of version 2 of which all was read
   pub whole_journal : (first now : Journal D) (end : End) (bodies : List (List ℕ)) → HasReplayedAll seen may_leave first now end bodies → now.version ≡ Two → IsNone first.fold
@@ -244,14 +212,14 @@ module _ {D : Type 0} (moment : D → ℕ) (left_since : D → ℕ → Image →
   reread_run old new b = weaken moment left_since old new (Reopens b) (ReopensAs b) (reopens_as b)
 
   -- and while the journal is folded
-  pub refolded_run : HasOneBody → (old mid new : D) (b : Image) (bodies : List (List ℕ)) (end : End) (size : ℕ) → Lists bodies (picked_leaf b) → RecordsLead bodies empty_end end → IsFoldedSize end size
-      → LeavesOnly moment left_since old mid (Reopens b) → FirstThen moment left_since mid new (OpensSettled bodies) (λ (c : Image). OpensSettled bodies c ⊎ OpensOnly c (resized size end))
+  pub refolded_run : HasOneBody → (version : Version) (old mid new : D) (b : Image) (bodies : List (List ℕ)) (end : End) (size : ℕ) → IsOld (picked_leaf b) → Lists bodies (picked_leaf b) → RecordsLead bodies empty_end end → IsFoldedSize end size
+      → LeavesOnly moment left_since old mid (Reopens b) → FirstThen moment left_since mid new (InVersion version (OpensSettled bodies)) (λ (c : Image). InVersion version (OpensSettled bodies) c ⊎ IsAt c (resized size end))
       → LeavesOnly moment left_since old new (ReopensAs b)
-  refolded_run one old mid new b bodies end size lists leads folded reads folds =
+  refolded_run one version old mid new b bodies end size is_old lists leads folded reads folds =
       then moment left_since old mid new (ReopensAs b) (reread_run old mid b reads)
-      (first_all moment left_since mid new (OpensSettled bodies) (λ (c : Image). OpensSettled bodies c ⊎ OpensOnly c (resized size end)) (ReopensAs b)
-      (λ c settled. settled_reopens b c bodies lists settled)
-      (λ c either. ⊎_elim (λ (settled : OpensSettled bodies c). settled_reopens b c bodies lists settled) (λ (opens : OpensOnly c (resized size end)). folded_reopens one b c bodies end size lists leads folded opens) either)
+      (first_all moment left_since mid new (InVersion version (OpensSettled bodies)) (λ (c : Image). InVersion version (OpensSettled bodies) c ⊎ IsAt c (resized size end)) (ReopensAs b)
+      (λ c settled. settled_reopens b c is_old bodies lists settled.0)
+      (λ c either. ⊎_elim (λ (settled : InVersion version (OpensSettled bodies) c). settled_reopens b c is_old bodies lists settled.0) (λ (at : IsAt c (resized size end)). folded_reopens b c is_old bodies lists one end size leads folded at) either)
       folds)
 
   -- while the leaf is settled

@@ -1,11 +1,11 @@
 //! How a record of effects is made and put behind the others.
-ghost use Rattle.std.specs.Prelude.{◌≡◌, ◌⊎◌, ℕ, ◌+◌, ◌≤◌, ◌^◌, IfErr, IfOk, OnOk, is_ok, is_some, length};
+ghost use Rattle.std.specs.Prelude.{◌≡◌, ℕ, ◌+◌, ◌≤◌, ◌^◌, IfErr, IfOk, OnOk, is_ok, is_some, length};
 ghost use Rattle.as4_disk.specs.Image.{Image};
 ghost use Rattle.as4_disk.specs.Runs.{LeavesOnly, MakesAll};
 ghost use Rattle.as4_effects.specs.Effects.{effects_body, effects_limit};
 ghost use Rattle.as4_flow.specs.Told.{Told};
 ghost use Rattle.end_journal.specs.Frames.{IsFrameOf};
-ghost use Rattle.end_records.specs.Opens.{IsJournalOf, OpensOnly, OpensWith};
+ghost use Rattle.end_records.specs.Opens.{IsAtOneOf, IsJournalOf};
 ghost use Rattle.end_records.specs.Records.{RecordLeads};
 ghost use Rattle.exchange_model.specs.End.{End};
 ghost use Rattle.journal.specs.Calls.{record_calls};
@@ -43,7 +43,7 @@ pub fn add_record<D: Disk>(journal: &mut Journal<D>, frame: &Frame) -> Result<()
         → RecordLeads frame.now end next → IsJournalOf D.seen D.may_leave next journal.new) }
     ensures any_moment { (end next : End) → IsJournalOf D.seen D.may_leave end journal.old → RecordLeads frame.now end next
         → Told (D.seen journal.old.disk) (λ _. LeavesOnly D.moment D.left_since journal.old.disk journal.new.disk
-        (λ (c : Image). OpensWith c end (λ n. n ≡ next) ⊎ OpensOnly c next)) }
+        (λ (c : Image). IsAtOneOf c end next)) }
     ensures calls { MakesAll D.makes (record_calls (leaf_of journal.old.is_second) journal.old.gate frame.now)
         journal.old.disk journal.new.disk (is_ok result) }
     ensures faults { IfErr result IsDiskFault }

@@ -8,14 +8,14 @@ ghost use Rattle.as4_effects.specs.declared.effect.Effect.{Effect as EffectValue
 ghost use Rattle.as4_flow.specs.Told.{Told};
 ghost use Rattle.end_journal.specs.Adding.{AddsPart, HasAdded};
 ghost use Rattle.end_journal.specs.Causes.{IsDiskSince};
-ghost use Rattle.end_records.specs.Opens.{IsJournalOf, OpensOnly};
+ghost use Rattle.end_records.specs.Opens.{IsAt, IsJournalOf};
 ghost use Rattle.end_records.specs.Records.{alone};
 ghost use Rattle.event_code.specs.Spelled.{IsSpelledEffect};
 ghost use Rattle.exchange_model.specs.Apply.{record_len};
 ghost use Rattle.exchange_model.specs.End.{End};
 ghost use Rattle.exchange_model.specs.Fold.{IsFolded, IsFoldedSize, resized};
 ghost use Rattle.journal.specs.State.{HasFold, HasRecords, IsDisk, IsReadFault};
-ghost use Rattle.journal.specs.Store.{OpensSettled};
+ghost use Rattle.journal.specs.Store.{InVersion, OpensSettled};
 
 use crate::adding::frame_of;
 use crate::fault::since;
@@ -45,11 +45,13 @@ pub fn fold_end<D: Disk>(
     ensures starved { IsErrOf result JournalFault.NoMemory
         → (end : End) → IsJournalOf D.seen D.may_leave end journal.old → IsJournalOf D.seen D.may_leave end journal.new }
 
-    // Until the other leaf has been settled a crash leaves the records, and from then on these or the folded end.
+    // Until the other leaf has been settled a crash leaves the records in their version, and from then on these or the
+    // folded end.
     ensures any_moment { (bodies : List (List ℕ)) (size : ℕ) → HasRecords D.seen D.may_leave journal.old bodies
         → IsFoldedSize core.old.end size
-        → FirstThen D.moment D.left_since journal.old.disk journal.new.disk (OpensSettled bodies)
-        (λ (c : Image). OpensSettled bodies c ⊎ OpensOnly c (resized size core.old.end)) }
+        → FirstThen D.moment D.left_since journal.old.disk journal.new.disk
+        (InVersion journal.old.version (OpensSettled bodies))
+        (λ (c : Image). InVersion journal.old.version (OpensSettled bodies) c ⊎ IsAt c (resized size core.old.end)) }
     ensures faults { IfErr result IsReadFault }
     ensures cause { IfErr result
         (IsDisk (D.fault_count journal.old.disk) (D.fault_count journal.new.disk)) }
@@ -82,8 +84,9 @@ fn write_fold<D: Disk>(
         → (end : End) → IsJournalOf D.seen D.may_leave end journal.old → IsJournalOf D.seen D.may_leave end journal.new }
     ensures any_moment { (bodies : List (List ℕ)) (size : ℕ) → HasRecords D.seen D.may_leave journal.old bodies
         → IsFoldedSize core.now.end size
-        → FirstThen D.moment D.left_since journal.old.disk journal.new.disk (OpensSettled bodies)
-        (λ (c : Image). OpensSettled bodies c ⊎ OpensOnly c (resized size core.now.end)) }
+        → FirstThen D.moment D.left_since journal.old.disk journal.new.disk
+        (InVersion journal.old.version (OpensSettled bodies))
+        (λ (c : Image). InVersion journal.old.version (OpensSettled bodies) c ⊎ IsAt c (resized size core.now.end)) }
     ensures faults { IfErr result IsReadFault }
     ensures cause { IfErr result
         (IsDiskSince (D.fault_count journal.old.disk) (D.fault_count journal.new.disk)) }
@@ -123,7 +126,8 @@ fn add_parts<D: Disk>(
         → HasFold D.seen D.may_leave journal.old bodies []
         → (folded : List (List ℕ)) × HasFold D.seen D.may_leave journal.new bodies folded) }
     ensures any_moment { (bodies : List (List ℕ)) → HasFold D.seen D.may_leave journal.old bodies []
-        → LeavesOnly D.moment D.left_since journal.old.disk journal.new.disk (OpensSettled bodies) }
+        → LeavesOnly D.moment D.left_since journal.old.disk journal.new.disk
+        (InVersion journal.old.version (OpensSettled bodies)) }
     ensures faults { IfErr result IsReadFault }
     ensures cause { IfErr result
         (IsDiskSince (D.fault_count journal.old.disk) (D.fault_count journal.new.disk)) }
@@ -156,7 +160,8 @@ fn add_part<D: Disk>(
         × IsFolded core.now.end effects × (slice_get effects part ≡ None) × (journal.new ≡ journal.old)) }
     ensures starved { IsErrOf result JournalFault.NoMemory → journal.new ≡ journal.old }
     ensures any_moment { (bodies folded : List (List ℕ)) → HasFold D.seen D.may_leave journal.old bodies folded
-        → LeavesOnly D.moment D.left_since journal.old.disk journal.new.disk (OpensSettled bodies) }
+        → LeavesOnly D.moment D.left_since journal.old.disk journal.new.disk
+        (InVersion journal.old.version (OpensSettled bodies)) }
     ensures faults { IfErr result IsReadFault }
     ensures cause { IfErr result
         (IsDisk (D.fault_count journal.old.disk) (D.fault_count journal.new.disk)) }

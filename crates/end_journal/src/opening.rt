@@ -7,6 +7,7 @@ ghost use Rattle.end_records.specs.Opens.{IsJournalOf, IsOld, ReadsAs, ReopensAs
 ghost use Rattle.end_records.specs.Unfit.{IsNoJournal};
 ghost use Rattle.exchange_model.specs.End.{End, empty_end};
 ghost use Rattle.exchange_model.specs.Fold.{IsFoldedSize, resized};
+ghost use Rattle.journal.specs.Leaf.{IsNew};
 ghost use Rattle.journal.specs.State.{HasRead, IsDisk, IsOpeningFault};
 ghost use Rattle.journal.specs.Store.{picked_leaf};
 ghost use Rattle.journal.specs.declared.version.Version.TheVariants.{One, Two};
@@ -83,6 +84,7 @@ fn bring_up<D: Disk>(
 ) -> Result<(), JournalFault>
     requires new { (core.old.end ≡ empty_end) × (journal.old.gate ≡ 8) × IsNone journal.old.fold }
     requires read { Told (D.seen journal.old.disk) (λ _. HasRead D.seen D.may_leave journal.old []) }
+    requires version { Told (D.seen journal.old.disk) (λ b. IsNew (picked_leaf b) → journal.old.version ≡ Two) }
     ensures kept { OnOk result (IsJournalOf D.seen D.may_leave core.new.end journal.new) }
     ensures modes { core.new.modes ≡ core.old.modes }
     ensures end { OnOk result (HasRead D.seen D.may_leave journal.old [] → Told (D.seen journal.old.disk) (λ b. (end : End)

@@ -1,6 +1,7 @@
 pub mod RecordLemmas
 pub mod SizeLemmas
 pub mod OpenLemmas
+pub mod ReopenLemmas
 pub mod UnfitLemmas
 pub mod FoldLemmas
 pub mod BoundLemmas

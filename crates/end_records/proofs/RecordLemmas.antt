@@ -25,8 +25,12 @@ abbrev pub HasOneBody : Type 0
 HasOneBody = (e f : List Effect) → length e ≤ effects_limit → length f ≤ effects_limit → AreSpelled e → AreSpelled f
     → effects_body e ≡ effects_body f → e ≡ f
 
+-- a record leads to no two ends
+abbrev pub LeadsOnce : Type 0
+LeadsOnce = (body : List ℕ) (start a b : End) → RecordLeads body start a → RecordLeads body start b → a ≡ b
+
 module _ (one : HasOneBody) where
-  pub one_record : (body : List ℕ) (start a b : End) → RecordLeads body start a → RecordLeads body start b → a ≡ b
+  pub one_record : LeadsOnce
   one_record body start a b (e, is, fits, leads) (f, is_too, fits_too, leads_too) =
       let same : e ≡ f = one e f is.counted is_too.counted is.spelled is_too.spelled (sym is.bytes ∙ is_too.bytes) in
       leads ∙ ap (λ (effects : List Effect). applied effects start) same ∙ sym leads_too

@@ -1,12 +1,12 @@
 -- What a disk opens to, as an end. A leaf of version 1 opens to the end that its records lead to, with the size that
 -- they have in version 2, which is what an office writes.
-use Rattle.std.specs.Prelude.{◌≡◌, ◌⊎◌, ℕ, ◌+◌, ◌<◌, List, Option, IsNone, length, take}
+use Rattle.std.specs.Prelude.{◌≡◌, ◌⊎◌, ℕ, ◌+◌, List, Option, IsNone}
 use Rattle.as4_disk.specs.Image.{Image}
 use Rattle.as4_flow.specs.Told.{Told}
 use Rattle.end_records.specs.Records.{RecordLeads, RecordsLead}
 use Rattle.exchange_model.specs.End.{End, empty_end}
 use Rattle.exchange_model.specs.Fold.{IsFoldedSize, resized}
-use Rattle.journal.specs.Leaf.{Lists, magic_of}
+use Rattle.journal.specs.Leaf.{IsOfVersion, Lists}
 use Rattle.journal.specs.State.{HasRecords}
 use Rattle.journal.specs.Store.{HasPending, OpensTo, picked_leaf}
 use Rattle.journal.specs.declared.journal.Journal.{Journal}
@@ -39,33 +39,46 @@ pub record HasPendingEnd (image : Image) (end next : End) : Type 0 where
   pub has : HasPending bodies body image
   pub on : RecordLeads body end next
 
--- it opens to this end with a folded journal
-abbrev pub IsFoldedOf : Image → End → Type 0
-IsFoldedOf image end = (size : ℕ) × IsFoldedSize end size × OpensOnly image (resized size end)
+-- a leaf of version 1
+abbrev pub IsOld : List ℕ → Type 0
+IsOld leaf = IsOfVersion One leaf
 
--- it opens to this end, or to this end with a folded journal, and nothing is pending
+-- the disk opens with what may be pending, and its leaf isn't of version 1, so that opening it folds nothing
+abbrev pub IsAtWith : Image → End → (End → Type 0) → Type 0
+IsAtWith image end P = OpensWith image end P × (IsOld (picked_leaf image) → ⊥)
+
+-- the disk is at this end: nothing is pending, and opening it folds nothing
+abbrev pub IsAt : Image → End → Type 0
+IsAt image end = IsAtWith image end (λ next. ⊥)
+
+-- it is at the first end, with the second pending at most, or it is at the second
+abbrev pub IsAtOneOf : Image → End → End → Type 0
+IsAtOneOf image end next = IsAtWith image end (λ n. n ≡ next) ⊎ IsAt image next
+
+-- it is at this end with a folded journal
+abbrev pub IsFoldedOf : Image → End → Type 0
+IsFoldedOf image end = (size : ℕ) × IsFoldedSize end size × IsAt image (resized size end)
+
+-- it is at this end, or at this end with a folded journal
 abbrev pub OpensFolded : Image → End → Type 0
-OpensFolded image end = OpensOnly image end ⊎ IsFoldedOf image end
+OpensFolded image end = IsAt image end ⊎ IsFoldedOf image end
+
+-- the first disk's leaf was of version 1, and the second is at this end with a folded journal
+abbrev pub IsMigrated : Image → Image → End → Type 0
+IsMigrated before after end = IsOld (picked_leaf before) × IsFoldedOf after end
 
 -- From a disk that read so to what a crash leaves while it is opened: it opens to the same end, and what is pending was
--- pending; or to that behind the pending record, with nothing pending; and the journal of either may be folded.
-abbrev pub ReopensAs : Image → Image → Type 0
-ReopensAs before after = (end : End) → OpensAs before end
-    → (OpensWith after end (HasPendingEnd before end) ⊎ IsFoldedOf after end)
-    ⊎ ((next : End) × HasPendingEnd before end next × OpensFolded after next)
+-- pending; or to that behind the pending record, with nothing pending. Where the leaf was of version 1, the journal of
+-- either may be folded; where it wasn't, it isn't now.
+pub record ReopensAs (before after : Image) : Type 0 where
+  pub version : IsOld (picked_leaf after) → IsOld (picked_leaf before)
+  pub opens : (end : End) → OpensAs before end
+      → (OpensWith after end (HasPendingEnd before end) ⊎ IsMigrated before after end)
+      ⊎ ((next : End) × HasPendingEnd before end next × (OpensOnly after next ⊎ IsMigrated before after next))
 
 -- the records of this disk lead to this end; whether the disk is whole isn't said
 abbrev pub ReadsAs : Image → End → Type 0
 ReadsAs image end = (bodies : List (List ℕ)) × Lists bodies (picked_leaf image) × RecordsLead bodies empty_end end
-
--- a leaf of version 1
-abbrev pub IsOld : List ℕ → Type 0
-IsOld leaf = (9 < length leaf) × (take 8 leaf ≡ magic_of One)
-
--- the disk is at this end: it opens to it, nothing is pending, and its leaf isn't of version 1, so that opening it folds
--- nothing
-abbrev pub IsAt : Image → End → Type 0
-IsAt image end = OpensOnly image end × (IsOld (picked_leaf image) → ⊥)
 
 -- on a disk that tells, each crash leaves one that is at this end
 abbrev pub KeepsEnd : {D : Type 0} → (D → Option Image) → (D → Image → Type 0) → D → End → Type 0

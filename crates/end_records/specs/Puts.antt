@@ -3,9 +3,8 @@ use Rattle.std.specs.Prelude.{◌≡◌, ◌≢◌, ℕ, ◌+◌, List, [], ◌�
 use Rattle.as4_disk.specs.Bytes.{IsOverwritten, Torn}
 use Rattle.as4_disk.specs.Image.{Image, On}
 use Rattle.as4_disk.specs.declared.part.Part.{Part}
-use Rattle.end_records.specs.Opens.{IsAt, IsOld, OpensWith}
+use Rattle.end_records.specs.Opens.{IsAt, IsAtWith}
 use Rattle.exchange_model.specs.End.{End}
-use Rattle.journal.specs.Store.{picked_leaf}
 
 -- The record is put behind the closed gate at this place, on a disk of which a crash leaves these outcomes: first all of it
 -- but its gate, and then the gate.
@@ -16,4 +15,4 @@ pub record Puts (outcomes : Image → Type 0) (part : Part) (gate : ℕ) (tail :
   pub opened : (c d e : Image) → outcomes c → On part (IsOverwritten (gate + 1) tail) c d → On part (IsOverwritten gate (1 ∷ [])) d e → IsAt e next
   -- with any other byte there it opens to the end before, and the record is pending at most
   pub closed : (byte : ℕ) (c d e : Image) → byte ≢ 1 → outcomes c → On part (IsOverwritten (gate + 1) tail) c d → On part (IsOverwritten gate (byte ∷ [])) d e
-      → OpensWith e end (λ n. n ≡ next) × (IsOld (picked_leaf e) → ⊥)
+      → IsAtWith e end (λ n. n ≡ next)

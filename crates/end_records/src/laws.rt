@@ -24,8 +24,9 @@ ghost use Rattle.journal.specs.Store.{leaf_of, picked_leaf};
 use as4_disk::{Disk, a_stopped_run_is_known};
 use event_code::one_body;
 
-/// A disk opens to one end, and reads as that one.
+/// A record leads from an end to one other. So a disk opens to one end, and reads as that one.
 pub fn an_image_opens_to_one_end()
+    ensures leads { (body : List ℕ) (start a b : End) → RecordLeads body start a → RecordLeads body start b → a ≡ b }
     ensures one { (image : Image) (a b : End) → OpensAs image a → OpensAs image b → a ≡ b }
     ensures read { (image : Image) (a b : End) → ReadsAs image a → ReadsAs image b → a ≡ b }
     ensures whole { (image : Image) (end : End) → OpensAs image end → ReadsAs image end }

@@ -5,9 +5,9 @@ use Rattle.as4_disk.specs.Image.{Image}
 use Rattle.as4_disk.proofs.ByteLemmas.{overwritten_behind, torn_behind, torn_byte}
 use Rattle.journal.specs.declared.version.Version.TheVariants.{Two}
 use Rattle.journal.specs.Leaf.{limit_of, length_bytes, record_of, front_of, frame_of}
-use Rattle.journal.specs.Store.{picked_leaf, OpensToOneOf}
+use Rattle.journal.specs.Store.{picked_leaf, InVersion, OpensToOneOf}
 use Rattle.journal.proofs.LeafLemmas.{length-front_more}
-use Rattle.journal.proofs.StoreLemmas.{opened, settled_opens, closed_opens, gate_opens}
+use Rattle.journal.proofs.StoreLemmas.{opened, settled_opens, closed_in, gate_opens, magic_in}
 
 -- all of a record but its gate
 pub tail_of : List ℕ → List ℕ
@@ -71,14 +71,17 @@ module _ (bodies : List (List ℕ)) (body rest : List ℕ) where
       overwritten_behind (front_of Two bodies) (0 ∷ (tail_of body ++ after)) (byte ∷ []) new (subst P place wrote) ∙ after_byte byte after
 
   -- behind the closed gate any bytes are ignored
-  pub torn_tail : (gate n : ℕ) (c : Image) → gate ≡ length (front_of Two bodies) → length (front_of Two (bodies ++ body ∷ [])) < limit_of Two → Torn (gate + 1) n (front_of Two bodies ++ 0 ∷ rest) (picked_leaf c) → OpensToOneOf bodies body c
+  pub torn_tail : (gate n : ℕ) (c : Image) → gate ≡ length (front_of Two bodies) → length (front_of Two (bodies ++ body ∷ [])) < limit_of Two → Torn (gate + 1) n (front_of Two bodies ++ 0 ∷ rest) (picked_leaf c) → InVersion Two (OpensToOneOf bodies body) c
   torn_tail gate n c place within torn =
       let behind = torn_behind_gate gate n (picked_leaf c) place torn in
-      inl (settled_opens bodies (λ other. other ≡ body) c (closed_opens Two bodies behind.0 c (less within) behind.1))
+      let in_two = closed_in Two bodies behind.0 c (less within) behind.1 in
+      (inl (settled_opens bodies (λ other. other ≡ body) c in_two.0), in_two.1)
 
   -- the gate is being opened, and the rest of the record is on the disk
-  pub torn_open : (gate : ℕ) (after : List ℕ) (c : Image) → gate ≡ length (front_of Two bodies) → length (front_of Two (bodies ++ body ∷ [])) < limit_of Two → Torn gate 1 (front_of Two bodies ++ 0 ∷ (tail_of body ++ after)) (picked_leaf c) → OpensToOneOf bodies body c
+  pub torn_open : (gate : ℕ) (after : List ℕ) (c : Image) → gate ≡ length (front_of Two bodies) → length (front_of Two (bodies ++ body ∷ [])) < limit_of Two → Torn gate 1 (front_of Two bodies ++ 0 ∷ (tail_of body ++ after)) (picked_leaf c) → InVersion Two (OpensToOneOf bodies body) c
   torn_open gate after c place within torn =
       let P : ℕ → Type 0 = λ k. Torn k 1 (front_of Two bodies ++ 0 ∷ (tail_of body ++ after)) (picked_leaf c) in
-      let any = torn_byte (front_of Two bodies) 0 (tail_of body ++ after) (picked_leaf c) (subst P place torn) in
-      gate_opens Two bodies body after any.0 c (less within) within (any.1 ∙ ap (λ (l : List ℕ). front_of Two bodies ++ any.0 ∷ l) (tail_behind body after))
+      let any = torn_byte (front_of Two bodies) 0 (tail_of body ++ after) (picked_leaf c) (subst P place torn) in (
+        gate_opens Two bodies body after any.0 c (less within) within (any.1 ∙ ap (λ (l : List ℕ). front_of Two bodies ++ any.0 ∷ l) (tail_behind body after)),
+        magic_in Two bodies (any.0 ∷ (tail_of body ++ after)) (picked_leaf c) any.1,
+      )

@@ -31,9 +31,6 @@ pub frame_is : (body bytes : List ℕ) → bytes ≡ frame_of body → bytes ≡
 frame_is body bytes are =
     are ∙ ap (λ (l : List ℕ). frame_of l) (sym (frame_body body) ∙ ap (λ (l : List ℕ). take (length l - 10) (drop 9 l)) (sym are))
 
-pub body_is : (body bytes : List ℕ) → bytes ≡ frame_of body → take (length bytes - 10) (drop 9 bytes) ≡ body
-body_is body bytes are = ap (λ (l : List ℕ). take (length l - 10) (drop 9 l)) are ∙ frame_body body
-
 -- another body of the same length
 pub frame_filled : (old new bytes : List ℕ) → bytes ≡ frame_of old → length new ≡ length old → take 9 bytes ++ new ++ drop (9 + length new) bytes ≡ frame_of new
 unfolding head

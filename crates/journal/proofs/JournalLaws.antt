@@ -1,11 +1,11 @@
 -- What the layer above may cite of a journal's state, and of the images that a crash leaves.
-use Rattle.std.proofs.Common.{◌≡◌, inl, inr, ⊎_elim, ℕ, ◌<◌, List, [], ◌∷◌, ◌++◌, Option, Some, length, subst}
+use Rattle.std.proofs.Common.{◌≡◌, inl, inr, ℕ, ◌<◌, List, [], ◌∷◌, ◌++◌, Option, Some, length, subst, arith}
 use Rattle.as4_disk.specs.Image.{Image}
 use Rattle.journal.specs.declared.version.Version.{Version}
 use Rattle.journal.specs.declared.version.Version.TheVariants.{Two}
 use Rattle.journal.specs.declared.journal.Journal.{Journal}
-use Rattle.journal.specs.Leaf.{limit_of, front_of, Lists}
-use Rattle.journal.specs.Store.{picked_leaf, HasPending, OpensWith, OpensSettled, Reopens, KeepsLeaf}
+use Rattle.journal.specs.Leaf.{limit_of, front_of, IsOfVersion, Lists}
+use Rattle.journal.specs.Store.{picked_leaf, Reopens, KeepsLeaf}
 use Rattle.journal.specs.Settled.{IsSettled}
 use Rattle.journal.specs.State.{HasRead, HasRecords}
 use Rattle.journal.proofs.StoreLemmas.{new_none, keeps_records, keeps_pending, settled_told}
@@ -27,17 +27,19 @@ as_two seen may_leave journal bodies is_two has =
 
 -- ---- what keeps the leaf
 
--- it keeps the records, and what is pending was pending
-pub keeps_reopens : (b c : Image) → KeepsLeaf b c → Reopens b c
-keeps_reopens b c keeps bodies opens = inl (keeps_records b c keeps bodies opens, keeps_pending b c keeps bodies)
+-- it keeps the version
+pub keeps_version : (v : Version) (b c : Image) → KeepsLeaf b c → IsOfVersion v (picked_leaf c) → IsOfVersion v (picked_leaf b)
+keeps_version v b c (inl same) is =
+    let P : List ℕ → Type 0 = IsOfVersion v in
+    subst P same is
+keeps_version v b c (inr new) is = absurd (omega (arith, new.1, is.0))
 
--- and a crash later leaves what it would have left
-pub keeps_then : (b d c : Image) → KeepsLeaf b d → Reopens d c → Reopens b c
-keeps_then b d c keeps reopens bodies opens =
-    ⊎_elim
-    (λ (without : OpensWith bodies (λ body. HasPending bodies body d) c). inl (without.0, λ body has. keeps_pending b d keeps bodies body (without.1 body has)))
-    (λ (more : (body : List ℕ) × HasPending bodies body d × OpensSettled (bodies ++ body ∷ []) c). inr (more.0, keeps_pending b d keeps bodies more.0 more.1, more.2))
-    (reopens bodies (keeps_records b d keeps bodies opens))
+-- and the records, and what is pending was pending
+pub keeps_reopens : (b c : Image) → KeepsLeaf b c → Reopens b c
+keeps_reopens b c keeps = record {
+  version = λ v. keeps_version v b c keeps;
+  records = λ bodies opens. inl (keeps_records b c keeps bodies opens, keeps_pending b c keeps bodies);
+}
 
 -- and the list of records that the leaf has it had before
 pub keeps_lists : (bodies : List (List ℕ)) (b c : Image) → KeepsLeaf b c → Lists bodies (picked_leaf c) → Lists bodies (picked_leaf b)

@@ -1,5 +1,5 @@
 -- How a journal begins: a leaf that is new, and one that has a magic.
-use Rattle.std.proofs.Common.{◌≡◌, ℕ, ◌<◌, Bool, List, [], ◌∷◌, ◌++◌, Option, length, take, drop, sym, ◌∙◌, ap, subst, arith, length-drop, take-append-drop}
+use Rattle.std.proofs.Common.{◌≡◌, ℕ, ◌<◌, Bool, List, [], ◌∷◌, ◌++◌, Option, length, take, drop, refl, sym, ◌∙◌, ap, subst, arith, length-drop, take-append-drop}
 use Rattle.as4_disk.specs.Image.{Image}
 use Rattle.journal.specs.declared.version.Version.{Version}
 use Rattle.journal.specs.declared.version.Version.TheVariants.{Two}
@@ -26,9 +26,9 @@ module _ {D : Type 0} (seen : D → Option Image) (may_leave : D → Image → T
   starts disk is_second version leaf magic long is =
       let gate = has_gate version leaf magic long in
       let P : List ℕ → Type 0 = IsSettled seen may_leave disk is_second in
-      record { next = gate.0; rest = gate.1; settled = subst P gate.2 is; made = λ is_open. omega (arith, long, ap length gate.2) }
+      record { next = gate.0; rest = gate.1; settled = subst P gate.2 is; made = λ is_open. omega (arith, long, ap length gate.2); new = λ short. absurd (omega (arith, long, short, ap length gate.2)) }
 
   pub starts_new : (disk : D) (is_second : Bool) (bytes : List ℕ) → bytes ≡ front_of Two [] ++ 0 ∷ [] → IsSettled seen may_leave disk is_second bytes → IsStart seen may_leave disk is_second Two
   starts_new disk is_second bytes are is =
       let P : List ℕ → Type 0 = IsSettled seen may_leave disk is_second in
-      record { next = 0; rest = []; settled = subst P are is; made = λ is_open. absurd (omega (arith, is_open)) }
+      record { next = 0; rest = []; settled = subst P are is; made = λ is_open. absurd (omega (arith, is_open)); new = λ short. refl }

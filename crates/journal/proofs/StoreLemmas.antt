@@ -1,5 +1,5 @@
 -- Disks of a journal: what is settled of the picked leaf, and what the images of a crash open to.
-use Rattle.std.proofs.Common.{◌≡◌, ◌≢◌, ◌⊎◌, inl, inr, ⊎_elim, ℕ, ◌<◌, Bool, true, false, is_some, List, [], ◌∷◌, ◌++◌, Option, Some, None, length, drop, get_or, refl, sym, ◌∙◌, ap, subst, arith, append_assoc, length-append}
+use Rattle.std.proofs.Common.{◌≡◌, ◌≢◌, ◌⊎◌, inl, inr, ⊎_elim, ℕ, ◌<◌, Bool, true, false, is_some, List, [], ◌∷◌, ◌++◌, Option, Some, None, length, take, drop, get_or, refl, sym, ◌∙◌, ap, subst, arith, append_assoc, length-append}
 use Rattle.std.specs.Prelude.{flat_map}
 use Rattle.std.proofs.lemmas.Bool.{cases_eq}
 use Rattle.std.proofs.lemmas.List.{append-nil}
@@ -12,10 +12,10 @@ use Rattle.as4_flow.specs.Told.{Told}
 use Rattle.as4_disk.proofs.ByteLemmas.{overwritten_behind}
 use Rattle.as4_disk.proofs.ImageLemmas.{only_elsewhere, only_within}
 use Rattle.journal.specs.declared.version.Version.{Version}
-use Rattle.journal.specs.Leaf.{limit_of, length_bytes, record_of, front_of, IsLeaf, IsPending, IsNew, Lists, IsWholeLeaf}
-use Rattle.journal.specs.Store.{picks, leaf_of, is_second_of, picked_leaf, OpensTo, HasPending, OpensWith, OpensSettled, OpensToOneOf, Reopens, KeepsLeaf}
+use Rattle.journal.specs.Leaf.{limit_of, length_bytes, record_of, front_of, magic_of, HasMagic, IsLeaf, IsOfVersion, IsPending, IsNew, Lists, IsWholeLeaf}
+use Rattle.journal.specs.Store.{picks, leaf_of, is_second_of, picked_leaf, OpensTo, HasPending, OpensWith, OpensSettled, OpensToOneOf, InVersion, Reopens, KeepsLeaf}
 use Rattle.journal.specs.Settled.{IsSettled}
-use Rattle.journal.proofs.LeafLemmas.{length-front, length-front_more, front_more, record_at, record_head, reached}
+use Rattle.journal.proofs.LeafLemmas.{front_magic, length-front, length-front_more, front_more, record_at, record_head, reached}
 
 -- ---- leaves
 
@@ -56,10 +56,6 @@ lists_once xs ys leaf (inl a) (inr b) = a.1 ∙ sym (new_none b.0 ys b.1 b.2 lea
 lists_once xs ys leaf (inr a) (inl b) = new_none a.0 xs a.1 a.2 leaf a.3 b.0 ∙ sym b.1
 lists_once xs ys leaf (inr a) (inr b) = (one_leaf a.0 b.0 xs ys a.1 b.1 a.2 b.2 leaf a.3 b.3).1
 
--- an image opens to one list of records
-pub opens_once : (xs ys : List (List ℕ)) (image : Image) → OpensTo xs image → OpensTo ys image → xs ≡ ys
-opens_once xs ys image a b = lists_once xs ys (picked_leaf image) (whole_lists xs _ a) (whole_lists ys _ b)
-
 -- an open gate with a whole record behind it
 pub opened : (version : Version) (bodies : List (List ℕ)) (body after : List ℕ) (gate : ℕ) → front_of version bodies ++ 1 ∷ (length_bytes version (length body) ++ body ++ gate ∷ after) ≡ front_of version (bodies ++ body ∷ []) ++ gate ∷ after
 opened version bodies body after gate =
@@ -93,6 +89,10 @@ none_pending bodies body image short (version, gate, rest, is, not_zero, pending
 
 -- ---- what an image opens to
 
+-- a leaf that begins with a front has its magic
+pub magic_in : (version : Version) (bodies : List (List ℕ)) (rest leaf : List ℕ) → leaf ≡ front_of version bodies ++ rest → HasMagic version leaf
+magic_in version bodies rest leaf bytes = ap (λ (l : List ℕ). take 8 l) bytes ∙ front_magic version bodies rest
+
 -- where none is pending, any may be
 pub settled_opens : (bodies : List (List ℕ)) (may_pend : List ℕ → Type 0) (image : Image) → OpensSettled bodies image → OpensWith bodies may_pend image
 settled_opens bodies may_pend image settled = (settled.0, λ body has. absurd (settled.1 body has))
@@ -102,6 +102,11 @@ pub closed_opens : (version : Version) (bodies : List (List ℕ)) (rest : List �
 closed_opens version bodies rest image within bytes =
     let here : IsLeaf version bodies 0 rest (picked_leaf image) = record { bytes = bytes; closed = λ zero_is. absurd (omega (arith, zero_is)); within = within } in
     (inr (version, 0, rest, here, inl refl), λ body has. (pending_here version bodies 0 rest body image here has).0 refl)
+
+-- and its version is the front's
+pub closed_in : (version : Version) (bodies : List (List ℕ)) (rest : List ℕ) (image : Image) → length (front_of version bodies) < limit_of version → picked_leaf image ≡ front_of version bodies ++ 0 ∷ rest → InVersion version (OpensSettled bodies) image
+closed_in version bodies rest image within bytes =
+    (closed_opens version bodies rest image within bytes, magic_in version bodies (0 ∷ rest) (picked_leaf image) bytes)
 
 -- a whole record behind a closed gate is pending, and no other is
 pub pending_opens : (version : Version) (bodies : List (List ℕ)) (body rest : List ℕ) (gate : ℕ) (image : Image) → IsLeaf version bodies gate rest (picked_leaf image) → IsPending version bodies body rest → OpensWith bodies (λ other. other ≡ body) image
@@ -141,12 +146,14 @@ keeps_pending before after (inl same) bodies body (version, gate, rest, is, not_
 keeps_pending before after (inr new) bodies body has = absurd (none_pending bodies body after new.1 has)
 
 -- The gate that was met last is being closed: behind what was read, and over a whole disk, any byte there opens again.
-pub closing_reopens : (version : Version) (read : List (List ℕ)) (gate other : ℕ) (rest : List ℕ) (before after : Image) → length (front_of version read) < limit_of version → gate ≢ 1 → gate ≢ 0
-    → picked_leaf before ≡ front_of version read ++ gate ∷ rest → picked_leaf after ≡ front_of version read ++ other ∷ rest → Reopens before after
-closing_reopens version read gate other rest before after within closed not_zero bytes bytes_after bodies (inl none) =
+closing_records : (version : Version) (read : List (List ℕ)) (gate other : ℕ) (rest : List ℕ) (before after : Image) → length (front_of version read) < limit_of version → gate ≢ 1 → gate ≢ 0
+    → picked_leaf before ≡ front_of version read ++ gate ∷ rest → picked_leaf after ≡ front_of version read ++ other ∷ rest
+    → (bodies : List (List ℕ)) → OpensTo bodies before
+    → OpensWith bodies (λ body. HasPending bodies body before) after ⊎ ((body : List ℕ) × HasPending bodies body before × OpensSettled (bodies ++ body ∷ []) after)
+closing_records version read gate other rest before after within closed not_zero bytes bytes_after bodies (inl none) =
     let new : IsNew (picked_leaf after) = omega (arith, none.0, ap length bytes, ap length bytes_after, length-append (front_of version read) (gate ∷ rest), length-append (front_of version read) (other ∷ rest)) in
     inl (inl (new, none.1), λ body has. absurd (none_pending bodies body after new has))
-closing_reopens version read gate other rest before after within closed not_zero bytes bytes_after bodies (inr w) =
+closing_records version read gate other rest before after within closed not_zero bytes bytes_after bodies (inr w) =
     let here : IsLeaf version read gate rest (picked_leaf before) = record { bytes = bytes; closed = closed; within = within } in
     let same = one_leaf version w.0 read bodies gate w.1 rest w.2 (picked_leaf before) here w.3 in
     let P : List (List ℕ) → Type 0 = λ l. IsLeaf version l gate rest (picked_leaf before) in
@@ -167,6 +174,17 @@ closing_reopens version read gate other rest before after within closed not_zero
         (λ without. inl (without.0, λ b has_b. subst P (sym (without.1 b has_b)) has))
         (λ opens. inr (body, has, opens))
         (gate_opens version bodies body is.after other after here.within is.within (new ∙ ap (λ (l : List ℕ). front_of version bodies ++ other ∷ l) is.bytes))
+
+-- and the leaf has the version that it had
+pub closing_reopens : (version : Version) (read : List (List ℕ)) (gate other : ℕ) (rest : List ℕ) (before after : Image) → length (front_of version read) < limit_of version → gate ≢ 1 → gate ≢ 0
+    → picked_leaf before ≡ front_of version read ++ gate ∷ rest → picked_leaf after ≡ front_of version read ++ other ∷ rest → Reopens before after
+closing_reopens version read gate other rest before after within closed not_zero bytes bytes_after = record {
+  version = λ v is. (
+    omega (arith, is.0, ap length bytes, ap length bytes_after, length-append (front_of version read) (gate ∷ rest), length-append (front_of version read) (other ∷ rest)),
+    magic_in version read (gate ∷ rest) (picked_leaf before) bytes ∙ sym (magic_in version read (other ∷ rest) (picked_leaf after) bytes_after) ∙ is.1,
+  );
+  records = closing_records version read gate other rest before after within closed not_zero bytes bytes_after;
+}
 
 -- ---- what is settled
 

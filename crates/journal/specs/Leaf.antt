@@ -13,6 +13,10 @@ unfoldable pub magic_of : Version → List ℕ
 magic_of One = 65 ∷ 83 ∷ 52 ∷ 74 ∷ 78 ∷ 76 ∷ 49 ∷ 10 ∷ []
 magic_of Two = 65 ∷ 83 ∷ 52 ∷ 74 ∷ 78 ∷ 76 ∷ 50 ∷ 10 ∷ []
 
+-- the leaf begins with the magic of this version
+abbrev pub HasMagic : Version → List ℕ → Type 0
+HasMagic version leaf = take 8 leaf ≡ magic_of version
+
 -- how many bytes a length has
 abbrev pub width_of : Version → ℕ
 width_of One = 4
@@ -55,6 +59,10 @@ pub record IsPending (version : Version) (bodies : List (List ℕ)) (body rest :
 -- a leaf of at most 9 bytes is a new one, whatever they are
 abbrev pub IsNew : List ℕ → Type 0
 IsNew leaf = length leaf ≤ 9
+
+-- a leaf of this version, and no new one
+abbrev pub IsOfVersion : Version → List ℕ → Type 0
+IsOfVersion version leaf = (9 < length leaf) × HasMagic version leaf
 
 -- the records of a leaf
 abbrev pub Lists : List (List ℕ) → List ℕ → Type 0

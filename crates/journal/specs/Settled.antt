@@ -1,9 +1,10 @@
 -- What stands of the disk of a journal once the picked leaf is settled.
-use Rattle.std.specs.Prelude.{◌≡◌, ℕ, ◌<◌, Bool, not, List, [], ◌∷◌, ◌++◌, Option, Some, length}
+use Rattle.std.specs.Prelude.{◌≡◌, ℕ, ◌<◌, ◌≤◌, Bool, not, List, [], ◌∷◌, ◌++◌, Option, Some, length}
 use Rattle.as4_disk.specs.declared.part.Part.TheVariants.{Selector}
 use Rattle.as4_flow.specs.Told.{Told}
 use Rattle.as4_disk.specs.Image.{Image, IsOnly}
 use Rattle.journal.specs.declared.version.Version.{Version}
+use Rattle.journal.specs.declared.version.Version.TheVariants.{Two}
 use Rattle.journal.specs.Leaf.{front_of}
 use Rattle.journal.specs.Store.{leaf_of, is_second_of}
 
@@ -24,9 +25,10 @@ Reads seen disk is_second other = Told (seen disk) (λ b. b (leaf_of (not is_sec
 abbrev pub ReadsSettled : {D : Type 0} → (D → Option Image) → (D → Image → Type 0) → D → Bool → List ℕ → Type 0
 ReadsSettled seen may_leave disk is_second other = Told (seen disk) (λ b. (b (leaf_of (not is_second)) ≡ other) × IsOnly (leaf_of (not is_second)) b (may_leave disk))
 
--- The picked leaf begins with its magic and a gate. Where that is open, the leaf isn't new.
+-- The picked leaf begins with its magic and a gate. Where that is open, the leaf isn't new; a new one has version 2.
 pub record IsStart {D : Type 0} (seen : D → Option Image) (may_leave : D → Image → Type 0) (disk : D) (is_second : Bool) (version : Version) : Type 0 where
   pub next : ℕ
   pub rest : List ℕ
   pub settled : IsSettled seen may_leave disk is_second (front_of version [] ++ next ∷ rest)
   pub made : next ≡ 1 → 9 < length (front_of version [] ++ next ∷ rest)
+  pub new : length (front_of version [] ++ next ∷ rest) ≤ 9 → version ≡ Two

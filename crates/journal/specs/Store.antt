@@ -4,7 +4,8 @@ use Rattle.as4_disk.specs.declared.part.Part.{Part}
 use Rattle.as4_disk.specs.declared.part.Part.TheVariants.{Selector, Leaf0, Leaf1}
 use Rattle.as4_disk.specs.Image.{Image}
 use Rattle.journal.specs.declared.version.Version.{Version}
-use Rattle.journal.specs.Leaf.{IsNew, IsLeaf, IsPending, IsWholeLeaf}
+use Rattle.journal.specs.declared.version.Version.TheVariants.{Two}
+use Rattle.journal.specs.Leaf.{HasMagic, IsNew, IsLeaf, IsOfVersion, IsPending, IsWholeLeaf}
 
 -- the low bit of the selector's first byte picks leaf 1; an empty selector picks leaf 0
 abbrev pub picks : List ℕ → Bool
@@ -42,16 +43,22 @@ OpensSettled bodies image = OpensWith bodies (λ body. ⊥) image
 abbrev pub OpensToOneOf : List (List ℕ) → List ℕ → Image → Type 0
 OpensToOneOf bodies body image = OpensWith bodies (λ other. other ≡ body) image ⊎ OpensSettled (bodies ++ body ∷ []) image
 
--- it has one list of records or the other
-abbrev pub OpensToEither : List (List ℕ) → List (List ℕ) → Image → Type 0
-OpensToEither bodies folded image = OpensSettled bodies image ⊎ OpensSettled folded image
+-- it is so, with a leaf of this version
+abbrev pub InVersion : Version → (Image → Type 0) → Image → Type 0
+InVersion version is image = is image × HasMagic version (picked_leaf image)
+
+-- it has one list of records in that version, or the other, folded
+abbrev pub OpensToEither : Version → List (List ℕ) → List (List ℕ) → Image → Type 0
+OpensToEither version bodies folded image =
+    InVersion version (OpensSettled bodies) image ⊎ InVersion Two (OpensSettled folded) image
 
 -- From a disk that read so to one that a crash leaves: the records are there, and what is pending was pending; or the
--- pending one is among them.
-abbrev pub Reopens : Image → Image → Type 0
-Reopens before after = (bodies : List (List ℕ)) → OpensTo bodies before
-    → OpensWith bodies (λ body. HasPending bodies body before) after
-    ⊎ ((body : List ℕ) × HasPending bodies body before × OpensSettled (bodies ++ body ∷ []) after)
+-- pending one is among them. The version that the leaf has it had.
+pub record Reopens (before after : Image) : Type 0 where
+  pub version : (v : Version) → IsOfVersion v (picked_leaf after) → IsOfVersion v (picked_leaf before)
+  pub records : (bodies : List (List ℕ)) → OpensTo bodies before
+      → OpensWith bodies (λ body. HasPending bodies body before) after
+      ⊎ ((body : List ℕ) × HasPending bodies body before × OpensSettled (bodies ++ body ∷ []) after)
 
 -- The picked leaf is as it was, or it was new and is.
 abbrev pub KeepsLeaf : Image → Image → Type 0

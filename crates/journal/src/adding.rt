@@ -10,7 +10,7 @@ use as4_disk::{Disk, DiskFailed};
 
 impl<D: Disk> Journal<D> {
     ghost use Rattle.journal.specs.Calls.{record_calls};
-    ghost use Rattle.journal.specs.Store.{OpensToOneOf, leaf_of};
+    ghost use Rattle.journal.specs.Store.{InVersion, OpensToOneOf, leaf_of};
     ghost use Rattle.journal.specs.State.{HasRecords, IsDisk, IsAppendFault};
 
     /// Appends a record, and answers the place of its gate. All records have been read, the leaf has version 2, and no
@@ -24,7 +24,8 @@ impl<D: Disk> Journal<D> {
         ensures settled { OnOk result ((bodies : _) → HasRecords D.seen D.may_leave self.old bodies
             → HasRecords D.seen D.may_leave self.new (bodies ++ frame.now ∷ [])) }
         ensures any_moment { (bodies : _) → HasRecords D.seen D.may_leave self.old bodies
-            → LeavesOnly D.moment D.left_since self.old.disk self.new.disk (OpensToOneOf bodies frame.now) }
+            → LeavesOnly D.moment D.left_since self.old.disk self.new.disk
+            (InVersion Version.Two (OpensToOneOf bodies frame.now)) }
         ensures calls { self.old.gate + 1 + (length frame.now + 9) ≤ 2 ^ 32 → MakesAll D.makes
             (record_calls (leaf_of self.old.is_second) self.old.gate frame.now)
             self.old.disk self.new.disk (is_ok result) }

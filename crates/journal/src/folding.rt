@@ -9,7 +9,7 @@ use crate::{Frame, Journal, JournalFault};
 use as4_disk::{Disk, DiskFailed};
 
 impl<D: Disk> Journal<D> {
-    ghost use Rattle.journal.specs.Store.{OpensSettled, OpensToEither};
+    ghost use Rattle.journal.specs.Store.{InVersion, OpensSettled, OpensToEither};
     ghost use Rattle.journal.specs.State.{HasRecords, HasFold, IsDisk, IsDiskFault};
 
     /// Opens a fold, which has no records yet. All records have been read, and no call has answered Disk. It takes no
@@ -23,7 +23,8 @@ impl<D: Disk> Journal<D> {
         ensures place { OnOk result (self.new.fold ≡ Some 8) }
         ensures same { (self.new.gate ≡ self.old.gate) × (self.new.version ≡ self.old.version) }
         ensures any_moment { (bodies : _) → HasRecords D.seen D.may_leave self.old bodies
-            → LeavesOnly D.moment D.left_since self.old.disk self.new.disk (OpensSettled bodies) }
+            → LeavesOnly D.moment D.left_since self.old.disk self.new.disk
+            (InVersion self.old.version (OpensSettled bodies)) }
 
         ensures faults { IfErr result IsDiskFault }
         ensures cause { IfErr result
@@ -53,7 +54,8 @@ impl<D: Disk> Journal<D> {
         ensures added { OnOk result ((bodies : _) (folded : _) → HasFold D.seen D.may_leave self.old bodies folded
             → HasFold D.seen D.may_leave self.new bodies (folded ++ frame.now ∷ [])) }
         ensures any_moment { (bodies : _) (folded : _) → HasFold D.seen D.may_leave self.old bodies folded
-            → LeavesOnly D.moment D.left_since self.old.disk self.new.disk (OpensSettled bodies) }
+            → LeavesOnly D.moment D.left_since self.old.disk self.new.disk
+            (InVersion self.old.version (OpensSettled bodies)) }
         ensures gate { IfOk result (λ gate. self.old.fold ≡ Some gate) }
         ensures place { IfOk result (λ gate. self.new.fold ≡ Some (gate + 9 + length frame.now)) }
         ensures same { (self.new.gate ≡ self.old.gate) × (self.new.version ≡ self.old.version) }
@@ -89,10 +91,11 @@ impl<D: Disk> Journal<D> {
         ensures closed { OnOk result (IsNone self.new.fold) }
         ensures gate { OnOk result (self.old.fold ≡ Some self.new.gate) }
 
-        // Until the other leaf has been settled a crash leaves the old records, and from then on the old or the new.
+        // Until the other leaf has been settled a crash leaves the old records in the old version, and from then on
+        // these or the new in version 2.
         ensures any_moment { (bodies : _) (folded : _) → HasFold D.seen D.may_leave self.old bodies folded
             → FirstThen D.moment D.left_since self.old.disk self.new.disk
-            (OpensSettled bodies) (OpensToEither bodies folded) }
+            (InVersion self.old.version (OpensSettled bodies)) (OpensToEither self.old.version bodies folded) }
 
         ensures faults { IfErr result IsDiskFault }
         ensures cause { IfErr result

@@ -42,6 +42,8 @@ impl<D: Disk> Journal<D> {
     pub fn open(alloc: Global, mut disk: D) -> Result<Journal<D>, (JournalFault, D)>
         ensures read { IfOk result (λ j. Told (D.seen disk) (λ b. HasRead D.seen D.may_leave j []
             × Told (D.seen j.disk) (KeepsLeaf b))) }
+        ensures new { IfOk result (λ j. Told (D.seen disk) (λ _. Told (D.seen j.disk) (λ b. IsNew (picked_leaf b)
+            → j.version ≡ Version.Two))) }
         ensures gate { IfOk result (λ j. j.gate ≡ 8) }
         ensures no_fold { IfOk result (λ j. IsNone j.fold) }
 

@@ -5,7 +5,7 @@ ghost use Rattle.as4_disk.specs.Bytes.{Torn};
 ghost use Rattle.as4_disk.specs.Runs.{LeavesOnly, HasCause, MakesAll};
 ghost use Rattle.as4_disk.specs.declared.change.Change.TheVariants.{Synced, Wrote};
 ghost use Rattle.journal.specs.Calls.{record_calls};
-ghost use Rattle.journal.specs.Store.{leaf_of, picked_leaf, OpensToOneOf};
+ghost use Rattle.journal.specs.Store.{leaf_of, picked_leaf, InVersion, OpensToOneOf};
 ghost use Rattle.journal.specs.Leaf.{front_of, limit_of};
 ghost use Rattle.journal.specs.Settled.{IsSettled};
 
@@ -61,7 +61,8 @@ pub(crate) fn add_record<D: Disk>(
     ensures any_moment { (bodies : _) (rest : List ℕ) → gate ≡ length (front_of Version.Two bodies)
         → length (front_of Version.Two (bodies ++ frame.now ∷ [])) < limit_of Version.Two
         → IsSettled D.seen D.may_leave disk.old is_second (front_of Version.Two bodies ++ 0 ∷ rest)
-        → LeavesOnly D.moment D.left_since disk.old disk.new (OpensToOneOf bodies frame.now) }
+        → LeavesOnly D.moment D.left_since disk.old disk.new
+        (InVersion Version.Two (OpensToOneOf bodies frame.now)) }
     ensures calls { MakesAll D.makes (record_calls (leaf_of is_second) gate frame.now)
         disk.old disk.new (is_ok result) }
     ensures tells { is_some (D.seen disk.new) ≡ is_some (D.seen disk.old) }

@@ -3,13 +3,10 @@
 use Rattle.std.specs.Prelude.{◌≡◌, ◌≢◌, ℕ, zero, suc, ◌+◌, ◌/◌, ◌%◌, ◌<◌, nat_lt, if◌then◌else◌, List, [], ◌∷◌, ◌++◌, All, codes, length, ◌==◌}
 use Rattle.std.specs.List.{flat_map}
 use Rattle.as4_values.specs.declared.payload.Payload.{Payload}
+use Rattle.byte_forms.specs.Digits.{hex_digit}
 
 abbrev pub crlf : List ℕ
 crlf = 13 ∷ 10 ∷ []
-
--- 0 to 9, a to f
-abbrev pub hex_digit : ℕ → ℕ
-hex_digit n = if nat_lt n 10 then 48 + n else 87 + n
 
 -- so many hexadecimal digits of a number, with leading zeros
 unfoldable pub hex_digits : ℕ → ℕ → List ℕ

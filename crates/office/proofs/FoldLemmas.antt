@@ -1,15 +1,17 @@
 -- What a checkpoint does.
-use Rattle.std.proofs.Common.{◌≡◌, ◌⊎◌, inl, inr, ⊎_elim, ℕ, ◌<◌, ◌^◌, List, subst, arith}
+use Rattle.std.proofs.Common.{◌≡◌, ◌⊎◌, inl, inr, ℕ, ◌<◌, ◌^◌, List, subst, arith}
 use Rattle.as4_disk.specs.Image.{Image}
 use Rattle.as4_disk.specs.Runs.{FirstThen, LeavesOnly}
-use Rattle.as4_disk.proofs.RunLemmas.{then, weaken}
 use Rattle.exchange_model.specs.End.{End, empty_end}
 use Rattle.exchange_model.specs.Fold.{IsFoldedSize, resized}
-use Rattle.journal.specs.Store.{OpensSettled}
+use Rattle.journal.specs.Store.{InVersion, OpensSettled}
+use Rattle.journal.specs.declared.version.Version.{Version}
+use Rattle.journal.specs.declared.version.Version.TheVariants.{Two}
 use Rattle.msh_core.specs.Folding.{capped}
-use Rattle.end_records.specs.Opens.{OpensFolded, OpensOnly}
+use Rattle.end_records.specs.Opens.{IsAt, OpensFolded}
 use Rattle.end_records.specs.Records.{RecordsLead}
-use Rattle.end_records.proofs.OpenLemmas.{settled_opens}
+use Rattle.end_records.proofs.OpenLemmas.{settled_at}
+use Rattle.end_journal.proofs.RunLemmas.{first_all}
 
 -- a number below 2^64 is the size itself
 pub short_size : (size found : ℕ) → found ≡ capped size → found < 2 ^ 32 → size ≡ found
@@ -18,13 +20,17 @@ short_size size found is short = omega (arith, is, short)
 pub folded_size_is : (end : End) (found : ℕ) → ((size : ℕ) × IsFoldedSize end size × (found ≡ capped size)) → found < 2 ^ 32 → IsFoldedSize end found
 folded_size_is end found (size, folded, is) short = subst (IsFoldedSize end) (short_size size found is short) folded
 
--- the images of a fold open to the end, or to the end with the fold
-pub fold_run : {D : Type 0} (moment : D → ℕ) (left_since : D → ℕ → Image → Type 0) (old new : D) (bodies : List (List ℕ)) (end : End) (size : ℕ) → RecordsLead bodies empty_end end → IsFoldedSize end size
-    → FirstThen moment left_since old new (OpensSettled bodies) (λ c. OpensSettled bodies c ⊎ OpensOnly c (resized size end)) → LeavesOnly moment left_since old new (λ c. OpensFolded c end)
-fold_run moment left_since old new bodies end size leads folded (inl run) =
-    weaken moment left_since old new (OpensSettled bodies) (λ c. OpensFolded c end) (λ c settled. inl (settled_opens (λ n. ⊥) bodies end c leads settled)) run
-fold_run moment left_since old new bodies end size leads folded (inr both) =
-    then moment left_since old both.0 new (λ c. OpensFolded c end)
-    (weaken moment left_since old both.0 (OpensSettled bodies) (λ c. OpensFolded c end) (λ c settled. inl (settled_opens (λ n. ⊥) bodies end c leads settled)) both.1)
-    (weaken moment left_since both.0 new (λ c. OpensSettled bodies c ⊎ OpensOnly c (resized size end)) (λ c. OpensFolded c end)
-    (λ c one. ⊎_elim (λ (settled : OpensSettled bodies c). inl (settled_opens (λ n. ⊥) bodies end c leads settled)) (λ (opens : OpensOnly c (resized size end)). inr (size, folded, opens)) one) both.2)
+-- the images of a fold are at the end, or at the end with the fold
+module _ {bodies : List (List ℕ)} {end : End} {size : ℕ} (leads : RecordsLead bodies empty_end end) (folded : IsFoldedSize end size) where
+  here : (c : Image) → InVersion Two (OpensSettled bodies) c → OpensFolded c end
+  here c settled = inl (settled_at bodies end c leads settled)
+
+  there : (c : Image) → InVersion Two (OpensSettled bodies) c ⊎ IsAt c (resized size end) → OpensFolded c end
+  there c (inl settled) = here c settled
+  there c (inr at) = inr (size, folded, at)
+
+  pub fold_run : {D : Type 0} {moment : D → ℕ} {left_since : D → ℕ → Image → Type 0} {old new : D} {version : Version} → version ≡ Two
+      → FirstThen moment left_since old new (InVersion version (OpensSettled bodies)) (λ c. InVersion version (OpensSettled bodies) c ⊎ IsAt c (resized size end)) → LeavesOnly moment left_since old new (λ c. OpensFolded c end)
+  fold_run {D} {moment} {left_since} {old} {new} two run =
+      let P : Version → Type 0 = λ v. FirstThen moment left_since old new (InVersion v (OpensSettled bodies)) (λ c. InVersion v (OpensSettled bodies) c ⊎ IsAt c (resized size end)) in
+      first_all moment left_since old new (InVersion Two (OpensSettled bodies)) (λ c. InVersion Two (OpensSettled bodies) c ⊎ IsAt c (resized size end)) (λ c. OpensFolded c end) here there (subst P two run)

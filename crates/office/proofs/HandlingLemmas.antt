@@ -1,5 +1,5 @@
 -- What a call leaves of an office, from what the office keeps inside.
-use Rattle.std.proofs.Common.{◌≡◌, ℕ, ◌+◌, ◌<◌, ◌≤◌, ◌^◌, List, [], ◌∷◌, ◌++◌, Option, Some, None, is_some, length, refl, ap}
+use Rattle.std.proofs.Common.{◌≡◌, ℕ, ◌+◌, ◌<◌, ◌≤◌, ◌^◌, List, [], ◌∷◌, ◌++◌, Option, Some, None, is_some, length, refl, sym, ap, subst, arith}
 use mathlib.Core.List.{IsPrefix}
 use Rattle.as4_disk.specs.Image.{Image}
 use Rattle.as4_values.specs.declared.mode.Mode.{Mode}
@@ -8,7 +8,7 @@ use Rattle.exchange_model.specs.End.{End}
 use Rattle.journal.specs.declared.journal.Journal.{Journal}
 use Rattle.office.specs.Calls.{Leads}
 use Rattle.office.specs.State.{IsInOrder, OfficeState}
-use Rattle.office.specs.Steps.{Enters, Keeps}
+use Rattle.office.specs.Steps.{Enters, FindsItWorn, Keeps}
 use Rattle.office.specs.declared.call.Call.{Call}
 use Rattle.office.specs.declared.call.Halt.{Halt}
 use Rattle.office.proofs.StateLemmas.{order_keeps}
@@ -17,38 +17,43 @@ use Rattle.pass_book.specs.States.{Book, PassState}
 pub not_both : {X : Type 0} (o : Option X) (x : X) → o ≡ Some x → o ≡ None → ⊥
 not_both o x some none = cc
 
--- a disk that tells behind a call told before it
-pub told_before : {X : Type 0} (old new : Option X) (image : X) → is_some new ≡ is_some old → new ≡ Some image → (was : X) × (old ≡ Some was)
-told_before (Some was) new image same told = (was, refl)
-told_before None new image same told = absurd cc
+-- an office by its parts
+abbrev office : {D : Type 0} → Journal D → End → List Mode → Rooms → Book → List Call → OfficeState D
+office journal end modes rooms book list = record { disk = journal.disk; end = end; modes = modes; rooms = rooms; book = book; list = list }
 
-module _ {D : Type 0} (seen : D → Option Image) (may_leave : D → Image → Type 0) (fault_count : D → ℕ) where
-  -- an office by its parts
-  abbrev office : Journal D → End → List Mode → Rooms → Book → List Call → OfficeState D
-  office journal end modes rooms book list = record { disk = journal.disk; end = end; modes = modes; rooms = rooms; book = book; list = list }
+pub keeps : {D : Type 0} {seen : D → Option Image} {may_leave : D → Image → Type 0} {fault_count : D → ℕ} {old : OfficeState D} {after : Journal D} {next : End} {later : List Mode} {others : Rooms} {books : Book} {halt : Option Halt} {more shown : List Call} {share : ℕ} {pass passed : PassState Call}
+    → IsInOrder seen may_leave fault_count after next later halt more → later ≡ old.modes → books ≡ old.book → passed ≡ record pass { list = shown; share = share }
+    → ((start : End) → Leads old.modes start old.list old.end → Leads old.modes start more next) → is_some (seen after.disk) ≡ is_some (seen old.disk) → fault_count old.disk ≤ fault_count after.disk
+    → Keeps seen may_leave fault_count old (office after next later others books more) pass passed
+keeps order modes_same book_same passes legal tells counted = record {
+  modes = modes_same;
+  book = book_same;
+  pass_book = ap (λ (p : PassState Call). p.book) passes;
+  stake = ap (λ (p : PassState Call). p.stake) passes;
+  legal = legal;
+  safe = order_keeps order;
+  left = order.left;
+  tells = tells;
+  counted = counted;
+}
 
-  module _ (journal after : Journal D) (end next : End) (modes later : List Mode) (rooms others : Rooms) (book books : Book) (list more : List Call) (pass passed : PassState Call) where
-    pub keeps : (halt : Option Halt) → IsInOrder seen may_leave fault_count after next later halt more → later ≡ modes → books ≡ book → passed.book ≡ pass.book → passed.stake ≡ pass.stake
-        → ((start : End) → Leads modes start list end → Leads modes start more next) → is_some (seen after.disk) ≡ is_some (seen journal.disk) → fault_count journal.disk ≤ fault_count after.disk
-        → Keeps seen may_leave fault_count (office journal end modes rooms book list) (office after next later others books more) pass passed
-    keeps halt order modes_same book_same pass_same stake_same legal tells counted = record {
-      modes = modes_same;
-      book = book_same;
-      pass_book = pass_same;
-      stake = stake_same;
-      legal = legal;
-      safe = order_keeps seen may_leave fault_count after next later halt more order;
-      left = order.left;
-      tells = tells;
-      counted = counted;
-    }
+-- nothing but room was made
+pub keeps_roomy : {D : Type 0} {seen : D → Option Image} {may_leave : D → Image → Type 0} {fault_count : D → ℕ} {journal : Journal D} {end next : End} {modes later : List Mode} {rooms others : Rooms} {book : Book} {halt : Option Halt} {list : List Call} {pass : PassState Call}
+    → IsInOrder seen may_leave fault_count journal end modes halt list → next ≡ end → later ≡ modes → Keeps seen may_leave fault_count (office journal end modes rooms book list) (office journal next later others book list) pass pass
+keeps_roomy {D} {seen} {may_leave} {fault_count} {journal} {end} {next} {modes} {later} {rooms} {others} {book} {halt} {list} order same_end same_modes =
+    let P : End → Type 0 = λ e. IsInOrder seen may_leave fault_count journal e modes halt list in
+    let Q : List Mode → Type 0 = λ m. IsInOrder seen may_leave fault_count journal next m halt list in
+    keeps (subst Q (sym same_modes) (subst P (sym same_end) order)) same_modes refl refl (λ start leads. subst (λ (e : End). Leads modes start list e) (sym same_end) leads) refl (omega arith)
 
-    pub enters : (call : Call) → length list < 2 ^ 63 → IsPrefix pass.list list → more ≡ list ++ call ∷ [] → passed ≡ record pass { list = more; share = pass.share + 1 }
-        → Enters (office journal end modes rooms book list) (office after next later others books more) pass passed call
-    enters call room seen_by is passes = record {
-      room = room;
-      seen = seen_by;
-      list = is;
-      whole = ap (λ (p : PassState Call). p.list) passes;
-      share = ap (λ (p : PassState Call). p.share) passes;
-    }
+pub finds_worn : {D : Type 0} {old : OfficeState D} {pass passed : PassState Call} → length old.list ≡ 2 ^ 63 → IsPrefix pass.list old.list → passed ≡ record pass { list = old.list } → FindsItWorn old old pass passed
+finds_worn full seen_by whole = record { full = full; seen = seen_by; list = refl; end = refl; disk = refl; pass = whole }
+
+pub enters : {D : Type 0} {old new : OfficeState D} {pass passed : PassState Call} (call : Call) → length old.list < 2 ^ 63 → IsPrefix pass.list old.list → new.list ≡ old.list ++ call ∷ []
+    → passed ≡ record pass { list = new.list; share = pass.share + 1 } → Enters old new pass passed call
+enters call room seen_by is passes = record {
+  room = room;
+  seen = seen_by;
+  list = is;
+  whole = ap (λ (p : PassState Call). p.list) passes;
+  share = ap (λ (p : PassState Call). p.share) passes;
+}

@@ -14,8 +14,8 @@ use Rattle.exchange_model.specs.declared.event.Event.{Event}
 use Rattle.exchange_model.specs.declared.outcome.Outcome.{Outcome}
 use Rattle.exchange_model.specs.declared.reply.Reply.{Reply}
 use Rattle.journal.specs.declared.journal.Journal.{Journal}
-use Rattle.end_records.specs.Opens.{IsFoldedOf, IsJournalOf, KeepsEnd, OpensFolded, OpensOnly, OpensWith}
-use Rattle.end_records.proofs.OpenLemmas.{kept_opens, opens_weaker}
+use Rattle.end_records.specs.Opens.{IsAt, IsAtOneOf, IsAtWith, IsFoldedOf, IsJournalOf, KeepsEnd, OpensFolded}
+use Rattle.end_records.proofs.OpenLemmas.{at_weaker, kept_opens}
 use Rattle.office.specs.Calls.{stop_of}
 use Rattle.office.specs.State.{IsInOrder}
 use Rattle.office.specs.Left.{IsLeft, IsStepTo, OpensBeforeOrAfter}
@@ -25,12 +25,8 @@ use Rattle.office.specs.declared.call.Halt.{Halt}
 use Rattle.office.proofs.CallLemmas.{left_going, left_kept, left_more, stop_kept, stop_more}
 use Rattle.office.proofs.WritingLemmas.{no_write}
 
-pub none_of : {X : Type 0} (o : Option X) → ((x : X) → o ≡ Some x → ⊥) → o ≡ None
-none_of None none = refl
-none_of (Some x) none = absurd (none x refl)
-
-module _ {D : Type 0} (seen : D → Option Image) (may_leave : D → Image → Type 0) (fault_count : D → ℕ) where
-  module _ (journal : Journal D) (end : End) (modes : List Mode) (halt : Option Halt) (list : List Call) (order : IsInOrder seen may_leave fault_count journal end modes halt list) where
+module _ {D : Type 0} {seen : D → Option Image} {may_leave : D → Image → Type 0} {fault_count : D → ℕ} where
+  module _ {journal : Journal D} {end : End} {modes : List Mode} {halt : Option Halt} {list : List Call} (order : IsInOrder seen may_leave fault_count journal end modes halt list) where
     -- without a fault among the calls each crash leaves the end
     pub order_keeps : stop_of list ≡ None → KeepsEnd seen may_leave journal.disk end
     order_keeps going = kept_opens seen may_leave end journal (order.kept (order.halted ∙ going))
@@ -89,7 +85,7 @@ module _ {D : Type 0} (moment : D → ℕ) (left_since : D → ℕ → Image →
   pub still_run : (modes : List Mode) (event : Event) (journal : Journal D) (end : End) (image : Image) → IsJournalOf seen may_leave end journal → seen journal.disk ≡ Some image
       → LeavesOnly moment left_since journal.disk journal.disk (OpensBeforeOrAfter modes end event)
   still_run modes event journal end image is told =
-      no_write moment left_since seen may_leave only_now journal end (IsStepTo modes end event) (λ c. (next : End) × IsStepTo modes end event next × OpensOnly c next) image is told
+      no_write moment left_since seen may_leave only_now journal end (IsStepTo modes end event) (λ c. (next : End) × IsStepTo modes end event next × IsAt c next) image is told
 
   pub still_folded : (journal : Journal D) (end : End) (image : Image) → IsJournalOf seen may_leave end journal → seen journal.disk ≡ Some image
       → LeavesOnly moment left_since journal.disk journal.disk (λ c. OpensFolded c end)
@@ -98,11 +94,11 @@ module _ {D : Type 0} (moment : D → ℕ) (left_since : D → ℕ → Image →
 
 -- a step's record is written
 pub step_run : {D : Type 0} (moment : D → ℕ) (left_since : D → ℕ → Image → Type 0) (modes : List Mode) (event : Event) (outcome : Outcome) (old new : D) (end : End) → Step modes end event outcome
-    → LeavesOnly moment left_since old new (λ c. OpensWith c end (λ n. n ≡ applied outcome.effects end) ⊎ OpensOnly c (applied outcome.effects end)) → LeavesOnly moment left_since old new (OpensBeforeOrAfter modes end event)
+    → LeavesOnly moment left_since old new (λ c. IsAtOneOf c end (applied outcome.effects end)) → LeavesOnly moment left_since old new (OpensBeforeOrAfter modes end event)
 step_run moment left_since modes event outcome old new end step run =
     let next = applied outcome.effects end in
-    weaken moment left_since old new (λ c. OpensWith c end (λ n. n ≡ next) ⊎ OpensOnly c next) (OpensBeforeOrAfter modes end event)
+    weaken moment left_since old new (λ c. IsAtOneOf c end next) (OpensBeforeOrAfter modes end event)
     (λ c opens. ⊎_elim
-    (λ (here : OpensWith c end (λ n. n ≡ next)). inl (opens_weaker (λ n. n ≡ next) (IsStepTo modes end event) c end (λ n is. (outcome, step, is)) here))
-    (λ (there : OpensOnly c next). inr (next, (outcome, step, refl), there)) opens)
+    (λ (here : IsAtWith c end (λ n. n ≡ next)). inl (at_weaker (λ n. n ≡ next) (IsStepTo modes end event) c end (λ n is. (outcome, step, is)) here))
+    (λ (there : IsAt c next). inr (next, (outcome, step, refl), there)) opens)
     run

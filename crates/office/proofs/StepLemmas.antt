@@ -11,7 +11,7 @@ use Rattle.exchange_model.specs.declared.event.Event.{Event}
 use Rattle.exchange_model.specs.declared.reply.Reply.{Reply}
 use Rattle.exchange_model.specs.declared.reply.Reply.TheVariants as reply
 use Rattle.end_records.specs.Opens.{KeepsEnd}
-use Rattle.end_records.proofs.OpenLemmas.{opens_weaker}
+use Rattle.end_records.proofs.OpenLemmas.{at_weaker}
 use Rattle.office.specs.Left.{IsStepTo, OpensBeforeOrAfter}
 use Rattle.office.specs.State.{OfficeState}
 use Rattle.office.specs.Steps.{Enters, Handles, Steps}
@@ -84,4 +84,4 @@ module _ {D : Type 0} (seen : D → Option Image) (may_leave : D → Image → T
 pub quiet_run : {D : Type 0} (moment : D → ℕ) (left_since : D → ℕ → Image → Type 0) (seen : D → Option Image) (may_leave : D → Image → Type 0) (only_now : (disk : D) (c : Image) → left_since disk (moment disk) c → may_leave disk c)
     (modes : List Mode) (event : Event) (disk : D) (end : End) (image : Image) → KeepsEnd seen may_leave disk end → seen disk ≡ Some image → LeavesOnly moment left_since disk disk (OpensBeforeOrAfter modes end event)
 quiet_run moment left_since seen may_leave only_now modes event disk end image keeps told =
-    no_call moment left_since disk (OpensBeforeOrAfter modes end event) (λ c left. inl (opens_weaker (λ n. ⊥) (IsStepTo modes end event) c end (λ n none. absurd none) (keeps image told c (only_now disk c left)).0))
+    no_call moment left_since disk (OpensBeforeOrAfter modes end event) (λ c left. inl (at_weaker (λ n. ⊥) (IsStepTo modes end event) c end (λ n none. absurd none) (keeps image told c (only_now disk c left))))

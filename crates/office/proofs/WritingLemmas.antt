@@ -12,9 +12,9 @@ use Rattle.exchange_model.specs.declared.outcome.Outcome.{Outcome}
 use Rattle.journal.specs.declared.journal.Journal.{Journal}
 use Rattle.msh_core.proofs.RecordLemmas.{are_some, room_to_grow, size_kept}
 use Rattle.end_journal.specs.Frames.{IsFrameOf}
-use Rattle.end_records.specs.Opens.{IsJournalOf, OpensOnly, OpensWith}
+use Rattle.end_records.specs.Opens.{IsAt, IsAtWith, IsJournalOf}
 use Rattle.end_records.specs.Records.{RecordLeads}
-use Rattle.end_records.proofs.OpenLemmas.{kept_opens, opens_weaker}
+use Rattle.end_records.proofs.OpenLemmas.{at_weaker, kept_opens}
 use Rattle.office.specs.Recording.{PutsBehind, RecordsStep}
 
 -- where there is a record, it has room, and leads to the end behind the effects
@@ -36,10 +36,10 @@ rest_leads end outcome none = let same : end ≡ applied [] end = refl in same �
 module _ {D : Type 0} (moment : D → ℕ) (left_since : D → ℕ → Image → Type 0) (seen : D → Option Image) (may_leave : D → Image → Type 0) where
   -- no device call was made
   pub no_write : (only_now : (disk : D) (c : Image) → left_since disk (moment disk) c → may_leave disk c) (journal : Journal D) (end : End) (P : End → Type 0) (also : Image → Type 0) (image : Image)
-      → IsJournalOf seen may_leave end journal → seen journal.disk ≡ Some image → LeavesOnly moment left_since journal.disk journal.disk (λ c. OpensWith c end P ⊎ also c)
+      → IsJournalOf seen may_leave end journal → seen journal.disk ≡ Some image → LeavesOnly moment left_since journal.disk journal.disk (λ c. IsAtWith c end P ⊎ also c)
   no_write only_now journal end P also image is told =
-      no_call moment left_since journal.disk (λ (c : Image). OpensWith c end P ⊎ also c)
-      (λ c left. inl (opens_weaker (λ next. ⊥) P c end (λ next none. absurd none) (kept_opens seen may_leave end journal is image told c (only_now journal.disk c left)).0))
+      no_call moment left_since journal.disk (λ (c : Image). IsAtWith c end P ⊎ also c)
+      (λ c left. inl (at_weaker (λ next. ⊥) P c end (λ next none. absurd none) (kept_opens seen may_leave end journal is image told c (only_now journal.disk c left))))
 
 module _ {D : Type 0} (seen : D → Option Image) (may_leave : D → Image → Type 0) (moment : D → ℕ) (left_since : D → ℕ → Image → Type 0) (makes : Change → D → D → Bool → Type 0) where
   -- a step with effects is recorded as its record is put there
@@ -52,7 +52,7 @@ module _ {D : Type 0} (seen : D → Option Image) (may_leave : D → Image → T
       → RecordsStep seen may_leave moment left_since makes journal journal end outcome true
   records_none only_now journal end outcome none is = record {
     kept = λ ok. subst (λ (e : End). IsJournalOf seen may_leave e journal) (rest_leads end outcome none) is;
-    any_moment = λ image told. no_write moment left_since seen may_leave only_now journal end (λ n. n ≡ applied outcome.effects end) (λ c. OpensOnly c (applied outcome.effects end)) image is told;
+    any_moment = λ image told. no_write moment left_since seen may_leave only_now journal end (λ n. n ≡ applied outcome.effects end) (λ c. IsAt c (applied outcome.effects end)) image is told;
     recorded = inl (none, refl, refl);
   }
 

@@ -2,7 +2,7 @@
 use Rattle.std.specs.Prelude.{◌≡◌, ◌⊎◌, List, [], ◌∷◌, Some, None}
 use Rattle.as4_disk.specs.Image.{Image}
 use Rattle.as4_values.specs.declared.mode.Mode.{Mode}
-use Rattle.end_records.specs.Opens.{IsAt, OpensFolded, OpensOnly, OpensWith}
+use Rattle.end_records.specs.Opens.{IsAt, IsAtWith, OpensFolded}
 use Rattle.exchange_model.specs.Apply.{applied}
 use Rattle.exchange_model.specs.End.{End}
 use Rattle.exchange_model.specs.Table.{Step}
@@ -15,11 +15,10 @@ use Rattle.office.specs.declared.call.Call.TheVariants.{Done, Folded, Stop}
 abbrev pub IsStepTo : List Mode → End → Event → End → Type 0
 IsStepTo modes end event next = (outcome : Outcome) × Step modes end event outcome × (next ≡ applied outcome.effects end)
 
--- a disk opens to the end before the event's step, and what is pending is that step; or to the end behind it, and
--- nothing is pending
+-- a disk is at the end before the event's step, and what is pending is that step; or at the end behind it
 abbrev pub OpensBeforeOrAfter : List Mode → End → Event → Image → Type 0
 OpensBeforeOrAfter modes end event image =
-    OpensWith image end (IsStepTo modes end event) ⊎ ((next : End) × IsStepTo modes end event next × OpensOnly image next)
+    IsAtWith image end (IsStepTo modes end event) ⊎ ((next : End) × IsStepTo modes end event next × IsAt image next)
 
 -- Behind these calls: the end; or, where the disk failed, what was left then: the event's step was made or wasn't, or the
 -- journal was folded or wasn't.

@@ -6,17 +6,20 @@ use Rattle.as4_disk.specs.declared.change.Change.{Change}
 use Rattle.as4_disk.specs.declared.part.Part.{Part}
 use Rattle.as4_flow.specs.Told.{Told}
 use Rattle.end_journal.specs.Frames.{IsFrameOf}
-use Rattle.end_records.specs.Opens.{IsJournalOf, OpensOnly, OpensWith}
+use Rattle.end_records.specs.Opens.{IsAtOneOf, IsJournalOf}
 use Rattle.end_records.specs.Puts.{Puts}
 use Rattle.end_records.specs.Records.{RecordLeads}
 use Rattle.exchange_model.specs.Apply.{applied}
 use Rattle.exchange_model.specs.End.{End}
+use Rattle.exchange_model.specs.Table.{Step}
+use Rattle.exchange_model.specs.declared.event.Event.{Event}
 use Rattle.exchange_model.specs.declared.outcome.Outcome.{Outcome}
 use Rattle.journal.specs.Calls.{record_calls}
 use Rattle.journal.specs.Leaf.{frame_of}
 use Rattle.journal.specs.declared.journal.Journal.{Journal}
 use Rattle.msh_core.specs.Machine.{IsReady, Machine}
 use Rattle.msh_core.specs.Small.{IsSmallReady, StandsFor}
+use Rattle.office.specs.State.{OfficeState, machine_of}
 use Rattle.office.specs.declared.work.Work.{Work}
 use Rattle.office.specs.declared.work.Work.TheVariants.{Large, Small}
 
@@ -42,17 +45,22 @@ IsWorkFor machine outcome (Large plan frame) =
     (plan.outcome ≡ outcome) × IsReady machine plan × IsFrameOf outcome.effects frame
 IsWorkFor machine outcome (Small plan) = IsSmallReady machine plan × StandsFor machine.end plan outcome
 
+-- and this office has it to do with the event
+abbrev pub HasWork : {D : Type 0} → OfficeState D → Event → Work → Type 0
+HasWork office event work =
+    (outcome : Outcome) × Step office.modes office.end event outcome × IsWorkFor (machine_of office) outcome work
+
 module _ {D : Type 0} (seen : D → Option Image) (may_leave : D → Image → Type 0) (moment : D → ℕ) (left_since : D → ℕ → Image → Type 0) (makes : Change → D → D → Bool → Type 0) (old new : Journal D) (end : End) where
   -- a record that leads on to this end was put behind those of the journal
   pub record PutsBehind (next : End) (ok : Bool) : Type 0 where
     pub kept : ok ≡ true → IsJournalOf seen may_leave next new
     pub any_moment : Told (seen old.disk) (λ _. LeavesOnly moment left_since old.disk new.disk
-        (λ (c : Image). OpensWith c end (λ n. n ≡ next) ⊎ OpensOnly c next))
+        (λ (c : Image). IsAtOneOf c end next))
     pub writes : Writes seen may_leave makes old.disk new.disk end next ok
 
   -- the outcome's was, where it has effects
   pub record RecordsStep (outcome : Outcome) (ok : Bool) : Type 0 where
     pub kept : ok ≡ true → IsJournalOf seen may_leave (applied outcome.effects end) new
     pub any_moment : Told (seen old.disk) (λ _. LeavesOnly moment left_since old.disk new.disk
-        (λ (c : Image). OpensWith c end (λ n. n ≡ applied outcome.effects end) ⊎ OpensOnly c (applied outcome.effects end)))
+        (λ (c : Image). IsAtOneOf c end (applied outcome.effects end)))
     pub recorded : IsRecorded seen may_leave makes old.disk new.disk end outcome ok

@@ -3,8 +3,9 @@ ghost use Rattle.std.specs.Prelude.{◌≡◌, ◌≤◌, IsErrOf};
 ghost use Rattle.exchange_model.specs.Table.{Step};
 ghost use Rattle.exchange_model.specs.declared.event.Event.{Event as EventValue};
 ghost use Rattle.exchange_model.specs.declared.outcome.Outcome.{Outcome};
-ghost use Rattle.office.specs.Recording.{IsWorkFor};
-ghost use Rattle.office.specs.State.{IsPreparedFor, machine_of};
+ghost use Rattle.machine_rows.specs.Free.{IsFree};
+ghost use Rattle.office.specs.Recording.{HasWork};
+ghost use Rattle.office.specs.State.{IsPreparedFor};
 ghost use Rattle.office.specs.Steps.{Handles, IsConfirmationOf, IsTickTo};
 
 use crate::call::Call;
@@ -31,11 +32,14 @@ impl<'a, D: Disk> Office<'a, D> {
         self.handle(pass, event, Work::Large(plan, frame))
     }
 
-    /// Prepares the event's step and makes it.
+    /// Prepares the event's step and makes it. Where nothing is to change, and the reply has no text in it, it takes no
+    /// memory.
     pub fn step(&mut self, pass: &mut Pass<'_, Call>, event: Event) -> Result<Reply, OfficeFault>
         requires book { pass.old.book ≡ self.old.book }
         ensures handles { Handles D.seen D.may_leave D.moment D.left_since D.fault_count D.makes self.old self.new
             pass.old pass.new event result }
+        ensures free { (outcome : Outcome) → Step self.old.modes self.old.end event outcome → IsFree outcome
+            → IsErrOf result OfficeFault.NoMemory → ⊥ }
     {
         match self.prepare(event) {
             Ok(ready) => self.enact(pass, ready),
@@ -87,8 +91,7 @@ impl<'a, D: Disk> Office<'a, D> {
         work: Work,
     ) -> Result<Reply, OfficeFault>
         requires book { pass.old.book ≡ self.old.book }
-        requires ready { (outcome : Outcome) × Step self.old.modes self.old.end event outcome
-            × IsWorkFor (machine_of self.old) outcome work }
+        requires ready { HasWork self.old event work }
         ensures handles { Handles D.seen D.may_leave D.moment D.left_since D.fault_count D.makes self.old self.new
             pass.old pass.new event result }
         ensures memory { IsErrOf result OfficeFault.NoMemory → ⊥ }

@@ -5,7 +5,8 @@ use Rattle.std.specs.List.{list_all, range_with_len}
 use Rattle.std.proofs.lemmas.List.Folds.{list_all-append}
 use Rattle.std.proofs.lemmas.List.FromFn.{get_or-map-range_with_len}
 use Rattle.std.proofs.lemmas.List.Sums.{AllPass-from_list_all}
-use Rattle.message_model.specs.Package.{hex_digit, hex_digits}
+use Rattle.byte_forms.specs.Digits.{hex_digit}
+use Rattle.message_model.specs.Package.{hex_digits}
 
 -- a class of bytes that has each digit
 abbrev pub HasDigits : (ℕ → Bool) → Type 0

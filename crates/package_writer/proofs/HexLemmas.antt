@@ -1,6 +1,7 @@
 -- Hexadecimal digits, one by one.
 use Rattle.std.proofs.Common.{◌≡◌, ℕ, zero, suc, ◌-◌, ◌/◌, ◌%◌, ◌<◌, List, [], ◌∷◌, ◌++◌, arith, append_assoc, sub-one}
-use Rattle.message_model.specs.Package.{hex_digit, hex_digits}
+use Rattle.byte_forms.specs.Digits.{hex_digit}
+use Rattle.message_model.specs.Package.{hex_digits}
 
 -- one more digit behind
 pub push_digit : (out : List ℕ) (places n : ℕ) → 0 < places → (out ++ hex_digits (places - 1) (n / 16)) ++ hex_digit (n % 16) ∷ [] ≡ out ++ hex_digits places n

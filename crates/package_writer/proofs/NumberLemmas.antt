@@ -3,10 +3,11 @@ use Rattle.std.proofs.Common.{◌≡◌, ℕ, zero, suc, ◌+◌, ◌-◌, ◌*�
 use Rattle.std.specs.Prelude.{unwrap_or}
 use Rattle.std.proofs.lemmas.Grind.{common_steps}
 use Rattle.std.proofs.Math.Nat.{div-one, div-div-eq-div-mul, pow-suc, mul_assoc, mul_comm, le-mul_of_pos_right, mul-le-mul_right}
-use Rattle.message_model.specs.Package.{hex_digit, hex_digits}
+use Rattle.byte_forms.specs.Digits.{hex_digit, digit_value}
+use Rattle.message_model.specs.Package.{hex_digits}
 use Rattle.byte_forms.specs.Cuts.{◌>>=◌}
 use Rattle.byte_forms.proofs.CutLemmas.{bind_some}
-use Rattle.package_writer.specs.Numbers.{digit_value, number_from}
+use Rattle.package_writer.specs.Numbers.{number_from}
 
 -- what a digit counts
 valued : (b d : ℕ) → digit_value b ≡ Some d → (b ≡ hex_digit d) × (d < 16)

@@ -4,13 +4,7 @@ use Rattle.std.specs.Option.{option_to_list}
 use Rattle.std.specs.List.{Contains, flat_map}
 use Rattle.as4_values.specs.declared.payload.Payload.{Payload}
 use Rattle.byte_forms.specs.Cuts.{◌>>=◌, behind}
-
--- what a hexadecimal digit counts, in lower case
-abbrev pub digit_value : ℕ → Option ℕ
-digit_value b =
-    if nat_le 48 b && nat_le b 57 then Some (b - 48)
-    else if nat_le 97 b && nat_le b 102 then Some (b - 87)
-    else None
+use Rattle.byte_forms.specs.Digits.{digit_value}
 
 -- a number, of which these are the digits so far, with so many more, and what stands behind it
 unfoldable pub number_from : ℕ → ℕ → List ℕ → Option (ℕ × List ℕ)

@@ -5,8 +5,9 @@ ghost use Rattle.std.specs.Option.{option_map, option_to_list};
 ghost use Rattle.std.specs.List.{flat_map};
 ghost use Rattle.std.specs.List.Sorted.{IsSorted};
 ghost use Rattle.std.specs.Ordering.{nat_cmp};
+ghost use Rattle.byte_forms.specs.Digits.{digit_value};
 ghost use Rattle.message_model.specs.Package.{IsBoundary};
-ghost use Rattle.package_writer.specs.Numbers.{digit_value, number_from, number_at, numbers_in, root_number, payload_numbers, taken, IsLeastWithout};
+ghost use Rattle.package_writer.specs.Numbers.{number_from, number_at, numbers_in, root_number, payload_numbers, taken, IsLeastWithout};
 
 use as4_values::{NoMemory, Payload, Seq};
 use byte_forms::behind;

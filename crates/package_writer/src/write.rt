@@ -12,7 +12,8 @@
 
 ghost use Rattle.std.specs.Prelude.{◌≡◌, ◌+◌, ◌*◌, ◌<◌, ◌++◌, ℕ, OnOk, IfOk, length, min};
 ghost use Rattle.std.specs.List.{flat_map, sum_by};
-ghost use Rattle.message_model.specs.Package.{crlf, hex_digit, hex_digits, dash_boundary, root_id, envelope_media, package_media, media_field, part_head, part_text, payload_text, package_body, IsBoundary};
+ghost use Rattle.byte_forms.specs.Digits.{hex_digit};
+ghost use Rattle.message_model.specs.Package.{crlf, hex_digits, dash_boundary, root_id, envelope_media, package_media, media_field, part_head, part_text, payload_text, package_body, IsBoundary};
 ghost use Rattle.package_writer.specs.Room.{part_room};
 
 use crate::boundary::free_boundary;

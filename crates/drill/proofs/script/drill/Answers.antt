@@ -1,5 +1,5 @@
 use Rattle.std.proofs.Common.{◌≡◌, ◌<◌, [], None, arith, refl}
-use Rattle.drill.specs.Running.{flow}
+use Rattle.as4_flow.specs.Flow.{flow}
 use Rattle.drill.specs.Transcript.{lines_limit, new_state}
 use Rattle.drill.proofs.EndLemmas.{ends_without_memory, is_none, so_far_none}
 use Rattle.drill.proofs.script.drill.Goals as goal

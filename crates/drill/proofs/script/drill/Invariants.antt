@@ -1,5 +1,6 @@
 use Rattle.std.proofs.Common.{◌-◌, ◌≤◌}
-use Rattle.drill.specs.Running.{SoFar, flow}
+use Rattle.as4_flow.specs.Flow.{flow}
+use Rattle.drill.specs.Running.{SoFar}
 use Rattle.drill.specs.Transcript.{lines_limit}
 use Rattle.drill.proofs.script.drill.Given as goal
 

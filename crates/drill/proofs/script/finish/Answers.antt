@@ -1,6 +1,6 @@
 use Rattle.std.proofs.Common.{◌≡◌, ℕ, List, ap, ◌∙◌, subst}
+use Rattle.as4_flow.specs.Flow.{flow}
 use Rattle.as4_flow.specs.Told.{TakesFront, behind}
-use Rattle.drill.specs.Running.{flow}
 use Rattle.drill.specs.Transcript.{end_lines}
 use Rattle.drill.proofs.EndLemmas.{ends_read, ends_unfinished, ends_without_memory}
 use Rattle.drill.proofs.script.finish.Goals as goal

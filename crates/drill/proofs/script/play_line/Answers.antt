@@ -1,6 +1,6 @@
 use Rattle.std.proofs.Common.{◌≡◌, ℕ, ◌<◌, List, ap, ◌∙◌, subst, arith}
+use Rattle.as4_flow.specs.Flow.{flow}
 use Rattle.as4_flow.specs.Told.{TakesFront, behind}
-use Rattle.drill.specs.Running.{flow}
 use Rattle.drill.specs.Transcript.{lines_limit}
 use Rattle.drill.proofs.EndLemmas.{Turn, so_far_played, ends_full, ends_too_many, ends_unwritten, ends_without_memory, ends_wrong}
 use Rattle.drill_script.specs.Lacking.{parted}

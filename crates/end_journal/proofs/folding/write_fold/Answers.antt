@@ -24,8 +24,8 @@ pub returns-in_err-fold_finish-in-Ok-clause-any_moment :
 returns-in_err-fold_finish-in-Ok-clause-any_moment g c bodies size has folded =
     let parts = c.in-Ok.ensures.added in
     let open_fold = c.in_ok-fold_start.ensures.open bodies has in
-    finished_run g.D.Disk.moment g.D.Disk.left_since c.args.journal.now.disk c.fold_start.new.self.disk c.add_parts.new.journal.disk c.fold_finish.new.self.disk bodies
-    (c.fold_start.ensures.any_moment bodies has) (c.add_parts.ensures.any_moment bodies open_fold) c.args.core.now.end size parts.0 c.folded_size.ensures.reached parts.1 parts.2.spelled folded
+    finished_run g.D.Disk.moment g.D.Disk.left_since c.args.journal.now c.fold_start.new.self c.add_parts.new.journal bodies (c.fold_start.ensures.any_moment bodies has) (c.add_parts.ensures.any_moment bodies open_fold)
+    c.fold_start.ensures.same.1 c.args.core.now.end size c.fold_finish.new.self.disk parts.0 parts.2.version c.folded_size.ensures.reached parts.1 parts.2.spelled folded
     (c.fold_finish.ensures.any_moment bodies (map alone parts.0) (parts.2.added bodies open_fold))
 
 pub returns-in_ok-fold_finish-in-Ok-clause-any_moment :
@@ -33,8 +33,8 @@ pub returns-in_ok-fold_finish-in-Ok-clause-any_moment :
 returns-in_ok-fold_finish-in-Ok-clause-any_moment g c bodies size has folded =
     let parts = c.in-Ok.ensures.added in
     let open_fold = c.in_ok-fold_start.ensures.open bodies has in
-    finished_run g.D.Disk.moment g.D.Disk.left_since c.args.journal.now.disk c.fold_start.new.self.disk c.add_parts.new.journal.disk c.fold_finish.new.self.disk bodies
-    (c.fold_start.ensures.any_moment bodies has) (c.add_parts.ensures.any_moment bodies open_fold) c.args.core.now.end size parts.0 c.folded_size.ensures.reached parts.1 parts.2.spelled folded
+    finished_run g.D.Disk.moment g.D.Disk.left_since c.args.journal.now c.fold_start.new.self c.add_parts.new.journal bodies (c.fold_start.ensures.any_moment bodies has) (c.add_parts.ensures.any_moment bodies open_fold)
+    c.fold_start.ensures.same.1 c.args.core.now.end size c.fold_finish.new.self.disk parts.0 parts.2.version c.folded_size.ensures.reached parts.1 parts.2.spelled folded
     (c.fold_finish.ensures.any_moment bodies (map alone parts.0) (parts.2.added bodies open_fold))
 
 pub returns-in_ok-fold_finish-in-Ok-clause-kept : goal.returns-in_ok-fold_finish-in-Ok-clause-kept
@@ -54,8 +54,8 @@ returns-in-Err-clause-any_moment g c bodies size has folded =
     let added = c.add_parts.new.journal in
     let dropped = c.fold_drop.new.self in
     let same : dropped.disk ≡ added.disk = ap (λ (j : Journal g.row.D.Denot). j.disk) {x = dropped} {y = record added { fold = dropped.fold; fold_in_range = dropped.fold_in_range }} c.fold_drop.ensures.same in
-    dropped_run g.D.Disk.moment g.D.Disk.left_since c.args.journal.now.disk c.fold_start.new.self.disk added.disk dropped.disk bodies
-    (c.fold_start.ensures.any_moment bodies has) (c.add_parts.ensures.any_moment bodies (c.in_ok-fold_start.ensures.open bodies has)) c.args.core.now.end size same
+    dropped_run g.D.Disk.moment g.D.Disk.left_since c.args.journal.now c.fold_start.new.self added bodies
+    (c.fold_start.ensures.any_moment bodies has) (c.add_parts.ensures.any_moment bodies (c.in_ok-fold_start.ensures.open bodies has)) c.fold_start.ensures.same.1 c.args.core.now.end size dropped.disk same
 
 pub returns-in-Err-clause-cause : goal.returns-in-Err-clause-cause
 returns-in-Err-clause-cause g c =

@@ -1,8 +1,8 @@
-use Rattle.std.proofs.Common.{◌≡◌, ℕ, sym, ◌∙◌}
+use Rattle.std.proofs.Common.{◌≡◌, inl, ℕ, refl, sym, ◌∙◌}
 use Rattle.std.proofs.lemmas.Result.{on_ok_weaker}
 use Rattle.exchange_model.specs.Fold.{IsFoldedSize, resized}
 use Rattle.journal.specs.declared.version.Version.TheVariants.{One, Two}
-use Rattle.end_journal.proofs.OpeningLemmas.{folded_end, has_folded_size, is_one, is_two, read_end, refolded_run, reread_run, short_fold, whole_journal}
+use Rattle.end_journal.proofs.OpeningLemmas.{folded_end, has_folded_size, is_old, is_one, is_two, read_end, refolded_run, reread_run, short_fold, whole_journal}
 use Rattle.end_journal.proofs.RunLemmas.{told_before}
 use Rattle.end_journal.proofs.opening.bring_up.Goals as goal
 
@@ -57,5 +57,7 @@ returns-clause-any_moment g c has b told =
     let end = c.read_all.new.core.end in
     let all = c.in_ok-read_all.ensures.read in
     let size = has_folded_size all.0 end all.1.leads in
-    refolded_run g.D.Disk.moment g.D.Disk.left_since c.one_body.ensures first.disk now.disk c.fold_end.new.journal.disk b all.0 end size.0 (all.1.all has b told) all.1.leads size.1
+    let one : now.version ≡ One = is_one now.version (λ is. c.if-version-eq-WRITTEN_VERSION.false (c.version.ensures ∙ is)) in
+    let old = is_old g.D.Disk.seen g.D.Disk.may_leave first b b (inl refl) has told (c.requires.version b told) (sym all.1.version ∙ one) in
+    refolded_run g.D.Disk.moment g.D.Disk.left_since c.one_body.ensures now.version first.disk now.disk c.fold_end.new.journal.disk b all.0 end size.0 old (all.1.all has b told) all.1.leads size.1
     (c.read_all.ensures.any_moment has b told) (c.fold_end.ensures.any_moment all.0 size.0 (all.1.records has) size.1)

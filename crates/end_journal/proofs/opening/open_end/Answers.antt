@@ -19,6 +19,11 @@ bring_up-requires-clause-read g c d told =
     let was = told_before (g.D.Disk.seen c.args.disk) (g.D.Disk.seen c.in-Ok.journal.disk) d c.in-Ok.ensures.tells told in
     (c.in-Ok.ensures.read was.0 was.1).0
 
+pub bring_up-requires-clause-version : goal.bring_up-requires-clause-version
+bring_up-requires-clause-version g c d told =
+    let was = told_before (g.D.Disk.seen c.args.disk) (g.D.Disk.seen c.in-Ok.journal.disk) d c.in-Ok.ensures.tells told in
+    c.in-Ok.ensures.new was.0 was.1 d told
+
 pub returns-in-Ok-bring_up-clause-end : goal.returns-in-Ok-bring_up-clause-end
 returns-in-Ok-bring_up-clause-end g c b told =
     let opened = c.in-Ok.ensures.read b told in
@@ -26,7 +31,7 @@ returns-in-Ok-bring_up-clause-end g c b told =
     let d = read.settled.image in
     let keeps = opened.1 d read.settled.told in
     let up = c.in-Ok-bring_up.ensures.end read d read.settled.told in
-    let found = opened_end g.D.Disk.seen g.D.Disk.may_leave c.in-Ok.journal b d keeps read read.settled.told up.0 c.bring_up.new.core.end up.1 up.2 up.3 in
+    let found = opened_end g.D.Disk.seen g.D.Disk.may_leave c.in-Ok.journal b d keeps read read.settled.told (c.in-Ok.ensures.new b told d read.settled.told) up.0 c.bring_up.new.core.end up.1 up.2 up.3 in
     (up.0, found.0, found.1, found.2)
 
 pub returns-in-Ok-bring_up-clause-any_moment : goal.returns-in-Ok-bring_up-clause-any_moment

@@ -1,5 +1,9 @@
+use Rattle.end_records.proofs.RecordLemmas.{one_record}
 use Rattle.end_records.proofs.UnfitLemmas.{opens_reads, reads_once}
 use Rattle.end_records.proofs.laws.an_image_opens_to_one_end.Goals as goal
+
+pub returns-clause-leads : goal.returns-clause-leads
+returns-clause-leads c body start a b first other = one_record c.one_body.ensures body start a b first other
 
 pub returns-clause-one : goal.returns-clause-one
 returns-clause-one c image a b opens also = reads_once c.one_body.ensures image a b (opens_reads image a opens) (opens_reads image b also)

@@ -5,7 +5,7 @@ use Rattle.as4_disk.specs.Image.{Image}
 use Rattle.as4_disk.proofs.RunLemmas.{then, weaken}
 use Rattle.journal.specs.declared.version.Version.TheVariants.{Two}
 use Rattle.journal.specs.Leaf.{front_of}
-use Rattle.journal.specs.Store.{leaf_of, picked_leaf, OpensToOneOf}
+use Rattle.journal.specs.Store.{leaf_of, picked_leaf, InVersion, OpensToOneOf}
 use Rattle.journal.specs.Settled.{IsSettled}
 use Rattle.journal.proofs.AddLemmas.{tail_of, frame_tail, torn_tail, torn_open, after_tail, after_gate}
 use Rattle.journal.proofs.CallLemmas.{record_made}
@@ -24,7 +24,7 @@ mid_settled seen may_leave old mid is_second bodies body rest tail gate place is
 
 pub returns-in_err-write_picked-clause-any_moment : goal.returns-in_err-write_picked-clause-any_moment
 returns-in_err-write_picked-clause-any_moment g c bodies rest place within is =
-    weaken g.D.Disk.moment g.D.Disk.left_since c.args.disk.now c.write_picked.new.disk _ (OpensToOneOf bodies c.args.frame.now)
+    weaken g.D.Disk.moment g.D.Disk.left_since c.args.disk.now c.write_picked.new.disk _ (InVersion Two (OpensToOneOf bodies c.args.frame.now))
     (λ image torn. torn_tail bodies c.args.frame.now rest c.args.gate _ image place within torn)
     (c.write_picked.ensures.any_moment (front_of Two bodies ++ 0 ∷ rest) is)
 
@@ -33,11 +33,11 @@ returns-in_err-write_picked-2-clause-any_moment g c bodies rest place within is 
     let tail = c.tail.result.now in
     let is_tail : tail ≡ tail_of c.args.frame.now = c.tail.ensures ∙ frame_tail c.args.frame.now in
     let mid = mid_settled g.D.Disk.seen g.D.Disk.may_leave c.args.disk.now c.write_picked.new.disk c.args.is_second bodies c.args.frame.now rest tail c.args.gate place is_tail c.in_ok-write_picked.ensures.settled is in
-    then g.D.Disk.moment g.D.Disk.left_since c.args.disk.now c.write_picked.new.disk c.write_picked-2.new.disk (OpensToOneOf bodies c.args.frame.now)
-    (weaken g.D.Disk.moment g.D.Disk.left_since c.args.disk.now c.write_picked.new.disk _ (OpensToOneOf bodies c.args.frame.now)
+    then g.D.Disk.moment g.D.Disk.left_since c.args.disk.now c.write_picked.new.disk c.write_picked-2.new.disk (InVersion Two (OpensToOneOf bodies c.args.frame.now))
+    (weaken g.D.Disk.moment g.D.Disk.left_since c.args.disk.now c.write_picked.new.disk _ (InVersion Two (OpensToOneOf bodies c.args.frame.now))
     (λ image torn. torn_tail bodies c.args.frame.now rest c.args.gate _ image place within torn)
     (c.write_picked.ensures.any_moment (front_of Two bodies ++ 0 ∷ rest) is))
-    (weaken g.D.Disk.moment g.D.Disk.left_since c.write_picked.new.disk c.write_picked-2.new.disk (λ (image : Image). Torn c.args.gate 1 (front_of Two bodies ++ 0 ∷ (tail_of c.args.frame.now ++ drop (length tail) rest)) (picked_leaf image)) (OpensToOneOf bodies c.args.frame.now)
+    (weaken g.D.Disk.moment g.D.Disk.left_since c.write_picked.new.disk c.write_picked-2.new.disk (λ (image : Image). Torn c.args.gate 1 (front_of Two bodies ++ 0 ∷ (tail_of c.args.frame.now ++ drop (length tail) rest)) (picked_leaf image)) (InVersion Two (OpensToOneOf bodies c.args.frame.now))
     (λ image torn. torn_open bodies c.args.frame.now rest c.args.gate (drop (length tail) rest) image place within torn)
     (c.write_picked-2.ensures.any_moment (front_of Two bodies ++ 0 ∷ (tail_of c.args.frame.now ++ drop (length tail) rest)) mid))
 
@@ -46,11 +46,11 @@ returns-clause-any_moment g c bodies rest place within is =
     let tail = c.tail.result.now in
     let is_tail : tail ≡ tail_of c.args.frame.now = c.tail.ensures ∙ frame_tail c.args.frame.now in
     let mid = mid_settled g.D.Disk.seen g.D.Disk.may_leave c.args.disk.now c.write_picked.new.disk c.args.is_second bodies c.args.frame.now rest tail c.args.gate place is_tail c.in_ok-write_picked.ensures.settled is in
-    then g.D.Disk.moment g.D.Disk.left_since c.args.disk.now c.write_picked.new.disk c.write_picked-2.new.disk (OpensToOneOf bodies c.args.frame.now)
-    (weaken g.D.Disk.moment g.D.Disk.left_since c.args.disk.now c.write_picked.new.disk _ (OpensToOneOf bodies c.args.frame.now)
+    then g.D.Disk.moment g.D.Disk.left_since c.args.disk.now c.write_picked.new.disk c.write_picked-2.new.disk (InVersion Two (OpensToOneOf bodies c.args.frame.now))
+    (weaken g.D.Disk.moment g.D.Disk.left_since c.args.disk.now c.write_picked.new.disk _ (InVersion Two (OpensToOneOf bodies c.args.frame.now))
     (λ image torn. torn_tail bodies c.args.frame.now rest c.args.gate _ image place within torn)
     (c.write_picked.ensures.any_moment (front_of Two bodies ++ 0 ∷ rest) is))
-    (weaken g.D.Disk.moment g.D.Disk.left_since c.write_picked.new.disk c.write_picked-2.new.disk (λ (image : Image). Torn c.args.gate 1 (front_of Two bodies ++ 0 ∷ (tail_of c.args.frame.now ++ drop (length tail) rest)) (picked_leaf image)) (OpensToOneOf bodies c.args.frame.now)
+    (weaken g.D.Disk.moment g.D.Disk.left_since c.write_picked.new.disk c.write_picked-2.new.disk (λ (image : Image). Torn c.args.gate 1 (front_of Two bodies ++ 0 ∷ (tail_of c.args.frame.now ++ drop (length tail) rest)) (picked_leaf image)) (InVersion Two (OpensToOneOf bodies c.args.frame.now))
     (λ image torn. torn_open bodies c.args.frame.now rest c.args.gate (drop (length tail) rest) image place within torn)
     (c.write_picked-2.ensures.any_moment (front_of Two bodies ++ 0 ∷ (tail_of c.args.frame.now ++ drop (length tail) rest)) mid))
 

@@ -3,18 +3,21 @@ use Rattle.as4_disk.proofs.RunLemmas.{no_call}
 use Rattle.journal.specs.declared.version.Version.{Version}
 use Rattle.journal.specs.declared.version.Version.TheVariants.{Two}
 use Rattle.journal.specs.Leaf.{front_of, limit_of}
-use Rattle.journal.specs.Store.{OpensToOneOf}
+use Rattle.journal.specs.Store.{InVersion, OpensToOneOf}
 use Rattle.journal.specs.Settled.{IsSettled}
 use Rattle.journal.proofs.JournalLaws.{as_two}
 use Rattle.journal.proofs.LeafLemmas.{length-front_more}
-use Rattle.journal.proofs.StoreLemmas.{settled_left, settled_opens, closed_opens}
+use Rattle.journal.proofs.StoreLemmas.{settled_left, settled_opens, closed_in}
 use Rattle.journal.proofs.journal.Journal.append.Goals as goal
 
 pub returns-then-size-need-clause-any_moment : goal.returns-then-size-need-clause-any_moment
 returns-then-size-need-clause-any_moment g c bodies has =
-    no_call g.D.Disk.moment g.D.Disk.left_since c.args.self.now.disk (OpensToOneOf bodies c.args.frame.now)
-    (λ image left. inl (settled_opens bodies (λ other. other ≡ c.args.frame.now) image (closed_opens c.args.self.now.version bodies has.rest image has.within
-    (settled_left g.D.Disk.seen g.D.Disk.may_leave c.args.self.now.disk c.args.self.now.is_second (front_of c.args.self.now.version bodies ++ 0 ∷ has.rest) image has.settled (g.met.D.Disk.only_now c.args.self.now.disk image left)).2)))
+    let two = as_two g.D.Disk.seen g.D.Disk.may_leave c.args.self.now bodies c.requires.version has in
+    no_call g.D.Disk.moment g.D.Disk.left_since c.args.self.now.disk (InVersion Two (OpensToOneOf bodies c.args.frame.now))
+    (λ image left.
+    let in_two = closed_in Two bodies has.rest image two.2
+    (settled_left g.D.Disk.seen g.D.Disk.may_leave c.args.self.now.disk c.args.self.now.is_second (front_of Two bodies ++ 0 ∷ has.rest) image two.0 (g.met.D.Disk.only_now c.args.self.now.disk image left)).2 in
+    (inl (settled_opens bodies (λ other. other ≡ c.args.frame.now) image in_two.0), in_two.1))
 
 pub returns-in-Err-clause-any_moment : goal.returns-in-Err-clause-any_moment
 returns-in-Err-clause-any_moment g c bodies has =

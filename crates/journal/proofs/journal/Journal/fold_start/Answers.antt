@@ -3,9 +3,9 @@ use Rattle.as4_disk.specs.Image.{Image}
 use Rattle.as4_disk.proofs.RunLemmas.{weaken}
 use Rattle.journal.specs.declared.version.Version.TheVariants.{Two}
 use Rattle.journal.specs.Leaf.{front_of}
-use Rattle.journal.specs.Store.{picked_leaf, OpensSettled}
+use Rattle.journal.specs.Store.{picked_leaf, InVersion, OpensSettled}
 use Rattle.journal.proofs.LeafLemmas.{length-front}
-use Rattle.journal.proofs.StoreLemmas.{closed_opens}
+use Rattle.journal.proofs.StoreLemmas.{closed_in}
 use Rattle.journal.proofs.journal.Journal.fold_start.Goals as goal
 
 pub returns-in-Ok-clause-open : goal.returns-in-Ok-clause-open
@@ -26,11 +26,11 @@ returns-in-Ok-clause-open g c bodies has =
 pub returns-in-Ok-clause-any_moment : goal.returns-in-Ok-clause-any_moment
 returns-in-Ok-clause-any_moment g c bodies has =
     let leaf = front_of c.args.self.now.version bodies ++ 0 ∷ has.rest in
-    weaken g.D.Disk.moment g.D.Disk.left_since c.args.self.now.disk c.empty_other.new.disk (λ (image : Image). picked_leaf image ≡ leaf) (OpensSettled bodies)
-    (λ image same. closed_opens c.args.self.now.version bodies has.rest image has.within same) (c.empty_other.ensures.any_moment leaf has.settled)
+    weaken g.D.Disk.moment g.D.Disk.left_since c.args.self.now.disk c.empty_other.new.disk (λ (image : Image). picked_leaf image ≡ leaf) (InVersion c.args.self.now.version (OpensSettled bodies))
+    (λ image same. closed_in c.args.self.now.version bodies has.rest image has.within same) (c.empty_other.ensures.any_moment leaf has.settled)
 
 pub returns-in-Err-clause-any_moment : goal.returns-in-Err-clause-any_moment
 returns-in-Err-clause-any_moment g c bodies has =
     let leaf = front_of c.args.self.now.version bodies ++ 0 ∷ has.rest in
-    weaken g.D.Disk.moment g.D.Disk.left_since c.args.self.now.disk c.empty_other.new.disk (λ (image : Image). picked_leaf image ≡ leaf) (OpensSettled bodies)
-    (λ image same. closed_opens c.args.self.now.version bodies has.rest image has.within same) (c.empty_other.ensures.any_moment leaf has.settled)
+    weaken g.D.Disk.moment g.D.Disk.left_since c.args.self.now.disk c.empty_other.new.disk (λ (image : Image). picked_leaf image ≡ leaf) (InVersion c.args.self.now.version (OpensSettled bodies))
+    (λ image same. closed_in c.args.self.now.version bodies has.rest image has.within same) (c.empty_other.ensures.any_moment leaf has.settled)

@@ -1,9 +1,10 @@
-use Rattle.std.proofs.Common.{◌<◌, [], length, arith}
+use Rattle.std.proofs.Common.{◌<◌, [], ◌∷◌, ◌++◌, ap, length, arith}
 use Rattle.std.proofs.lemmas.Option.{MatchOption-at_some}
 use Rattle.journal.specs.declared.version.Version.{Version}
 use Rattle.journal.specs.declared.version.Version.TheVariants.{One, Two}
 use Rattle.journal.specs.Leaf.{front_of, limit_of}
 use Rattle.journal.proofs.LeafLemmas.{length-front}
+use Rattle.journal.proofs.StoreLemmas.{settled_told}
 use Rattle.journal.proofs.journal.Journal.open.Goals as goal
 
 front_within : (version : Version) → length (front_of version []) < limit_of version
@@ -24,3 +25,9 @@ returns-in-Ok-Some-clause-read g c b told =
       },
       found.1,
     )
+
+pub returns-in-Ok-Some-clause-new : goal.returns-in-Ok-Some-clause-new
+returns-in-Ok-Some-clause-new g c b told d told_now short =
+    let begins = (MatchOption-at_some _ _ _ c.in-Ok-Some.field-0-is c.in-Ok-Some.ensures.read b told).0 in
+    let leaf = front_of c.in-Ok-Some.version [] ++ begins.next ∷ begins.rest in
+    begins.new (omega (arith, short, ap length (settled_told g.D.Disk.seen g.D.Disk.may_leave c.start.new.disk c.in-Ok-Some.is_second leaf d begins.settled told_now).2))

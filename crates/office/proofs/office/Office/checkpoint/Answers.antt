@@ -10,9 +10,10 @@ use Rattle.office.specs.declared.call.Call.{Call}
 use Rattle.office.specs.declared.call.Halt.{Halt}
 use Rattle.office.specs.declared.call.Call.TheVariants.{Folded, Stop}
 use Rattle.pass_book.specs.States.{PassState}
+use Rattle.end_journal.proofs.RunLemmas.{told_before}
 use Rattle.office.proofs.CallLemmas.{folded_leads, stop_leads}
 use Rattle.office.proofs.FoldLemmas.{fold_run, folded_size_is}
-use Rattle.office.proofs.HandlingLemmas.{enters, keeps, not_both, told_before}
+use Rattle.office.proofs.HandlingLemmas.{enters, finds_worn, keeps, not_both}
 use Rattle.office.proofs.StateLemmas.{order_goes, order_stays, order_stops, still_folded}
 use Rattle.office.proofs.office.Office.checkpoint.Goals as goal
 
@@ -22,17 +23,9 @@ returns-then-len g c =
     let o = c.self.inside in
     let order = c.self.invariant.0 in
     rw (← c.self.view_is, c.show.ensures.same) (record {
-      answer = record {
-        full = omega (arith, c.len.ensures.value, c.if-len.true);
-        seen = c.show.ensures.begins;
-        list = refl;
-        end = refl;
-        disk = refl;
-        pass = c.show.ensures.whole;
-      };
+      answer = finds_worn (omega (arith, c.len.ensures.value, c.if-len.true)) c.show.ensures.begins c.show.ensures.whole;
       any_moment = λ going image told. still_folded g.D.Disk.moment g.D.Disk.left_since g.D.Disk.seen g.D.Disk.may_leave g.met.D.Disk.only_now o.journal o.core.end image (order.kept (order.halted ∙ going)) told;
-      keeps = keeps g.D.Disk.seen g.D.Disk.may_leave g.D.Disk.fault_count o.journal o.journal o.core.end o.core.end o.core.modes o.core.modes o.core.rooms o.core.rooms o.keeper.book o.keeper.book o.keeper.list o.keeper.list c.args.pass.now c.show.new.pass
-          o.halt order refl refl (ap (λ (p : PassState Call). p.book) c.show.ensures.whole) (ap (λ (p : PassState Call). p.stake) c.show.ensures.whole) (λ start leads. leads) refl (omega arith);
+      keeps = keeps order refl refl c.show.ensures.whole (λ start leads. leads) refl (omega arith);
     })
 
 -- the disk failed before
@@ -48,8 +41,7 @@ returns-in-Some g c =
         omega (arith, c.len.ensures.value, c.len.ensures.limit, c.if-len.false),
       );
       any_moment = λ going. absurd (not_both o.halt halt c.in-Some.is (order.halted ∙ going));
-      keeps = keeps g.D.Disk.seen g.D.Disk.may_leave g.D.Disk.fault_count o.journal o.journal o.core.end o.core.end o.core.modes o.core.modes o.core.rooms o.core.rooms o.keeper.book o.keeper.book o.keeper.list o.keeper.list c.args.pass.now c.args.pass.now
-          o.halt order refl refl refl refl (λ start leads. leads) refl (omega arith);
+      keeps = keeps order refl refl refl (λ start leads. leads) refl (omega arith);
     })
 
 -- nothing is done, since the fold isn't shorter
@@ -69,8 +61,7 @@ returns-then-size-present g c =
         }),
       );
       any_moment = λ going image told. still_folded g.D.Disk.moment g.D.Disk.left_since g.D.Disk.seen g.D.Disk.may_leave g.met.D.Disk.only_now o.journal o.core.end image (order.kept (order.halted ∙ going)) told;
-      keeps = keeps g.D.Disk.seen g.D.Disk.may_leave g.D.Disk.fault_count o.journal o.journal o.core.end o.core.end o.core.modes o.core.modes o.core.rooms o.core.rooms o.keeper.book o.keeper.book o.keeper.list o.keeper.list c.args.pass.now c.args.pass.now
-          o.halt order refl refl refl refl (λ start leads. leads) refl (omega arith);
+      keeps = keeps order refl refl refl (λ start leads. leads) refl (omega arith);
     })
 
 -- the journal is folded
@@ -83,7 +74,7 @@ fold_end-requires-clause-short g c size folded =
 pub invariant_of-self-in-Ok : goal.invariant_of-self-in-Ok
 invariant_of-self-in-Ok g c =
     let o = c.self.inside in
-    let now = order_goes g.D.Disk.seen g.D.Disk.may_leave g.D.Disk.fault_count o.journal o.core.end o.core.modes o.halt o.keeper.list c.self.invariant.0 c.fold_end.new.journal c.fold_end.new.core.end c.enter-call.new.keeper.list _ c.in_default.is c.enter-call.ensures.list refl c.in-Ok.ensures.kept in
+    let now = order_goes c.self.invariant.0 c.fold_end.new.journal c.fold_end.new.core.end c.enter-call.new.keeper.list _ c.in_default.is c.enter-call.ensures.list refl c.in-Ok.ensures.kept in
     (subst (λ (m : List Mode). IsInOrder g.D.Disk.seen g.D.Disk.may_leave g.D.Disk.fault_count c.fold_end.new.journal c.fold_end.new.core.end m o.halt c.enter-call.new.keeper.list) (sym c.fold_end.ensures.modes) now, c.self.invariant.1)
 
 pub returns-in-Ok : goal.returns-in-Ok
@@ -108,15 +99,14 @@ returns-in-Ok g c =
           folded = folded;
           shorter = shorter;
           end = ends;
-          entered = enters g.D.Disk.seen g.D.Disk.may_leave g.D.Disk.fault_count o.journal after o.core.end core.end o.core.modes core.modes o.core.rooms core.rooms o.keeper.book c.enter-call.new.keeper.book o.keeper.list more c.args.pass.now c.enter-call.new.pass
+          entered = enters
               (Folded c.folded_size-size.result) room c.enter-call.ensures.seen c.enter-call.ensures.list c.enter-call.ensures.pass;
         }),
       );
       any_moment = λ goes image told.
           let had = (order.kept c.in_default.is).records image told in
-          fold_run g.D.Disk.moment g.D.Disk.left_since o.journal.disk after.disk had.0 o.core.end size.0 had.2 size.1 (c.fold_end.ensures.any_moment had.0 size.0 had.1 size.1);
-      keeps = keeps g.D.Disk.seen g.D.Disk.may_leave g.D.Disk.fault_count o.journal after o.core.end core.end o.core.modes core.modes o.core.rooms core.rooms o.keeper.book c.enter-call.new.keeper.book o.keeper.list more c.args.pass.now c.enter-call.new.pass
-          o.halt (invariant_of-self-in-Ok g c).0 c.fold_end.ensures.modes c.enter-call.ensures.book (ap (λ (p : PassState Call). p.book) c.enter-call.ensures.pass) (ap (λ (p : PassState Call). p.stake) c.enter-call.ensures.pass)
+          fold_run had.2 size.1 (order.kept c.in_default.is).version (c.fold_end.ensures.any_moment had.0 size.0 had.1 size.1);
+      keeps = keeps (invariant_of-self-in-Ok g c).0 c.fold_end.ensures.modes c.enter-call.ensures.book c.enter-call.ensures.pass
           (folded_leads o.core.modes o.keeper.list more c.folded_size-size.result o.core.end core.end going c.enter-call.ensures.list folded shorter ends) c.fold_end.ensures.tells c.fold_end.ensures.counted;
     })
 
@@ -126,7 +116,7 @@ invariant_of-self-in-Err-NoMemory g c =
     let o = c.self.inside in
     let after = c.fold_end.new.journal in
     let P : Machine → Type 0 = λ m. IsInOrder g.D.Disk.seen g.D.Disk.may_leave g.D.Disk.fault_count after m.end m.modes o.halt o.keeper.list in
-    let now = order_stays g.D.Disk.seen g.D.Disk.may_leave g.D.Disk.fault_count o.journal o.core.end o.core.modes o.halt o.keeper.list c.self.invariant.0 after c.in_default.is
+    let now = order_stays c.self.invariant.0 after c.in_default.is
     (c.in-Err-NoMemory.ensures.starved (ap (λ e. Err e) c.in-Err-NoMemory.field-0-is) o.core.end (c.self.invariant.0.kept c.in_default.is)) in
     (subst P (sym c.in-Err-NoMemory.ensures.same) now, c.self.invariant.1)
 
@@ -136,15 +126,14 @@ returns-in-Err-NoMemory g c =
     let order = c.self.invariant.0 in
     let after = c.fold_end.new.journal in
     let size = c.folded_size-size.ensures.size in
-    let now = order_stays g.D.Disk.seen g.D.Disk.may_leave g.D.Disk.fault_count o.journal o.core.end o.core.modes o.halt o.keeper.list order after c.in_default.is
+    let now = order_stays order after c.in_default.is
     (c.in-Err-NoMemory.ensures.starved (ap (λ e. Err e) c.in-Err-NoMemory.field-0-is) o.core.end (order.kept c.in_default.is)) in
     rw (← c.self.view_is, c.in-Err-NoMemory.ensures.same) (record {
       answer = (sym order.halted ∙ c.in_default.is, record { list = refl; end = refl; pass = refl });
       any_moment = λ goes image told.
           let had = (order.kept c.in_default.is).records image told in
-          fold_run g.D.Disk.moment g.D.Disk.left_since o.journal.disk after.disk had.0 o.core.end size.0 had.2 size.1 (c.fold_end.ensures.any_moment had.0 size.0 had.1 size.1);
-      keeps = keeps g.D.Disk.seen g.D.Disk.may_leave g.D.Disk.fault_count o.journal after o.core.end o.core.end o.core.modes o.core.modes o.core.rooms o.core.rooms o.keeper.book o.keeper.book o.keeper.list o.keeper.list c.args.pass.now c.args.pass.now
-          o.halt now refl refl refl refl (λ start leads. leads) c.fold_end.ensures.tells c.fold_end.ensures.counted;
+          fold_run had.2 size.1 (order.kept c.in_default.is).version (c.fold_end.ensures.any_moment had.0 size.0 had.1 size.1);
+      keeps = keeps now refl refl refl (λ start leads. leads) c.fold_end.ensures.tells c.fold_end.ensures.counted;
     })
 
 -- the disk failed
@@ -157,12 +146,12 @@ invariant_of-self-in-Err-Disk g c =
     let counts = c.in-Err-Disk.ensures.cause c.in-Err-Disk.before c.in-Err-Disk.after c.in-Err-Disk.field-0-is in
     let rose : Rose c.in-Err-Disk.before c.in-Err-Disk.after = omega (arith, counts.0, counts.1, counts.2) in
     let size = c.folded_size-size.ensures.size in
-    let now = order_stops g.D.Disk.seen g.D.Disk.may_leave g.D.Disk.fault_count o.journal o.core.end o.core.modes o.halt o.keeper.list order after c.enter_stop.new.keeper.list None halt c.in_default.is c.enter_stop.ensures.list rose counts.1
+    let now = order_stops order after c.enter_stop.new.keeper.list None halt c.in_default.is c.enter_stop.ensures.list rose counts.1
     (λ image told left may.
     let was = told_before (g.D.Disk.seen o.journal.disk) (g.D.Disk.seen after.disk) image c.fold_end.ensures.tells told in
     let had = (order.kept c.in_default.is).records was.0 was.1 in
     at_end g.D.Disk.moment g.D.Disk.left_since o.journal.disk after.disk (λ i. OpensFolded i o.core.end) (g.D.Disk.may_leave after.disk) (g.met.D.Disk.counts_now after.disk)
-    (fold_run g.D.Disk.moment g.D.Disk.left_since o.journal.disk after.disk had.0 o.core.end size.0 had.2 size.1 (c.fold_end.ensures.any_moment had.0 size.0 had.1 size.1)) left may) in
+    (fold_run had.2 size.1 (order.kept c.in_default.is).version (c.fold_end.ensures.any_moment had.0 size.0 had.1 size.1)) left may) in
     let P : Machine → Type 0 = λ m. IsInOrder g.D.Disk.seen g.D.Disk.may_leave g.D.Disk.fault_count after m.end m.modes (Some halt) c.enter_stop.new.keeper.list in
     (subst P (sym c.in-Err-Disk.ensures.same) now, c.self.invariant.1)
 
@@ -186,13 +175,12 @@ returns-in-Err-Disk g c =
         old_count = counts.0;
         new_count = counts.1;
         rose = rose;
-        entered = enters g.D.Disk.seen g.D.Disk.may_leave g.D.Disk.fault_count o.journal after o.core.end o.core.end o.core.modes o.core.modes o.core.rooms o.core.rooms o.keeper.book c.enter_stop.new.keeper.book o.keeper.list more c.args.pass.now c.enter_stop.new.pass
+        entered = enters
             (Stop None halt) room c.enter_stop.ensures.seen c.enter_stop.ensures.list c.enter_stop.ensures.pass;
       };
       any_moment = λ goes image told.
           let had = (order.kept c.in_default.is).records image told in
-          fold_run g.D.Disk.moment g.D.Disk.left_since o.journal.disk after.disk had.0 o.core.end size.0 had.2 size.1 (c.fold_end.ensures.any_moment had.0 size.0 had.1 size.1);
-      keeps = keeps g.D.Disk.seen g.D.Disk.may_leave g.D.Disk.fault_count o.journal after o.core.end o.core.end o.core.modes o.core.modes o.core.rooms o.core.rooms o.keeper.book c.enter_stop.new.keeper.book o.keeper.list more c.args.pass.now c.enter_stop.new.pass
-          (Some halt) (subst P c.in-Err-Disk.ensures.same (invariant_of-self-in-Err-Disk g c).0) refl c.enter_stop.ensures.book (ap (λ (p : PassState Call). p.book) c.enter_stop.ensures.pass) (ap (λ (p : PassState Call). p.stake) c.enter_stop.ensures.pass)
+          fold_run had.2 size.1 (order.kept c.in_default.is).version (c.fold_end.ensures.any_moment had.0 size.0 had.1 size.1);
+      keeps = keeps (subst P c.in-Err-Disk.ensures.same (invariant_of-self-in-Err-Disk g c).0) refl c.enter_stop.ensures.book c.enter_stop.ensures.pass
           (stop_leads o.core.modes o.keeper.list more None halt o.core.end going c.enter_stop.ensures.list rose) c.fold_end.ensures.tells c.fold_end.ensures.counted;
     })

@@ -4,7 +4,7 @@ use Rattle.office.proofs.office.Office.into_disk.Goals as goal
 pub returns-clause-safe : goal.returns-clause-safe
 returns-clause-safe g c =
     let o = c.self.inside in
-    rw (← c.self.view_is, c.into_disk.ensures) (order_keeps g.D.Disk.seen g.D.Disk.may_leave g.D.Disk.fault_count o.journal o.core.end o.core.modes o.halt o.keeper.list c.self.invariant.0)
+    rw (← c.self.view_is, c.into_disk.ensures) (order_keeps c.self.invariant.0)
 
 pub returns-clause-left : goal.returns-clause-left
 returns-clause-left g c = rw (← c.self.view_is, c.into_disk.ensures) c.self.invariant.0.left

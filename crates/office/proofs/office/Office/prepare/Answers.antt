@@ -4,7 +4,7 @@ use Rattle.exchange_model.specs.End.{End}
 use Rattle.exchange_model.specs.declared.outcome.Outcome.{Outcome}
 use Rattle.office.specs.Calls.{Leads}
 use Rattle.office.specs.State.{IsInOrder}
-use Rattle.office.proofs.HandlingLemmas.{keeps}
+use Rattle.office.proofs.HandlingLemmas.{keeps_roomy}
 use Rattle.office.proofs.office.Office.prepare.Goals as goal
 
 pub returns-in-Err-clause-free : goal.returns-in-Err-clause-free
@@ -13,21 +13,11 @@ returns-in-Err-clause-free g c = rw (← c.self.view_is) c.in-Err.ensures.free
 -- the core has made room, and its end is as before
 pub returns-in-Err-clause-keeps : goal.returns-in-Err-clause-keeps
 returns-in-Err-clause-keeps g c =
-    let o = c.self.inside in
-    let core = c.prepare.new.self in
-    let order = subst (λ (e : End). IsInOrder g.D.Disk.seen g.D.Disk.may_leave g.D.Disk.fault_count o.journal e core.modes o.halt o.keeper.list) (sym c.prepare.ensures.end)
-    (subst (λ (m : List Mode). IsInOrder g.D.Disk.seen g.D.Disk.may_leave g.D.Disk.fault_count o.journal o.core.end m o.halt o.keeper.list) (sym c.prepare.ensures.modes) c.self.invariant.0) in
-    rw (← c.self.view_is) (λ pass. keeps g.D.Disk.seen g.D.Disk.may_leave g.D.Disk.fault_count o.journal o.journal o.core.end core.end o.core.modes core.modes o.core.rooms core.rooms o.keeper.book o.keeper.book o.keeper.list o.keeper.list pass pass
-    o.halt order c.prepare.ensures.modes refl refl refl (λ start leads. subst (λ (e : End). Leads o.core.modes start o.keeper.list e) (sym c.prepare.ensures.end) leads) refl (omega arith))
+    rw (← c.self.view_is) (λ pass. keeps_roomy c.self.invariant.0 c.prepare.ensures.end c.prepare.ensures.modes)
 
 pub returns-then-is_empty-clause-keeps : goal.returns-then-is_empty-clause-keeps
 returns-then-is_empty-clause-keeps g c =
-    let o = c.self.inside in
-    let core = c.prepare.new.self in
-    let order = subst (λ (e : End). IsInOrder g.D.Disk.seen g.D.Disk.may_leave g.D.Disk.fault_count o.journal e core.modes o.halt o.keeper.list) (sym c.prepare.ensures.end)
-    (subst (λ (m : List Mode). IsInOrder g.D.Disk.seen g.D.Disk.may_leave g.D.Disk.fault_count o.journal o.core.end m o.halt o.keeper.list) (sym c.prepare.ensures.modes) c.self.invariant.0) in
-    rw (← c.self.view_is) (λ pass. keeps g.D.Disk.seen g.D.Disk.may_leave g.D.Disk.fault_count o.journal o.journal o.core.end core.end o.core.modes core.modes o.core.rooms core.rooms o.keeper.book o.keeper.book o.keeper.list o.keeper.list pass pass
-    o.halt order c.prepare.ensures.modes refl refl refl (λ start leads. subst (λ (e : End). Leads o.core.modes start o.keeper.list e) (sym c.prepare.ensures.end) leads) refl (omega arith))
+    rw (← c.self.view_is) (λ pass. keeps_roomy c.self.invariant.0 c.prepare.ensures.end c.prepare.ensures.modes)
 
 true_not_false : true ≡ false → ⊥
 true_not_false same = cc
@@ -44,9 +34,4 @@ returns-clause-free g c =
 
 pub returns-clause-keeps : goal.returns-clause-keeps
 returns-clause-keeps g c =
-    let o = c.self.inside in
-    let core = c.prepare.new.self in
-    let order = subst (λ (e : End). IsInOrder g.D.Disk.seen g.D.Disk.may_leave g.D.Disk.fault_count o.journal e core.modes o.halt o.keeper.list) (sym c.prepare.ensures.end)
-    (subst (λ (m : List Mode). IsInOrder g.D.Disk.seen g.D.Disk.may_leave g.D.Disk.fault_count o.journal o.core.end m o.halt o.keeper.list) (sym c.prepare.ensures.modes) c.self.invariant.0) in
-    rw (← c.self.view_is) (λ pass. keeps g.D.Disk.seen g.D.Disk.may_leave g.D.Disk.fault_count o.journal o.journal o.core.end core.end o.core.modes core.modes o.core.rooms core.rooms o.keeper.book o.keeper.book o.keeper.list o.keeper.list pass pass
-    o.halt order c.prepare.ensures.modes refl refl refl (λ start leads. subst (λ (e : End). Leads o.core.modes start o.keeper.list e) (sym c.prepare.ensures.end) leads) refl (omega arith))
+    rw (← c.self.view_is) (λ pass. keeps_roomy c.self.invariant.0 c.prepare.ensures.end c.prepare.ensures.modes)

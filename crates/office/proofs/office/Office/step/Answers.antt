@@ -1,4 +1,4 @@
-use Rattle.std.proofs.Common.{◌≡◌, None, refl, sym, ap, subst}
+use Rattle.std.proofs.Common.{◌≡◌, None, false, true, refl, sym, ap, subst}
 use Rattle.as4_disk.specs.Runs.{LeavesOnly}
 use Rattle.end_records.specs.Opens.{KeepsEnd}
 use Rattle.exchange_model.specs.declared.event.Event.{Event}
@@ -15,7 +15,7 @@ returns-in-Ok g c =
     let new = c.enact.new.self in
     let P : OfficeState g.row.D.Denot → Type 0 = λ o. Handles g.D.Disk.seen g.D.Disk.may_leave g.D.Disk.moment g.D.Disk.left_since g.D.Disk.fault_count g.D.Disk.makes o new c.args.pass.now c.enact.new.pass c.in-Ok.ready.event c.enact.result in
     let Q : Event → Type 0 = λ e. Handles g.D.Disk.seen g.D.Disk.may_leave g.D.Disk.moment g.D.Disk.left_since g.D.Disk.fault_count g.D.Disk.makes old new c.args.pass.now c.enact.new.pass e c.enact.result in
-    record { handles = subst Q c.in-Ok.ensures.ready.0 (same_handling g.D.Disk.seen g.D.Disk.may_leave g.D.Disk.moment g.D.Disk.left_since g.D.Disk.fault_count g.D.Disk.makes old new c.prepare.new.self.rooms c.args.pass.now c.enact.new.pass c.in-Ok.ready.event c.enact.result (subst P c.in-Ok.ensures.same c.enact.ensures.handles)) }
+    record { handles = subst Q c.in-Ok.ensures.ready.0 (same_handling g.D.Disk.seen g.D.Disk.may_leave g.D.Disk.moment g.D.Disk.left_since g.D.Disk.fault_count g.D.Disk.makes old new c.prepare.new.self.rooms c.args.pass.now c.enact.new.pass c.in-Ok.ready.event c.enact.result (subst P c.in-Ok.ensures.same c.enact.ensures.handles)); free = λ outcome step free. c.enact.ensures.memory }
 
 pub returns-in-Err : goal.returns-in-Err
 returns-in-Err g c =
@@ -34,4 +34,5 @@ returns-in-Err g c =
             (quiet_run g.D.Disk.moment g.D.Disk.left_since g.D.Disk.seen g.D.Disk.may_leave g.met.D.Disk.only_now old.modes c.args.event old.disk old.end image (subst P same kept.safe going) told);
         keeps = kept;
       };
+      free = λ outcome step free starved. (let wrong : false ≡ true = c.in-Err.ensures.free outcome step free in absurd cc);
     }
