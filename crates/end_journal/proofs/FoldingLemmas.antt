@@ -25,13 +25,14 @@ use Rattle.journal.specs.Store.{InVersion, OpensSettled, OpensToEither}
 use Rattle.journal.specs.declared.journal.Journal.{Journal}
 use Rattle.journal.specs.declared.version.Version.{Version}
 use Rattle.journal.specs.declared.version.Version.TheVariants.{Two}
+use Rattle.journal.proofs.OtherLemmas.{first_weaken}
 use Rattle.journal.proofs.StoreLemmas.{closed_in, settled_left}
 use Rattle.end_records.specs.Opens.{IsAt, IsJournalOf}
 use Rattle.end_records.specs.Records.{RecordsLead, alone}
 use Rattle.end_records.proofs.FoldLemmas.{fold_leads}
 use Rattle.end_records.proofs.OpenLemmas.{settled_at}
 use Rattle.end_journal.specs.Adding.{AddsPart, HasAdded, bytes_of}
-use Rattle.end_journal.proofs.RunLemmas.{first_weaken, then_first, told_before}
+use Rattle.end_journal.proofs.RunLemmas.{then_first, told_before}
 
 -- ---- lengths
 

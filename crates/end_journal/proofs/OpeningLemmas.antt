@@ -19,6 +19,7 @@ use Rattle.journal.specs.declared.version.Version.{Version}
 use Rattle.journal.specs.declared.version.Version.TheVariants.{One, Two}
 use Rattle.journal.proofs.JournalLaws.{keeps_lists, keeps_reopens, keeps_version, read_front}
 use Rattle.journal.proofs.LeafLemmas.{magics_differ}
+use Rattle.journal.proofs.OtherLemmas.{first_weaken}
 use Rattle.journal.proofs.StoreLemmas.{keeps_pending, keeps_records, lists_once, magic_in, whole_lists}
 use Rattle.end_records.specs.Opens.{HasPendingEnd, IsAt, IsFoldedOf, IsJournalOf, IsMigrated, IsOld, OpensAs, OpensBy, OpensOnly, OpensWith, ReadsAs, ReopensAs}
 use Rattle.end_records.specs.Records.{RecordsLead}
@@ -27,7 +28,7 @@ use Rattle.end_records.proofs.OpenLemmas.{opens_weaker, reopens_as, settled_open
 use Rattle.end_records.proofs.RecordLemmas.{HasOneBody, one_end}
 use Rattle.end_records.proofs.SizeLemmas.{front_len, size_of_end}
 use Rattle.end_journal.specs.Reading.{HasReplayedAll}
-use Rattle.end_journal.proofs.RunLemmas.{first_all, first_then_next, first_weaken}
+use Rattle.end_journal.proofs.RunLemmas.{first_all, first_then_next}
 
 -- ---- where the leaf is kept, the disk opens to the same end
 

@@ -18,12 +18,6 @@ module _ {D X : Type 0} (moment : D → ℕ) (left_since : D → ℕ → X → T
   first_then_next old mid new P Q (inr both) next =
       inr (both.0, both.1, then moment left_since both.0 mid new Q both.2 next)
 
-  -- more on both sides
-  pub first_weaken : (old new : D) (P Q R S : X → Type 0) → ((c : X) → P c → R c) → ((c : X) → Q c → S c) → FirstThen moment left_since old new P Q → FirstThen moment left_since old new R S
-  first_weaken old new P Q R S one two (inl first) = inl (weaken moment left_since old new P R one first)
-  first_weaken old new P Q R S one two (inr both) =
-      inr (both.0, weaken moment left_since old both.0 P R one both.1, weaken moment left_since both.0 new Q S two both.2)
-
   -- both kinds have what is wanted
   pub first_all : (old new : D) (P Q R : X → Type 0) → ((c : X) → P c → R c) → ((c : X) → Q c → R c) → FirstThen moment left_since old new P Q → LeavesOnly moment left_since old new R
   first_all old new P Q R one two (inl first) = weaken moment left_since old new P R one first

@@ -1,11 +1,11 @@
 -- What an opening that is cut off leaves of a disk that folds nothing.
-use Rattle.std.proofs.Common.{◌≡◌, ◌⊎◌, inl, inr, ⊎_elim, List, ℕ, sym, subst}
+use Rattle.std.proofs.Common.{◌≡◌, ◌⊎◌, inl, inr, ⊎_elim, List, ℕ, subst}
 use Rattle.as4_disk.specs.Image.{Image}
 use Rattle.exchange_model.specs.End.{End}
 use Rattle.journal.specs.Leaf.{Lists}
 use Rattle.journal.specs.Store.{HasPending, picked_leaf}
 use Rattle.journal.proofs.StoreLemmas.{lists_once, whole_lists}
-use Rattle.end_records.specs.Opens.{HasPendingEnd, IsAt, IsAtWith, IsMigrated, IsOld, OpensBy, OpensOnly, OpensWith, ReopensAs}
+use Rattle.end_records.specs.Opens.{HasPendingEnd, IsAt, IsAtWith, IsMigrated, IsOld, OpensOnly, OpensWith, ReopensAs}
 use Rattle.end_records.proofs.OpenLemmas.{opens_weaker}
 use Rattle.end_records.proofs.RecordLemmas.{LeadsOnce}
 

@@ -12,7 +12,7 @@ use Rattle.as4_flow.specs.Told.{Told}
 use Rattle.as4_disk.proofs.ByteLemmas.{overwritten_behind}
 use Rattle.as4_disk.proofs.ImageLemmas.{only_elsewhere, only_within}
 use Rattle.journal.specs.declared.version.Version.{Version}
-use Rattle.journal.specs.Leaf.{limit_of, length_bytes, record_of, front_of, magic_of, HasMagic, IsLeaf, IsOfVersion, IsPending, IsNew, Lists, IsWholeLeaf}
+use Rattle.journal.specs.Leaf.{limit_of, length_bytes, record_of, front_of, HasMagic, IsLeaf, IsPending, IsNew, Lists, IsWholeLeaf}
 use Rattle.journal.specs.Store.{picks, leaf_of, is_second_of, picked_leaf, OpensTo, HasPending, OpensWith, OpensSettled, OpensToOneOf, InVersion, Reopens, KeepsLeaf}
 use Rattle.journal.specs.Settled.{IsSettled}
 use Rattle.journal.proofs.LeafLemmas.{front_magic, length-front, length-front_more, front_more, record_at, record_head, reached}

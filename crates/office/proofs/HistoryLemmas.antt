@@ -1,5 +1,5 @@
 -- What the calls of an office led to is what may happen to an end, and so is what a crash left behind them.
-use Rattle.std.proofs.Common.{◌≡◌, ◌⊎◌, inl, inr, ⊎_elim, List, [], ◌∷◌, ◌++◌, Option, Some, None, false, true, refl, sym, ap, ◌∙◌, subst}
+use Rattle.std.proofs.Common.{◌≡◌, inl, inr, ⊎_elim, List, [], ◌∷◌, ◌++◌, Some, None, false, true, refl, sym, ap, ◌∙◌, subst}
 use Rattle.as4_disk.specs.Image.{Image}
 use Rattle.as4_values.specs.declared.mode.Mode.{Mode}
 use Rattle.end_records.specs.Opens.{IsAt, IsAtWith, IsOld, OpensAs, ReadsAs, ReopensAs}

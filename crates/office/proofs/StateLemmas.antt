@@ -1,5 +1,5 @@
 -- What an office keeps, call by call.
-use Rattle.std.proofs.Common.{◌≡◌, ◌⊎◌, inl, inr, ⊎_elim, ℕ, ◌≤◌, List, [], ◌∷◌, ◌++◌, Option, Some, None, refl, sym, ap, ◌∙◌, subst, arith}
+use Rattle.std.proofs.Common.{◌≡◌, inl, inr, ℕ, ◌≤◌, List, [], ◌∷◌, ◌++◌, Option, Some, None, refl, sym, ap, ◌∙◌, subst, arith}
 use Rattle.std.specs.Prelude.{IfSome}
 use Rattle.as4_disk.specs.Image.{Image}
 use Rattle.as4_disk.specs.Runs.{LeavesOnly}
@@ -14,7 +14,7 @@ use Rattle.exchange_model.specs.declared.event.Event.{Event}
 use Rattle.exchange_model.specs.declared.outcome.Outcome.{Outcome}
 use Rattle.exchange_model.specs.declared.reply.Reply.{Reply}
 use Rattle.journal.specs.declared.journal.Journal.{Journal}
-use Rattle.end_records.specs.Opens.{IsAt, IsAtOneOf, IsAtWith, IsFoldedOf, IsJournalOf, KeepsEnd, OpensFolded}
+use Rattle.end_records.specs.Opens.{IsAt, IsAtOneOf, IsFoldedOf, IsJournalOf, KeepsEnd, OpensFolded}
 use Rattle.end_records.proofs.OpenLemmas.{at_weaker, kept_opens}
 use Rattle.office.specs.Calls.{stop_of}
 use Rattle.office.specs.State.{IsInOrder}
@@ -80,25 +80,21 @@ module _ {D : Type 0} {seen : D → Option Image} {may_leave : D → Image → T
       counted = order.counted;
     }
 
-module _ {D : Type 0} (moment : D → ℕ) (left_since : D → ℕ → Image → Type 0) (seen : D → Option Image) (may_leave : D → Image → Type 0) (only_now : (disk : D) (c : Image) → left_since disk (moment disk) c → may_leave disk c) where
-  -- nothing is written
-  pub still_run : (modes : List Mode) (event : Event) (journal : Journal D) (end : End) (image : Image) → IsJournalOf seen may_leave end journal → seen journal.disk ≡ Some image
-      → LeavesOnly moment left_since journal.disk journal.disk (OpensBeforeOrAfter modes end event)
-  still_run modes event journal end image is told =
+-- nothing is written
+module _ {D : Type 0} {moment : D → ℕ} {left_since : D → ℕ → Image → Type 0} {seen : D → Option Image} {may_leave : D → Image → Type 0} (only_now : (disk : D) (c : Image) → left_since disk (moment disk) c → may_leave disk c) {journal : Journal D} {end : End} (is : IsJournalOf seen may_leave end journal) where
+  pub still_run : (modes : List Mode) (event : Event) (image : Image) → seen journal.disk ≡ Some image → LeavesOnly moment left_since journal.disk journal.disk (OpensBeforeOrAfter modes end event)
+  still_run modes event image told =
       no_write moment left_since seen may_leave only_now journal end (IsStepTo modes end event) (λ c. (next : End) × IsStepTo modes end event next × IsAt c next) image is told
 
-  pub still_folded : (journal : Journal D) (end : End) (image : Image) → IsJournalOf seen may_leave end journal → seen journal.disk ≡ Some image
-      → LeavesOnly moment left_since journal.disk journal.disk (λ c. OpensFolded c end)
-  still_folded journal end image is told =
-      no_write moment left_since seen may_leave only_now journal end (λ next. ⊥) (λ c. IsFoldedOf c end) image is told
+  pub still_folded : (image : Image) → seen journal.disk ≡ Some image → LeavesOnly moment left_since journal.disk journal.disk (λ c. OpensFolded c end)
+  still_folded image told = no_write moment left_since seen may_leave only_now journal end (λ next. ⊥) (λ c. IsFoldedOf c end) image is told
 
 -- a step's record is written
-pub step_run : {D : Type 0} (moment : D → ℕ) (left_since : D → ℕ → Image → Type 0) (modes : List Mode) (event : Event) (outcome : Outcome) (old new : D) (end : End) → Step modes end event outcome
+pub step_run : {D : Type 0} {moment : D → ℕ} {left_since : D → ℕ → Image → Type 0} {modes : List Mode} {event : Event} {outcome : Outcome} {old new : D} {end : End} → Step modes end event outcome
     → LeavesOnly moment left_since old new (λ c. IsAtOneOf c end (applied outcome.effects end)) → LeavesOnly moment left_since old new (OpensBeforeOrAfter modes end event)
-step_run moment left_since modes event outcome old new end step run =
-    let next = applied outcome.effects end in
-    weaken moment left_since old new (λ c. IsAtOneOf c end next) (OpensBeforeOrAfter modes end event)
-    (λ c opens. ⊎_elim
-    (λ (here : IsAtWith c end (λ n. n ≡ next)). inl (at_weaker (λ n. n ≡ next) (IsStepTo modes end event) c end (λ n is. (outcome, step, is)) here))
-    (λ (there : IsAt c next). inr (next, (outcome, step, refl), there)) opens)
-    run
+step_run {D} {moment} {left_since} {modes} {event} {outcome} {old} {new} {end} step run =
+    weaken moment left_since old new (λ c. IsAtOneOf c end (applied outcome.effects end)) (OpensBeforeOrAfter modes end event) before_or_after run
+  where
+    before_or_after : (c : Image) → IsAtOneOf c end (applied outcome.effects end) → OpensBeforeOrAfter modes end event c
+    before_or_after c (inl here) = inl (at_weaker (λ n. n ≡ applied outcome.effects end) (IsStepTo modes end event) c end (λ n is. (outcome, step, is)) here)
+    before_or_after c (inr there) = inr (applied outcome.effects end, (outcome, step, refl), there)

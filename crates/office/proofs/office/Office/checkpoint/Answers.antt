@@ -6,10 +6,8 @@ use Rattle.as4_values.specs.declared.mode.Mode.{Mode}
 use Rattle.end_records.specs.Opens.{OpensFolded}
 use Rattle.msh_core.specs.Machine.{Machine}
 use Rattle.office.specs.State.{IsInOrder}
-use Rattle.office.specs.declared.call.Call.{Call}
 use Rattle.office.specs.declared.call.Halt.{Halt}
 use Rattle.office.specs.declared.call.Call.TheVariants.{Folded, Stop}
-use Rattle.pass_book.specs.States.{PassState}
 use Rattle.end_journal.proofs.RunLemmas.{told_before}
 use Rattle.office.proofs.CallLemmas.{folded_leads, stop_leads}
 use Rattle.office.proofs.FoldLemmas.{fold_run, folded_size_is}
@@ -24,7 +22,7 @@ returns-then-len g c =
     let order = c.self.invariant.0 in
     rw (← c.self.view_is, c.show.ensures.same) (record {
       answer = finds_worn (omega (arith, c.len.ensures.value, c.if-len.true)) c.show.ensures.begins c.show.ensures.whole;
-      any_moment = λ going image told. still_folded g.D.Disk.moment g.D.Disk.left_since g.D.Disk.seen g.D.Disk.may_leave g.met.D.Disk.only_now o.journal o.core.end image (order.kept (order.halted ∙ going)) told;
+      any_moment = λ going image told. still_folded g.met.D.Disk.only_now (order.kept (order.halted ∙ going)) image told;
       keeps = keeps order refl refl c.show.ensures.whole (λ start leads. leads) refl (omega arith);
     })
 
@@ -60,7 +58,7 @@ returns-then-size-present g c =
           pass = refl;
         }),
       );
-      any_moment = λ going image told. still_folded g.D.Disk.moment g.D.Disk.left_since g.D.Disk.seen g.D.Disk.may_leave g.met.D.Disk.only_now o.journal o.core.end image (order.kept (order.halted ∙ going)) told;
+      any_moment = λ going image told. still_folded g.met.D.Disk.only_now (order.kept (order.halted ∙ going)) image told;
       keeps = keeps order refl refl refl (λ start leads. leads) refl (omega arith);
     })
 

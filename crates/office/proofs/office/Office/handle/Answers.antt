@@ -4,16 +4,12 @@ use Rattle.as4_values.specs.declared.mode.Mode.{Mode}
 use Rattle.end_records.specs.Opens.{IsJournalOf}
 use Rattle.end_records.proofs.OpenLemmas.{kept_opens}
 use Rattle.exchange_model.specs.End.{End}
-use Rattle.exchange_model.specs.Table.{Step}
-use Rattle.exchange_model.specs.declared.outcome.Outcome.{Outcome}
 use Rattle.exchange_model.specs.declared.reply.Reply.{Reply}
 use Rattle.exchange_model.specs.declared.reply.Reply.TheVariants as reply
 use Rattle.office.specs.Left.{OpensBeforeOrAfter}
 use Rattle.office.specs.Recording.{HasWork}
-use Rattle.office.specs.State.{IsInOrder, OfficeState, machine_of}
-use Rattle.office.specs.declared.call.Call.{Call}
+use Rattle.office.specs.State.{IsInOrder, OfficeState}
 use Rattle.office.specs.declared.call.Call.TheVariants.{Done, Stop}
-use Rattle.pass_book.specs.States.{PassState}
 use Rattle.end_journal.proofs.RunLemmas.{told_before}
 use Rattle.office.proofs.CallLemmas.{done_leads, refused_leads, stop_leads}
 use Rattle.office.proofs.HandlingLemmas.{enters, finds_worn, keeps, not_both}
@@ -27,7 +23,7 @@ returns-then-len-clause-handles g c =
     let order = c.self.invariant.0 in
     rw (← c.self.view_is, c.show.ensures.same) (record {
       answer = finds_worn (omega (arith, c.len.ensures.value, c.if-len.true)) c.show.ensures.begins c.show.ensures.whole;
-      any_moment = λ going image told. still_run g.D.Disk.moment g.D.Disk.left_since g.D.Disk.seen g.D.Disk.may_leave g.met.D.Disk.only_now o.core.modes c.args.event o.journal o.core.end image (order.kept (order.halted ∙ going)) told;
+      any_moment = λ going image told. still_run g.met.D.Disk.only_now (order.kept (order.halted ∙ going)) o.core.modes c.args.event image told;
       keeps = keeps order refl refl c.show.ensures.whole (λ start leads. leads) refl (omega arith);
     })
 
@@ -107,7 +103,7 @@ returns-in-Ok-clause-handles g c =
         entered = enters
             (Done c.args.event c.enter_done.result) room c.enter_done.ensures.seen (c.enter_done.ensures.list ∙ ap (λ (r : Reply). o.keeper.list ++ Done c.args.event r ∷ []) (sym c.enter_done.ensures.same)) c.enter_done.ensures.pass;
       };
-      any_moment = λ goes image told. step_run g.D.Disk.moment g.D.Disk.left_since o.core.modes c.args.event ready.0 o.journal.disk after.disk o.core.end ready.1 (records.any_moment image told);
+      any_moment = λ goes image told. step_run ready.1 (records.any_moment image told);
       keeps = keeps (invariant_of-self-in-Ok g c).0 c.commit-reply.ensures.modes c.enter_done.ensures.book c.enter_done.ensures.pass
           (done_leads o.core.modes o.keeper.list more c.args.event _ ready.0 o.core.end next going c.enter_done.ensures.list ready.1 made.1 made.0) c.write.ensures.tells c.write.ensures.counted;
     })
@@ -125,7 +121,7 @@ invariant_of-self-in-Err g c =
           (λ image told left may.
           let was = told_before (g.D.Disk.seen o.journal.disk) (g.D.Disk.seen after.disk) image c.write.ensures.tells told in
           at_end g.D.Disk.moment g.D.Disk.left_since o.journal.disk after.disk (OpensBeforeOrAfter o.core.modes o.core.end c.args.event) (g.D.Disk.may_leave after.disk) (g.met.D.Disk.counts_now after.disk)
-          (step_run g.D.Disk.moment g.D.Disk.left_since o.core.modes c.args.event ready.0 o.journal.disk after.disk o.core.end ready.1 (records.any_moment was.0 was.1)) left may),
+          (step_run ready.1 (records.any_moment was.0 was.1)) left may),
       c.write.ensures.small,
     )
 
@@ -155,7 +151,7 @@ returns-in-Err-clause-handles g c =
         step = ready.1;
         recorded = records.recorded;
       };
-      any_moment = λ goes image told. step_run g.D.Disk.moment g.D.Disk.left_since o.core.modes c.args.event ready.0 o.journal.disk after.disk o.core.end ready.1 (records.any_moment image told);
+      any_moment = λ goes image told. step_run ready.1 (records.any_moment image told);
       keeps = keeps (invariant_of-self-in-Err g c).0 refl c.enter_stop.ensures.book c.enter_stop.ensures.pass
           (stop_leads o.core.modes o.keeper.list more (Some c.args.event) c.in-Err.halt o.core.end going c.enter_stop.ensures.list cause.2) c.write.ensures.tells c.write.ensures.counted;
     })

@@ -1,9 +1,5 @@
-use Rattle.std.proofs.Common.{◌≡◌, ◌==◌, ◌∙◌, ℕ, [], List, true, false, length, refl, sym, ap, subst, arith}
-use Rattle.as4_values.specs.declared.mode.Mode.{Mode}
-use Rattle.exchange_model.specs.End.{End}
+use Rattle.std.proofs.Common.{◌≡◌, ◌==◌, ◌∙◌, ℕ, [], true, false, length, sym, ap}
 use Rattle.exchange_model.specs.declared.outcome.Outcome.{Outcome}
-use Rattle.office.specs.Calls.{Leads}
-use Rattle.office.specs.State.{IsInOrder}
 use Rattle.office.proofs.HandlingLemmas.{keeps_roomy}
 use Rattle.office.proofs.office.Office.prepare.Goals as goal
 
