@@ -1,7 +1,7 @@
 //! Bytes of a tree: a name, a namespace, a value or a text.
 //!
 //!     fixed    a constant of the program, as the namespaces are
-//!     short    at most 22 bytes, in the value itself
+//!     short    at most 16 bytes, in the value itself
 //!     long     a buffer of its own
 
 ghost use Rattle.std.specs.Prelude.{◌≡◌, ◌+◌, ◌≤◌, ◌++◌, ℕ, List, [], length, take, IfOk, OnOk};
@@ -11,7 +11,7 @@ use std::alloc::Global;
 use std::marker::Model;
 
 /// How many bytes need no buffer.
-const ROOM: usize = 22;
+const ROOM: usize = 16;
 
 /// Bytes that take memory of their own only where they are neither few nor a constant.
 #[derive(Drop)]
@@ -127,8 +127,9 @@ impl PlainData for TreeBytes {
 /// Few bytes, in the value itself.
 #[derive(Drop)]
 struct ShortBytes {
-    len: u8,
-    room: [u8; 22],
+    /// Four bytes, so that what stands behind the tag of a `Kept` is moved in whole words.
+    len: u32,
+    room: [u8; 16],
 }
 
 impl Model for ShortBytes {
@@ -136,7 +137,7 @@ impl Model for ShortBytes {
 
     ghost view = { λ short. take short.len short.room };
 
-    ghost invariant = { λ short. short.len ≤ 22 };
+    ghost invariant = { λ short. short.len ≤ 16 };
 }
 
 impl ShortBytes {
@@ -145,24 +146,24 @@ impl ShortBytes {
     {
         ShortBytes {
             len: 0,
-            room: [0; 22],
+            room: [0; 16],
         }
     }
 
     fn bytes(&self) -> &[u8]
         ensures value { result.now ≡ self.now }
-        ensures few { length result.now ≤ 22 }
+        ensures few { length result.now ≤ 16 }
     {
-        &self.room[..usize::from(self.len)]
+        &self.room[..self.len as usize]
     }
 
     fn append(&mut self, more: &[u8])
-        requires { length self.old + length more.now ≤ 22 }
+        requires { length self.old + length more.now ≤ 16 }
         ensures { self.new ≡ self.old ++ more.now }
     {
-        let end = usize::from(self.len) + more.len();
+        let end = self.len as usize + more.len();
         let all = &mut self.room[..];
-        all[usize::from(self.len)..end].copy_from_slice(more);
-        self.len = end as u8;
+        all[self.len as usize..end].copy_from_slice(more);
+        self.len = end as u32;
     }
 }

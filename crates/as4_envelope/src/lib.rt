@@ -1,6 +1,7 @@
 //! Elements of XML as trees, and the one text in which each is written.
 #![tactic(auto)]
 
+mod attributes;
 mod bytes;
 mod copies;
 mod markup;
@@ -8,6 +9,7 @@ mod tree;
 mod writable;
 mod write;
 
+pub use attributes::Attributes;
 pub use bytes::TreeBytes;
 pub use markup::{
     push_attribute, push_end_tag, push_escaped, push_optional_attribute, push_optional_element,

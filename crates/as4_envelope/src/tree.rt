@@ -1,5 +1,6 @@
 //! Elements and their attributes.
 
+use crate::attributes::Attributes;
 use crate::bytes::TreeBytes;
 use as4_values::Seq;
 
@@ -18,7 +19,7 @@ pub struct Element {
     /// The namespace, empty where there is none.
     pub space: TreeBytes,
     pub local: TreeBytes,
-    pub attributes: Seq<Attribute>,
+    pub attributes: Attributes,
     /// The character data that stands directly in the element, joined.
     pub text: TreeBytes,
     pub children: Seq<Element>,

@@ -1,4 +1,4 @@
--- What the disk of an end opens to.
+-- What the disk of an end reads as.
 use Rattle.std.specs.Prelude.{ℕ, if◌then◌else◌}
 use Rattle.as4_disk.specs.Image.{Image}
 use Rattle.as4_disk.specs.Memory.{DiskState, picked}

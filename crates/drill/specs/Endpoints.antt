@@ -1,4 +1,4 @@
--- One end of a drill: its modes, what it has sent, what it does with an event, and what its disk does.
+-- One end of a drill: its modes, what it has sent, what it does with an event, and what it is behind a stop or a fold.
 use Rattle.std.specs.Prelude.{◌≡◌, ◌⊎◌, ℕ, ◌<◌, ◌≤◌, List, Bool, true, IsTrue, if◌then◌else◌, length}
 use Rattle.std.specs.List.{All}
 use Rattle.as4_values.specs.declared.message.Message.{Message}

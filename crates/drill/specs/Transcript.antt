@@ -1,5 +1,5 @@
--- What a drill writes for a script, by this program's own rules: each line makes an event at one of two ends, whose
--- steps are the machine's.
+-- What a drill writes for a script, by this program's own rules: a line names a mode, or makes an event at one of two
+-- ends, whose steps are the machine's, or has an end's power fail or its journal folded, or only has something said of it.
 use Rattle.std.specs.Prelude.{◌≡◌, ℕ, ◌+◌, List, [], ◌∷◌, ◌++◌, Bool, true, false, not, ◌&&◌, if◌then◌else◌, nat_lt, nat_le, IsTrue, Some, length, codes}
 use Rattle.std.specs.List.{flat_map, list_any}
 use Rattle.std.specs.Option.{unwrap_or}
@@ -75,13 +75,13 @@ pub record Makes (ask : Asked) (old : DrillState) (text : List ℕ) (new : Drill
       (reply_text ask.number ask.lost (length (speaker_at (site_of ask.end) old.world).said) act.outcome.reply)
   pub leads : new ≡ record old { world = world_at (site_of ask.end) act old.world; events = old.events + 1; begun = true }
 
--- the step of an event that is stopped at a device call stands where that call was one of its last two, and all that was
--- written is left
+-- the step of an event that is stopped stands where it was stopped at the third or fourth of the four device calls that
+-- put its record on the disk, and all that was written is left
 abbrev pub stands : ℕ → Pick → Bool
 stands call New = nat_le 3 call
 stands call _ = false
 
--- the event is stopped, and the disk of its end opened again
+-- the event is stopped, or ends before that where it writes less, and the disk of its end is opened again
 pub record IsStopped (call : ℕ) (pick : Pick) (ask : Asked) (old : DrillState) (text : List ℕ) (new : DrillState) : Type 0 where
   pub act : Act
   pub is : IsActOf ask true old act

@@ -124,9 +124,10 @@ const PLACES: [(&[u8], bool); 12] = [
     (b"4 other ", false),
 ];
 
-fn joined(alloc: Global, pieces: &[&[u8]]) -> Result<Vec<u8>, AllocError> {
+/// The script with the line stopped there.
+fn stopped_script(alloc: Global, stop: &Stop, place: &[u8]) -> Result<Vec<u8>, AllocError> {
     let mut bytes = Vec::new(alloc);
-    match put_all(&mut bytes, pieces) {
+    match put_stopped(&mut bytes, stop, place) {
         Ok(()) => Ok(bytes),
         Err(error) => {
             drop(bytes);
@@ -135,20 +136,39 @@ fn joined(alloc: Global, pieces: &[&[u8]]) -> Result<Vec<u8>, AllocError> {
     }
 }
 
-fn put_all(bytes: &mut Vec<u8>, pieces: &[&[u8]]) -> Result<(), AllocError> {
-    for piece in pieces {
-        bytes.extend_from_slice(piece)?;
+fn put_stopped(bytes: &mut Vec<u8>, stop: &Stop, place: &[u8]) -> Result<(), AllocError> {
+    bytes.extend_from_slice(stop.front)?;
+    bytes.extend_from_slice(b"stop ")?;
+    bytes.extend_from_slice(place)?;
+    bytes.extend_from_slice(stop.line)?;
+    bytes.extend_from_slice(stop.back)
+}
+
+/// What is written where this is left behind the stop.
+fn stopped_text(alloc: Global, stop: &Stop, left: &[u8]) -> Result<Vec<u8>, AllocError> {
+    let mut bytes = Vec::new(alloc);
+    match put_text(&mut bytes, stop, left) {
+        Ok(()) => Ok(bytes),
+        Err(error) => {
+            drop(bytes);
+            Err(error)
+        }
     }
-    Ok(())
+}
+
+fn put_text(bytes: &mut Vec<u8>, stop: &Stop, left: &[u8]) -> Result<(), AllocError> {
+    bytes.extend_from_slice(stop.front_text)?;
+    bytes.extend_from_slice(stop.stop_text)?;
+    bytes.extend_from_slice(left)
 }
 
 fn stops_so(alloc: Global, stop: &Stop, place: &[u8], stands: bool) -> bool {
     let left = if stands { stop.stands } else { stop.gone };
     plays_made(
         alloc,
-        joined(alloc, &[stop.front, b"stop ", place, stop.line, stop.back]),
+        stopped_script(alloc, stop, place),
         DrillEnd::Read,
-        joined(alloc, &[stop.front_text, stop.stop_text, left]),
+        stopped_text(alloc, stop, left),
     )
 }
 

@@ -1,4 +1,6 @@
-use as4_envelope::{Attribute, EBMS, Element, SOAP, TreeBytes, is_writable, write_tree};
+use as4_envelope::{
+    Attribute, Attributes, EBMS, Element, SOAP, TreeBytes, is_writable, write_tree,
+};
 use as4_values::{NoMemory, Octets, Seq};
 use std::alloc::Global;
 use std::test::Fail;
@@ -64,7 +66,7 @@ fn element(
         Ok((space, local)) => Ok(Element {
             space,
             local,
-            attributes: Seq::of(attributes),
+            attributes: Attributes::of(attributes),
             text: TreeBytes::new(),
             children: Seq::of(children),
         }),
@@ -91,7 +93,7 @@ fn text_element(
     Ok(Element {
         space,
         local,
-        attributes: Seq::of(Vec::new(alloc)),
+        attributes: Attributes::of(Vec::new(alloc)),
         text,
         children: Seq::of(Vec::new(alloc)),
     })

@@ -15,7 +15,7 @@ use Rattle.office.specs.declared.call.Call.TheVariants.{Done, Folded, Stop}
 abbrev pub IsStepTo : List Mode → End → Event → End → Type 0
 IsStepTo modes end event next = (outcome : Outcome) × Step modes end event outcome × (next ≡ applied outcome.effects end)
 
--- a disk is at the end before the event's step, and what is pending is that step; or at the end behind it
+-- a disk is at the end before the event's step, with that step pending at most; or at the end behind it
 abbrev pub OpensBeforeOrAfter : List Mode → End → Event → Image → Type 0
 OpensBeforeOrAfter modes end event image =
     IsAtWith image end (IsStepTo modes end event) ⊎ ((next : End) × IsStepTo modes end event next × IsAt image next)

@@ -14,8 +14,8 @@ pub record Opening : Type 0 where
   pub calls : List Call
   pub left : Image
 
--- The calls of each lead on from the end that the disk reads as, which the one before left. The last disk reads as this
--- end.
+-- From the first end the calls of each lead on, and those of the next from the end that the disk reads as which it left. So
+-- the last disk reads as the last end; without openings both ends are one.
 abbrev pub LeadsOver : List Opening → End → End → Type 0
 LeadsOver [] start end = start ≡ end
 LeadsOver (opening ∷ later) start end =

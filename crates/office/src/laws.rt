@@ -36,7 +36,7 @@ pub fn a_stop_leaves_what_may_happen()
     an_image_opens_to_one_end();
 }
 
-/// What a crash left of an office, an opening that is cut off leaves so.
+/// An opening that is cut off leaves what a crash left as the crash did.
 pub fn a_cut_off_opening_leaves_the_same()
     ensures { (modes : List Mode) (calls : List Call) (end : End) (before after : Image) → IsLeft modes end calls before
         → ReopensAs before after → IsLeft modes end calls after }

@@ -161,3 +161,9 @@ pub names_told : (r : Bool) (names : List Parts) (attributes : List Attribute) (
     → map parts_of names ≡ map name_parts (take n attributes) → r ≡ names_differ attributes
 names_told r names attributes n all told so_far =
     told ∙ (ap (differ same_parts) so_far ∙ (ap (λ (l : List Attribute). differ same_parts (map name_parts l)) (take_all n attributes all) ∙ differ-names attributes))
+
+-- of fewer than two there is nothing to compare
+pub few_differ : (attributes : List Attribute) → length attributes < 2 → true ≡ names_differ attributes
+few_differ [] few = refl
+few_differ (a ∷ []) few = refl
+few_differ (a ∷ b ∷ others) few = absurd (omega arith)

@@ -12,6 +12,7 @@ pub mod TreeLemmas
 pub mod CutLemmas
 pub mod PlaceLemmas
 pub mod HaltLemmas
+pub mod EndLemmas
 pub mod UniqueLemmas
 pub mod EscapedLemmas
 pub mod CanonicalNames

@@ -1,6 +1,8 @@
 -- What becomes of the innermost element, which is the last of the vector.
 use Rattle.std.proofs.Common.{◌≡◌, ℕ, ◌+◌, ◌-◌, ◌<◌, Bool, false, List, [], ◌∷◌, ◌++◌, Option, Some, None, Result, Ok, Err, length, get_or, set, take, refl, ap, sym, ◌∙◌, arith}
 use Rattle.std.proofs.lemmas.List.{take_all, take_more, take_more_set, length-set}
+use Rattle.std.proofs.lemmas.Option.{get_or_from_slice_get}
+use Rattle.std.specs.List.{slice_get}
 use Rattle.std.specs.Option.{is_some}
 use Rattle.as4_envelope.specs.declared.tree.Element.{Element}
 use Rattle.xml_items.specs.Items.{run}
@@ -23,6 +25,11 @@ stack_last os n o len some is =
     let more : take (n - 1 + 1) os ≡ take (n - 1) os ++ get_or os (n - 1) o ∷ [] = take_more os (n - 1) o (omega arith) in
     ap stack_of (sym whole ∙ (ap (λ k. take k os) (sym n_is) ∙ (more ∙ ap (λ (x : Open). take (n - 1) os ++ x ∷ []) (sym is))))
     ∙ stack_push (take (n - 1) os) o
+
+-- the same, by what a slice gives
+pub stack_got : (os : List Open) (o : Open) → slice_get os (length os - 1) ≡ Some o → stack_of os ≡ begun_of o ∷ stack_of (take (length os - 1) os)
+stack_got [] o is = absurd cc
+stack_got (first ∷ os) o is = stack_last (first ∷ os) (length (first ∷ os)) o refl (omega arith) (sym (get_or_from_slice_get (first ∷ os) (length (first ∷ os) - 1) o o is))
 
 -- another innermost element leaves what stands round it
 pub stack_set : (os : List Open) (n : ℕ) (o : Open) → n ≡ length os → 0 < n → stack_of (set os (n - 1) o) ≡ begun_of o ∷ stack_of (take (n - 1) os)

@@ -1,10 +1,13 @@
 -- What the loop over items has read, and where it halts.
 use Rattle.std.specs.Borrow.{Bor}
-use Rattle.std.specs.Prelude.{◌≡◌, ◌⊎◌, ℕ, List, [], Some, None, Result, Ok, Err, length, map}
+use Rattle.std.specs.List.{AllByRecursion}
+use Rattle.std.specs.Prelude.{◌≡◌, ◌⊎◌, ℕ, List, [], ◌∷◌, ◌++◌, Some, None, Result, Ok, Err, length, map}
 use Rattle.as4_envelope.specs.declared.tree.Element.{Element}
 use Rattle.xml_items.specs.Items.{Item}
 use Rattle.xml_items.specs.Cutting.{item_at}
-use Rattle.xml_items.specs.Grammar.{WrittenItem, meaning}
+use Rattle.xml_items.specs.Classes.{is_name_byte}
+use Rattle.xml_items.specs.Grammar.{WrittenItem, end_tag, meaning, print_item, IsSome}
+use Rattle.tree_reader.specs.Scopes.{Begun}
 use Rattle.tree_reader.specs.Reading.{Fault, markup, too_deep, State, within, done, step, run_items, nothing_read}
 use Rattle.tree_reader.specs.Documents.{Cuts, levels}
 use Rattle.tree_reader.specs.declared.stop.Stop.{Stop}
@@ -18,6 +21,19 @@ pub record Reached (bytes : List ℕ) (state : State) (rest : List ℕ) : Type 0
   pub items : List WrittenItem
   pub cut : Cuts bytes items rest
   pub runs : run_items levels (map meaning items) nothing_read ≡ Ok state
+
+-- the open elements have names: at least one byte, and each of a name
+abbrev pub AreNames : List Begun → Type 0
+AreNames os = AllByRecursion (λ o. IsSome is_name_byte o.name) os
+
+abbrev pub AreNamed : State → Type 0
+AreNamed (within first os) = AreNames os
+AreNamed (done root) = Unit {0}
+
+-- the bytes begin with the end tag of the innermost element, without blanks
+abbrev pub IsEndOf : List Begun → List ℕ → List ℕ → Type 0
+IsEndOf [] bytes behind = ⊥
+IsEndOf (o ∷ os) bytes behind = bytes ≡ print_item (end_tag o.name []) ++ behind
 
 -- the item at the front of the rest, and what it makes of what was read
 pub record Meets (state : State) (rest : List ℕ) (answer : Result State Fault) (behind : List ℕ) : Type 0 where

@@ -97,6 +97,11 @@ pub record Begun : Type 0 where
   pub text : List ℕ
   pub children : List Element
 
+-- the innermost element, with these bytes at the end of its local name
+abbrev pub named : List ℕ → List Begun → List Begun
+named local [] = []
+named local (o ∷ os) = record o { local = o.local ++ local } ∷ os
+
 abbrev pub element_of : Begun → Element
 element_of o = roll-Element (record { space = o.space; local = o.local; attributes = o.attributes; text = o.text; children = o.children })
 

@@ -24,7 +24,7 @@ begun_of o = record {
   declared = o.declared;
   space = o.space;
   local = o.local;
-  attributes = o.attributes.items;
+  attributes = o.attributes;
   text = o.text;
   children = o.children.items;
 }

@@ -31,8 +31,20 @@ pub(crate) fn written_differ(
     Ok(all_differ(names.as_mut_slice()))
 }
 
-/// Whether no two attributes have one expanded name.
+/// Whether no two attributes have one expanded name. Most tags have fewer than two.
+#[inline(always)]
 pub(crate) fn names_differ(alloc: Global, attributes: &[Attribute]) -> Result<bool, AllocError>
+    ensures { IfOk result (λ differ. differ ≡ names_differ attributes.now) }
+{
+    match attributes {
+        [] | [_] => Ok(true),
+        [_, _, ..] => several_names_differ(alloc, attributes),
+    }
+}
+
+/// The same of any number. It stands apart, so that what `names_differ` inlines stays small.
+#[inline(never)]
+fn several_names_differ(alloc: Global, attributes: &[Attribute]) -> Result<bool, AllocError>
     ensures { IfOk result (λ differ. differ ≡ names_differ attributes.now) }
 {
     if attributes.len() <= FEW {

@@ -3,10 +3,10 @@
 ghost use Rattle.std.specs.Prelude.{◌≡◌, ◌↔◌, ◌<◌, ◌≤◌, ◌-◌, IfOk, IfErr, Err, length};
 ghost use Rattle.as4_envelope.specs.declared.tree.Element.{Element};
 ghost use Rattle.tree_reader.specs.Documents.{limit, behind_mark, IsDocument, IsReadAs, NamesPlace};
-ghost use Rattle.tree_reader.specs.Halts.{Advances, Halts, refusal_of};
+ghost use Rattle.tree_reader.specs.Halts.{Advances, AreNamed, Halts, refusal_of};
 ghost use Rattle.tree_reader.specs.Views.{state_of};
 
-use crate::reading::{Reading, read_item};
+use crate::reading::{Reading, behind_end, read_item, read_known_end};
 use crate::stop::{Stop, TreeRefusal};
 use as4_envelope::Element;
 use std::alloc::Global;
@@ -104,14 +104,20 @@ const UNFINISHED: Halt = Halt {
 };
 
 /// Reads the item at the front, and gives what stands behind it. The attributes are room for those of its tag.
+#[inline(always)]
 fn advance<'a>(
     alloc: Global,
     reading: &mut Reading<'a>,
     attributes: &mut Vec<RawAttribute<'a>>,
     bytes: &'a [u8],
 ) -> Result<&'a [u8], Stop>
+    requires { AreNamed (state_of reading.old) }
     ensures { Advances result (state_of reading.old) (state_of reading.new) bytes.now }
 {
+    if let Some(behind) = behind_end(reading, bytes) {
+        read_known_end(reading)?;
+        return Ok(behind);
+    }
     match next_item(bytes, attributes) {
         Err(_) => Err(Stop::Memory),
         Ok(None) => Err(Stop::Markup),

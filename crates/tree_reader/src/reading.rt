@@ -1,10 +1,11 @@
 //! What an item makes of what was read.
 
-ghost use Rattle.std.specs.Prelude.{◌≡◌, map, None, Ok};
+ghost use Rattle.std.specs.Prelude.{◌≡◌, map, None, Ok, IfSome};
 ghost use Rattle.std.specs.List.{list_all};
 ghost use Rattle.as4_values.specs.Texts.{is_blank, is_xml};
 ghost use Rattle.xml_items.specs.Raw.{item_of, written_of};
 ghost use Rattle.xml_items.specs.Items.{run, start, finish, comment, declaration};
+ghost use Rattle.tree_reader.specs.Halts.{IsEndOf};
 ghost use Rattle.tree_reader.specs.Reading.{step, placed, completed, unchanged, later};
 ghost use Rattle.tree_reader.specs.Scopes.{element_of};
 ghost use Rattle.tree_reader.specs.Views.{Makes, begun_of, stack_of, state_of};
@@ -149,6 +150,32 @@ fn read_end(reading: &mut Reading<'_>, name: &[u8]) -> Result<(), Stop>
     close(reading)
 }
 
+/// What stands behind the end tag of the innermost element, if that stands in front and has no blanks. Its name is known,
+/// so that it isn't looked for.
+pub(crate) fn behind_end<'a>(reading: &Reading<'_>, bytes: &'a [u8]) -> Option<&'a [u8]>
+    ensures inside { IfSome result (λ _. reading.now.root ≡ None) }
+    ensures tag { IfSome result (λ behind. IsEndOf (stack_of reading.now.open.items) bytes.now behind.now) }
+{
+    let name_on = bytes.strip_prefix(b"</")?;
+    if reading.root.is_some() {
+        return None;
+    }
+    let open = reading.open.last()?;
+    let rest = name_on.strip_prefix(open.name)?;
+    let behind = rest.strip_prefix(b">")?;
+    Some(behind)
+}
+
+/// Reads the end tag of the innermost element, which stands in front.
+pub(crate) fn read_known_end(reading: &mut Reading<'_>) -> Result<(), Stop>
+    requires { reading.old.root ≡ None }
+    ensures { Makes result (completed (stack_of reading.old.open.items)) (state_of reading.new) }
+{
+    close(reading)?;
+    reading.first = false;
+    Ok(())
+}
+
 /// Puts the innermost element, which is complete, into those round it.
 fn close(reading: &mut Reading<'_>) -> Result<(), Stop>
     requires { reading.old.root ≡ None }
@@ -179,7 +206,7 @@ fn element_of(open: Open<'_>) -> Element
     Element {
         space: open.space,
         local: open.local,
-        attributes: Seq::of(open.attributes),
+        attributes: open.attributes,
         text: open.text,
         children: Seq::of(open.children),
     }

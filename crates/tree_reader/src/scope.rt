@@ -1,19 +1,20 @@
 //! Prefixes and what they stand for (Namespaces in XML 1.0, sections 2 to 6).
 
-ghost use Rattle.std.specs.Prelude.{◌≡◌, ◌++◌, map, IsTrue, ◌≤◌, length, [], ◌∷◌};
-ghost use Rattle.std.specs.Option.{option_map};
+ghost use Rattle.std.specs.Prelude.{◌≡◌, ◌++◌, map, IsTrue, IfErr, OnOk, ◌≤◌, length, [], ◌∷◌};
+ghost use Rattle.std.specs.Option.{option_map, option_to_list};
 ghost use Rattle.xml_items.specs.Raw.{written_of};
-ghost use Rattle.tree_reader.specs.Scopes.{may_bind, bound, declared_by, found, element_space, attribute_space, attribute_by, scope_of, resolve, binds_default, binds_prefix};
+ghost use Rattle.tree_reader.specs.Scopes.{may_bind, bound, declared_by, found, element_space, attribute_space, attribute_by, scope_of, named, resolve, binds_default, binds_prefix};
 ghost use Rattle.tree_reader.specs.Steps.{gathered};
 ghost use Rattle.tree_reader.specs.Views.{Finds, Adds, Opens, stack_of, scope_in};
 ghost use Rattle.tree_reader.specs.Declarations.{binding_of};
+ghost use Rattle.tree_reader.specs.declared.stop.Stop.TheVariants.{Memory};
 
 use crate::apart::{names_differ, written_differ};
 use crate::declarations::{Declarations, Declared};
 use crate::names::{is_local_name, qualified};
 use crate::stop::Stop;
 use crate::text::value_meant;
-use as4_envelope::{Attribute, EBMS, Element, SOAP, TreeBytes};
+use as4_envelope::{Attribute, Attributes, EBMS, Element, SOAP, TreeBytes};
 use as4_values::PlainData;
 use std::alloc::Global;
 use xml_items::RawAttribute;
@@ -32,7 +33,7 @@ pub(crate) struct Open<'a> {
     pub declared: Declarations<'a>,
     pub space: TreeBytes,
     pub local: TreeBytes,
-    pub attributes: Vec<Attribute>,
+    pub attributes: Attributes,
     pub text: TreeBytes,
     pub children: Vec<Element>,
 }
@@ -50,6 +51,7 @@ pub(crate) fn resolve<'a>(
     if !written_differ(alloc, attributes)? {
         return Err(Stop::Markup);
     }
+    around.reserve(1)?;
     let declared = Declarations::of(alloc, declared_by(alloc, attributes)?)?;
     let Some(written) = qualified(name) else {
         return Err(Stop::Markup);
@@ -60,21 +62,30 @@ pub(crate) fn resolve<'a>(
         around: outer,
     };
     let space = element_space(alloc, scope, written.prefix)?;
-    let local = TreeBytes::copied(alloc, written.local)?;
     let pairs = attributes_by(alloc, scope, attributes)?;
-    if !names_differ(alloc, pairs.as_slice())? {
+    if !names_differ(alloc, pairs.items())? {
         return Err(Stop::Markup);
     }
-    around.reserve(1)?;
     around.push_reserved(Open {
         name,
         declared,
         space,
-        local,
+        local: TreeBytes::new(),
         attributes: pairs,
         text: TreeBytes::new(),
         children: Vec::new(alloc),
     });
+    put_local(alloc, around, written.local)
+}
+
+/// Puts the local name of the innermost element right where it stays.
+fn put_local(alloc: Global, around: &mut Vec<Open<'_>>, local: &[u8]) -> Result<(), Stop>
+    ensures ok { OnOk result (stack_of around.new.items ≡ named local.now (stack_of around.old.items)) }
+    ensures err { IfErr result (λ stop. stop ≡ Memory) }
+{
+    if let Some(open) = around.last_mut() {
+        open.local.append(alloc, local)?;
+    }
     Ok(())
 }
 
@@ -179,22 +190,29 @@ fn may_bind(prefix: &[u8], space: &[u8]) -> bool
 }
 
 /// The attributes that are no declarations, in order.
+#[inline(always)]
 fn attributes_by<'a>(
     alloc: Global,
     scope: Scope<'_, 'a>,
     attributes: &[RawAttribute<'a>],
-) -> Result<Vec<Attribute>, Stop>
-    ensures { Finds (λ v. v.items) result (gathered (attribute_by (scope_in scope.entry)) (map written_of attributes.now)) }
+) -> Result<Attributes, Stop>
+    ensures { Finds (λ v. v) result (gathered (attribute_by (scope_in scope.entry)) (map written_of attributes.now)) }
 {
+    if let [only] = attributes {
+        return match attribute_by(alloc, scope, *only)? {
+            Some(attribute) => Ok(Attributes::one(attribute)),
+            None => Ok(Attributes::of(Vec::new(alloc))),
+        };
+    }
     let mut pairs = Vec::with_capacity(alloc, attributes.len())?;
     for attribute in attributes {
         push_attribute(alloc, &mut pairs, scope, *attribute)?;
     }
-    Ok(pairs)
+    Ok(Attributes::of(pairs))
 }
 
-/// Adds the attribute, if it is no declaration.
-#[tactic(auto, unfolding(crate::specs::Scopes::attribute_by))]
+/// Adds the attribute, if it is no declaration. It stands apart, so that what `attributes_by` inlines stays small.
+#[inline(never)]
 fn push_attribute<'a>(
     alloc: Global,
     out: &mut Vec<Attribute>,
@@ -203,8 +221,24 @@ fn push_attribute<'a>(
 ) -> Result<(), Stop>
     ensures { Adds result (attribute_by (scope_in scope.entry) (written_of attribute.entry)) out.old.items out.new.items }
 {
+    if let Some(pair) = attribute_by(alloc, scope, attribute)? {
+        out.push(pair)?;
+    }
+    Ok(())
+}
+
+/// The attribute, if it is no declaration.
+#[inline(always)]
+#[tactic(auto, unfolding(crate::specs::Scopes::attribute_by))]
+fn attribute_by<'a>(
+    alloc: Global,
+    scope: Scope<'_, 'a>,
+    attribute: RawAttribute<'a>,
+) -> Result<Option<Attribute>, Stop>
+    ensures { Finds option_to_list result (attribute_by (scope_in scope.entry) (written_of attribute.entry)) }
+{
     if binds_default(attribute.name) || binds_prefix(attribute.name) {
-        return Ok(());
+        return Ok(None);
     }
     let Some(written) = qualified(attribute.name) else {
         return Err(Stop::Markup);
@@ -212,16 +246,15 @@ fn push_attribute<'a>(
     let space = attribute_space(alloc, scope, written.prefix)?;
     let local = TreeBytes::copied(alloc, written.local)?;
     let value = value_meant(alloc, attribute.value)?;
-    out.reserve(1)?;
-    out.push_reserved(Attribute {
+    Ok(Some(Attribute {
         space,
         local,
         value,
-    });
-    Ok(())
+    }))
 }
 
 /// The namespace of an attribute.
+#[inline(always)]
 #[tactic(auto, unfolding(crate::specs::Scopes::attribute_space))]
 fn attribute_space<'a>(
     alloc: Global,

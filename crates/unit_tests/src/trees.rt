@@ -1,7 +1,7 @@
 //! Trees from short texts: elements with a start and an end tag, attributes in double quotes after one space each, and
 //! an element's text right behind its start tag. The prefix `S` means SOAP, `eb` ebMS, and every other one itself.
 
-use as4_envelope::{Attribute, EBMS, Element, SOAP, TreeBytes};
+use as4_envelope::{Attribute, Attributes, EBMS, Element, SOAP, TreeBytes};
 use as4_values::Seq;
 use std::alloc::Global;
 
@@ -65,7 +65,7 @@ fn element(alloc: Global, tag: &str, text: &str) -> Option<Element> {
     Some(Element {
         space,
         local,
-        attributes: Seq::of(attributes),
+        attributes: Attributes::of(attributes),
         text,
         children: Seq::of(Vec::new(alloc)),
     })

@@ -4,8 +4,12 @@ use Rattle.std.proofs.lemmas.List.{nil_from_length}
 use Rattle.tree_reader.specs.declared.reading.Reading.{Reading}
 use Rattle.tree_reader.specs.Halts.{IsDone}
 use Rattle.tree_reader.specs.Views.{state_of}
+use Rattle.tree_reader.proofs.EndLemmas.{reached_named}
 use Rattle.tree_reader.proofs.HaltLemmas.{reached_more, meets_shortens, unfinished}
 use Rattle.tree_reader.proofs.read.read_items.Goals as goal
+
+pub advance-requires : goal.advance-requires
+advance-requires c = reached_named c.args.bytes.now c.loop-rest.rest.now (state_of c.loop-rest.reading) c.loop-rest.invariant.reached
 
 pub loop-rest-smaller : goal.loop-rest-smaller
 loop-rest-smaller c = meets_shortens _ _ _ _ c.in-Ok.ensures

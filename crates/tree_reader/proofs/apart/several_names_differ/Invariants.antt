@@ -1,7 +1,7 @@
 use Rattle.std.proofs.Common.{◌≡◌, map, take}
 use Rattle.tree_reader.specs.Apart.{parts_of}
 use Rattle.tree_reader.proofs.ApartLemmas.{name_parts}
-use Rattle.tree_reader.proofs.apart.names_differ.Given as goal
+use Rattle.tree_reader.proofs.apart.several_names_differ.Given as goal
 
 -- the names so far
 abbrev pub invariant-loop-attribute : goal.invariant-loop-attribute

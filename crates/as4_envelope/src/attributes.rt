@@ -1,0 +1,93 @@
+//! The attributes of an element.
+//!
+//!     one     in the value itself
+//!     many    in a list of their own, as none are
+
+ghost use Rattle.std.specs.Prelude.{◌≡◌, ◌↔◌, ◌∷◌, [], IsTrue};
+
+use crate::tree::Attribute;
+use as4_values::{NoMemory, PlainData, Seq};
+use std::alloc::Global;
+use std::marker::Model;
+use std::slice;
+
+/// Attributes in order. One alone takes no memory of its own.
+#[derive(Drop)]
+pub struct Attributes {
+    held: Held,
+}
+
+impl Model for Attributes {
+    ghost use Rattle.std.specs.Prelude.{List};
+    ghost use Rattle.as4_envelope.specs.declared.tree.Attribute.{Attribute};
+    ghost use Rattle.as4_envelope.specs.Held.{held_attributes};
+
+    ghost Value = { List Attribute };
+
+    ghost view = { λ attributes. held_attributes attributes.held };
+}
+
+#[derive(Drop)]
+enum Held {
+    One(Attribute),
+    Many(Seq<Attribute>),
+}
+
+impl Attributes {
+    pub fn one(attribute: Attribute) -> Attributes
+        ensures { result ≡ attribute ∷ [] }
+    {
+        Attributes {
+            held: Held::One(attribute),
+        }
+    }
+
+    /// Takes the attributes over, without a copy.
+    pub fn of(list: Vec<Attribute>) -> Attributes
+        ensures { result ≡ list.items }
+    {
+        Attributes {
+            held: Held::Many(Seq::of(list)),
+        }
+    }
+
+    pub fn items(&self) -> &[Attribute]
+        ensures { result.now ≡ self.now }
+    {
+        match &self.held {
+            Held::One(attribute) => slice::from_ref(attribute),
+            Held::Many(list) => list.items(),
+        }
+    }
+}
+
+impl PlainData for Attributes {
+    fn try_clone(&self, alloc: Global) -> Result<Attributes, NoMemory> {
+        match &self.held {
+            Held::One(attribute) => Ok(Attributes::one(attribute.try_clone(alloc)?)),
+            Held::Many(list) => Ok(Attributes {
+                held: Held::Many(list.try_clone(alloc)?),
+            }),
+        }
+    }
+
+    fn same(&self, other: &Attributes) -> bool {
+        match (&self.held, &other.held) {
+            (Held::One(one), Held::One(other)) => one.same(other),
+            (Held::Many(list), Held::Many(other)) => list.same(other),
+            (Held::One(one), Held::Many(list)) | (Held::Many(list), Held::One(one)) => {
+                is_alone(list.items(), one)
+            }
+        }
+    }
+}
+
+/// Whether the attribute stands in the list, and no other.
+fn is_alone(list: &[Attribute], attribute: &Attribute) -> bool
+    ensures { IsTrue result ↔ (list.now ≡ attribute.now ∷ []) }
+{
+    match list {
+        [only] => only.same(attribute),
+        _ => false,
+    }
+}
