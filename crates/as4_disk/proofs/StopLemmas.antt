@@ -3,7 +3,7 @@ use Rattle.std.specs.Prelude.{Bool, true, false, ◌==◌, ◌-◌, if◌then◌
 use Rattle.std.proofs.Common.{◌≡◌, inl, inr, ℕ, zero, suc, ◌≤◌, List, [], ◌∷◌, ◌++◌, length, Option, Some, sym, ◌∙◌, ap, arith, append-nil, append_assoc}
 use Rattle.std.proofs.lemmas.Grind.{common_steps}
 use Rattle.std.specs.List.{list_any}
-use Rattle.as4_flow.specs.Faults.{one_more}
+use Rattle.as4_flow.specs.Flow.{one_more}
 use Rattle.as4_disk.specs.declared.change.Change.{Change}
 use Rattle.as4_disk.specs.declared.change.Turn.TheVariants.{Acts, Fails, Stops}
 use Rattle.as4_disk.specs.Changes.{is_sync}

@@ -1,7 +1,7 @@
 -- A disk in memory: what it was made with, the changes since, and how the calls that come will go.
 use Rattle.std.specs.Prelude.{◌≡◌, ◌⊎◌, ℕ, zero, suc, ◌-◌, Bool, true, false, if◌then◌else◌, ◌==◌, List, [], ◌∷◌, ◌++◌, Option, None, Some, Result, Ok, Err, option_map}
 use Rattle.std.specs.List.{list_any}
-use Rattle.as4_flow.specs.Faults.{one_more}
+use Rattle.as4_flow.specs.Flow.{one_more}
 use Rattle.as4_disk.specs.declared.files.Files.{Files}
 use Rattle.as4_disk.specs.declared.change.Change.{Change}
 use Rattle.as4_disk.specs.declared.change.Pick.{Pick}

@@ -1,7 +1,7 @@
 -- What a device call does to the images of a crash, and what a run of calls does, for any type of image. A disk has a
 -- moment, and for each moment the images that a crash might have left from it on.
 use Rattle.std.specs.Prelude.{◌≡◌, ◌⊎◌, ℕ, ◌≤◌, Bool, true, false, List, [], ◌∷◌, Option, Some, Result, OnErr}
-use Rattle.as4_flow.specs.Faults.{Rose}
+use Rattle.as4_flow.specs.Flow.{Rose}
 
 -- where both are told, the step leads from one to the other
 abbrev pub Goes : {X : Type 0} → (X → X → Type 0) → Option X → Option X → Type 0

@@ -8,7 +8,7 @@
 //! bytes. Between two syncs of a part, a range that was written and what lies past the part's old end may hold any
 //! bytes, the others stay, and the part may have any length between the least and the greatest that it had.
 ghost use Rattle.std.specs.Prelude.{◌≡◌, ℕ, ◌+◌, ◌≤◌, Bool, Option, length, take, drop, is_ok, is_some, IfOk, OnOk};
-ghost use Rattle.as4_flow.specs.Told.{Told};
+ghost use Rattle.as4_flow.specs.Flow.{Told};
 ghost use Rattle.as4_disk.specs.Bytes.{IsOverwritten, Torn, IsCut, TornCut};
 ghost use Rattle.as4_disk.specs.Runs.{Goes, Follows, Within, Elapses, HasCause};
 ghost use Rattle.as4_disk.specs.Image.{Image, On, IsOnly};

@@ -1,6 +1,6 @@
 //! A write that is durable once it has answered.
 ghost use Rattle.std.specs.Prelude.{◌≡◌, ◌≤◌, [], ◌∷◌, length, is_ok, is_some, OnOk};
-ghost use Rattle.as4_flow.specs.Told.{Told};
+ghost use Rattle.as4_flow.specs.Flow.{Told};
 ghost use Rattle.as4_disk.specs.Bytes.{IsOverwritten, Torn};
 ghost use Rattle.as4_disk.specs.Runs.{Goes, Follows, LeavesOnly, HasCause, MakesAll};
 ghost use Rattle.as4_disk.specs.Image.{On, IsOnly, TornFrom};

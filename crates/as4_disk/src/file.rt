@@ -1,6 +1,6 @@
 //! A disk on three files of the system. It tells nothing of content; what it keeps is a count of the faults.
-ghost use Rattle.std.specs.Prelude.{◌≡◌, ℕ, None, true, false, if◌then◌else◌, is_ok, IfOk, IsErr, OnErr};
-ghost use Rattle.as4_flow.specs.Faults.{one_more};
+ghost use Rattle.std.specs.Prelude.{◌≡◌, ℕ, None, true, false, if◌then◌else◌, is_ok, IfOk, IsErr, OnErr, OnOk};
+ghost use Rattle.as4_flow.specs.Flow.{one_more};
 ghost use Rattle.as4_disk.specs.Runs.{HasCause};
 
 use crate::{Disk, DiskFailed, Part};
@@ -91,6 +91,7 @@ impl FileDisk {
         ensures faults { file_faults self.new ≡ file_faults self.old }
         ensures lost { is_lost self.old ≡ true → IsErr result }
         ensures loses { OnErr result (is_lost self.new ≡ true) }
+        ensures kept { OnOk result (is_lost self.new ≡ is_lost self.old) }
     {
         if self.is_lost {
             return Err(ErrorKind::Other.into());
@@ -260,6 +261,7 @@ impl Disk for FileDisk {
         ensures cause { HasCause (file_faults self.old) (file_faults self.new) result }
         ensures lost { is_lost self.old ≡ true → IsErr result }
         ensures loses { OnErr result (is_lost self.new ≡ true) }
+        ensures kept { OnOk result (is_lost self.new ≡ is_lost self.old) }
     {
         let answer = self.sync_of(part);
         self.counted(answer)

@@ -1,7 +1,6 @@
 //! A read of bytes that a part may not have.
 ghost use Rattle.std.specs.Prelude.{◌≡◌, ◌+◌, ◌<◌, ◌≤◌, length, take, drop, IfOk, IfSome, IfNone, OnErr, IsErrOf};
-ghost use Rattle.as4_flow.specs.Told.{Told};
-ghost use Rattle.as4_flow.specs.Faults.{Rose};
+ghost use Rattle.as4_flow.specs.Flow.{Told, Rose};
 ghost use Rattle.as4_disk.specs.Runs.{Quiet};
 
 use crate::{Disk, DiskFailed, Part};

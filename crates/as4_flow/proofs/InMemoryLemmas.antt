@@ -1,7 +1,7 @@
 -- Lemmas on a source and a sink in memory, whose bytes and pieces stand in lists with a place up to which they are used up.
 use Rattle.std.proofs.Common.{◌≡◌, ℕ, ◌+◌, ◌≤◌, List, [], ◌∷◌, ◌++◌, length, take, drop, min, sym, ◌∙◌, ap, arith}
 use Rattle.std.proofs.lemmas.List.{take-append-drop, length-take-le, take_at, drop-drop, drop_min}
-use Rattle.as4_flow.specs.Faults.{one_more}
+use Rattle.as4_flow.specs.Flow.{one_more}
 use Rattle.as4_flow.specs.InMemory.{SourceState, SinkState, piece_size, after_read, after_write}
 use Rattle.as4_flow.specs.declared.source.Got.TheVariants.{Gave}
 use Rattle.as4_flow.specs.declared.sink.Put.TheVariants.{Took}

@@ -1,4 +1,3 @@
-pub mod ToldLemmas
-pub mod FaultsLemmas
+pub mod FlowLemmas
 pub mod InMemoryLemmas
 pub mod StreamsLemmas

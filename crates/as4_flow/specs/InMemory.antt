@@ -1,6 +1,6 @@
 -- A source and a sink in memory: their bytes, and how the calls that come will be answered.
 use Rattle.std.specs.Prelude.{ℕ, List, [], ◌∷◌, ◌++◌, take, drop, min, max, Contains}
-use Rattle.as4_flow.specs.Faults.{one_more}
+use Rattle.as4_flow.specs.Flow.{one_more}
 use Rattle.as4_flow.specs.declared.source.Got.{Got}
 use Rattle.as4_flow.specs.declared.source.Got.TheVariants.{Gave, End, Failed}
 use Rattle.as4_flow.specs.declared.sink.Put.{Put}

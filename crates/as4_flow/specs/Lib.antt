@@ -1,7 +1,5 @@
-pub mod Told
-pub mod Faults
+pub mod Flow
 pub mod Got
 pub mod Put
 pub mod InMemory
 pub mod Streams
-pub mod Flow

@@ -1,7 +1,6 @@
 //! A sink in memory, which tells what it took: for tests, and for bytes that are wanted in one place.
 ghost use Rattle.std.specs.Prelude.{◌≡◌, ◌⊎◌, ℕ, Some, ◌<◌, ◌+◌, ◌≤◌, length, take, OnOk};
-ghost use Rattle.as4_flow.specs.Told.{behind};
-ghost use Rattle.as4_flow.specs.Faults.{Rose};
+ghost use Rattle.as4_flow.specs.Flow.{appended, Rose};
 ghost use Rattle.as4_flow.specs.InMemory.{new_sink, IsFailing, piece_size, after_write};
 
 use crate::memory_source::next_size;
@@ -96,7 +95,7 @@ impl Sink for MemorySink {
     fn write(&mut self, piece: &[u8]) -> Put
         requires { 0 < length piece.now }
         ensures some { IfTook result (λ n. (1 ≤ n) × (n ≤ length piece.now)) }
-        ensures bytes { IfTook result (λ n. Some self.new.bytes ≡ behind (Some self.old.bytes) (take n piece.now)) }
+        ensures bytes { IfTook result (λ n. Some self.new.bytes ≡ appended (Some self.old.bytes) (take n piece.now)) }
 
         ensures stays { result ≡ Put.Failed → Some self.new.bytes ≡ Some self.old.bytes }
         ensures failed { result ≡ Put.Failed → Rose self.old.faults self.new.faults }

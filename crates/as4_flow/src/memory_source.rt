@@ -1,7 +1,6 @@
 //! A source in memory, which tells what it has left: for tests, and for bytes that are there already.
 ghost use Rattle.std.specs.Prelude.{◌≡◌, ℕ, Some, [], ◌<◌, ◌≤◌, ◌↔◌, length, take, drop, min};
-ghost use Rattle.as4_flow.specs.Told.{Told, before};
-ghost use Rattle.as4_flow.specs.Faults.{Rose};
+ghost use Rattle.as4_flow.specs.Flow.{Told, before, Rose};
 ghost use Rattle.as4_flow.specs.InMemory.{new_source, IsFailing, piece_size, after_read};
 
 use crate::{Got, Source};

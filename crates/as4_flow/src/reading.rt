@@ -1,7 +1,6 @@
 //! A source read to its end, into one buffer.
 ghost use Rattle.std.specs.Prelude.{◌≡◌, ℕ, [], ◌+◌, ◌++◌, ◌<◌, ◌≤◌, length, IfOk, OnOk, IsErrOf};
-ghost use Rattle.as4_flow.specs.Told.{Told, before, LosesFront};
-ghost use Rattle.as4_flow.specs.Faults.{Rose};
+ghost use Rattle.as4_flow.specs.Flow.{Told, before, LosesFront, Rose};
 
 use crate::{Got, Source};
 use std::alloc::{AllocError, Global};
@@ -38,7 +37,7 @@ impl From<AllocError> for ReadRefusal {
 }
 
 /// Reads a source to its end.
-#[tactic(auto, using(crate::proofs::ToldLemmas::before_more))]
+#[tactic(auto, using(crate::proofs::FlowLemmas::before_more))]
 pub fn read_all<S: Source>(
     alloc: Global,
     source: &mut S,

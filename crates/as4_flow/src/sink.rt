@@ -3,8 +3,7 @@
 //!     Took(n)  the first n bytes of the piece were taken
 //!     Failed   a fault: nothing was taken, and the count of faults rose; no other answer raises it
 ghost use Rattle.std.specs.Prelude.{◌≡◌, ℕ, Option, List, [], ◌<◌, ◌≤◌, length, take, OnOk, OnErr, IsOk};
-ghost use Rattle.as4_flow.specs.Told.{behind, TakesFront};
-ghost use Rattle.as4_flow.specs.Faults.{Rose};
+ghost use Rattle.as4_flow.specs.Flow.{appended, TakesFront, Rose};
 
 /// What a write answers.
 #[derive(Clone, Copy, Debug, PartialEq, Eq)]
@@ -28,7 +27,7 @@ pub trait Sink {
     fn write(&mut self, piece: &[u8]) -> Put
         requires { 0 < length piece.now }
         ensures some { IfTook result (λ n. (1 ≤ n) × (n ≤ length piece.now)) }
-        ensures bytes { IfTook result (λ n. taken self.new ≡ behind (taken self.old) (take n piece.now)) }
+        ensures bytes { IfTook result (λ n. taken self.new ≡ appended (taken self.old) (take n piece.now)) }
 
         ensures stays { result ≡ Put.Failed → taken self.new ≡ taken self.old }
         ensures failed { result ≡ Put.Failed → Rose (faults self.old) (faults self.new) }
@@ -41,9 +40,9 @@ pub trait Sink {
 pub struct SendFailed;
 
 /// Writes all the bytes, in as many pieces as the sink wants. It takes no memory.
-#[tactic(auto, using(crate::proofs::ToldLemmas::behind_more))]
+#[tactic(auto, using(crate::proofs::FlowLemmas::appended_more))]
 pub fn send_all<K: Sink>(sink: &mut K, bytes: &[u8]) -> Result<(), SendFailed>
-    ensures ok { OnOk result (K.taken sink.new ≡ behind (K.taken sink.old) bytes.now) }
+    ensures ok { OnOk result (K.taken sink.new ≡ appended (K.taken sink.old) bytes.now) }
     ensures quiet { OnOk result (K.faults sink.new ≡ K.faults sink.old) }
     ensures err { OnErr result (Rose (K.faults sink.old) (K.faults sink.new)) }
 

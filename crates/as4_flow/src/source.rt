@@ -4,8 +4,7 @@
 //!     End      no bytes are left
 //!     Failed   a fault: nothing was given, and the count of faults rose; no other answer raises it
 ghost use Rattle.std.specs.Prelude.{◌≡◌, ℕ, Option, List, [], ◌<◌, ◌≤◌, length, take, drop};
-ghost use Rattle.as4_flow.specs.Told.{Told, before};
-ghost use Rattle.as4_flow.specs.Faults.{Rose};
+ghost use Rattle.as4_flow.specs.Flow.{Told, before, Rose};
 
 /// What a read answers.
 #[derive(Clone, Copy, Debug, PartialEq, Eq)]

@@ -2,8 +2,7 @@
 //! they keep is a count of the faults.
 ghost use Rattle.std.specs.Prelude.{◌≡◌, ℕ, List, [], Some, None, if◌then◌else◌, ◌<◌, ◌≤◌, length, take, drop, IfSome, IfNone, IfOk};
 ghost use Rattle.std.specs.Io.KnownBytes.{Consumes, Appends, Keeps, IsAtEnd};
-ghost use Rattle.as4_flow.specs.Told.{Told, before, behind};
-ghost use Rattle.as4_flow.specs.Faults.{one_more, Rose};
+ghost use Rattle.as4_flow.specs.Flow.{Told, before, one_more, Rose};
 
 use crate::{Got, Put, Sink, Source};
 use std::alloc::{AllocError, Global};

@@ -1,7 +1,7 @@
 -- Lemmas on bodies.
 use Rattle.std.proofs.Common.{◌≡◌, ℕ, ◌-◌, ◌≤◌, replicate, List, [], ◌++◌, length, Option, None, Some, refl, sym, ◌∙◌, ◌<◌, ap, subst, arith, append-nil, length-append}
 use Rattle.std.proofs.lemmas.List.{length-replicate}
-use Rattle.as4_flow.specs.Told.{before}
+use Rattle.as4_flow.specs.Flow.{before}
 use Rattle.as4_http.specs.Bodies.{BeginsChunked, BeginsBody, HasNoBody, IsBody, IsLong, TakesBody}
 use Rattle.as4_http.specs.Came.{IsShorter}
 use Rattle.as4_http.specs.Chunks.{print_chunked, joined, HasNoChunked, IsWholeChunked}

@@ -2,8 +2,8 @@
 use Rattle.std.proofs.Common.{◌≡◌, ℕ, ◌-◌, List, [], ◌++◌, length, take, drop, min, Option, ◌⊎◌, inl, inr, sym, ◌∙◌, ap, subst, arith, append_assoc, length-append, length-drop}
 use Rattle.std.proofs.lemmas.Bool.{cases_lt}
 use Rattle.std.proofs.lemmas.List.{length-take-le, take-append-drop, nil_from_length}
-use Rattle.as4_flow.specs.Told.{before}
-use Rattle.as4_flow.proofs.ToldLemmas.{before_nil, before_append}
+use Rattle.as4_flow.specs.Flow.{before}
+use Rattle.as4_flow.proofs.FlowLemmas.{before_nil, before_append}
 use Rattle.as4_http.specs.Came.{Came}
 
 -- two fronts, one of which is empty, change places

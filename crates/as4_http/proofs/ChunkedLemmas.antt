@@ -5,8 +5,8 @@ use Rattle.std.specs.List.{flat_map}
 use Rattle.std.proofs.lemmas.List.{append_cancel_left, flat_map_more, take_at, length-replicate}
 use Rattle.std.proofs.lemmas.List.Concat.{flat_map-append}
 use Rattle.std.proofs.lemmas.List.Elements.{All-nil, All-push, All-head, All-tail}
-use Rattle.as4_flow.specs.Told.{before}
-use Rattle.as4_flow.proofs.ToldLemmas.{before_append}
+use Rattle.as4_flow.specs.Flow.{before}
+use Rattle.as4_flow.proofs.FlowLemmas.{before_append}
 use Rattle.httparse.specs.Grammar.{LineEnd, lf, Field, IsField, print_section, ChunkLine, IsChunkLine, print_chunk_line, chunk_size}
 use Rattle.httparse.proofs.ChunkLemmas.{chunk_line_unique}
 use Rattle.httparse.proofs.GrammarLemmas.{section_unique}

@@ -3,7 +3,7 @@ use Rattle.std.proofs.Common.{◌≡◌, ℕ, ◌+◌, ◌≤◌, List, ◌++◌
 use Rattle.std.proofs.lemmas.List.{take-append-le, length-take-le}
 use Rattle.std.proofs.Math.Seq.{take-append-add}
 use borrow.Rule.Slice.PartMut.{put_mid}
-use Rattle.as4_flow.specs.Told.{before}
+use Rattle.as4_flow.specs.Flow.{before}
 use Rattle.as4_flow.specs.Got.{IfGave}
 use Rattle.as4_flow.specs.declared.source.Got.{Got}
 use Rattle.as4_flow.specs.declared.source.Got.TheVariants.{Gave, End, Failed}

@@ -1,8 +1,8 @@
 -- Lemmas on limits that are passed.
 use Rattle.std.proofs.Common.{◌≡◌, ℕ, Result, Ok, Err, List, [], ◌++◌, Option, sym, ◌∙◌, ap, append-nil}
 use Rattle.std.specs.Result.{IsErrAnd, IsErrOf}
-use Rattle.as4_flow.specs.Told.{before}
-use Rattle.as4_flow.proofs.ToldLemmas.{before_append}
+use Rattle.as4_flow.specs.Flow.{before}
+use Rattle.as4_flow.proofs.FlowLemmas.{before_append}
 use Rattle.as4_http.specs.Passed.{Shows, GoesOver}
 use Rattle.as4_http.specs.declared.refusal.HttpRefusal.{HttpRefusal}
 use Rattle.as4_http.specs.declared.refusal.HttpRefusal.TheVariants.{TooLong}

@@ -2,7 +2,7 @@
 use Rattle.std.proofs.Common.{◌≡◌, ℕ, List, [], ◌++◌, Option, Result, Ok, Err, refl, ap, sym, ◌∙◌, subst, append_assoc}
 use Rattle.std.specs.Prelude.{IfErr}
 use Rattle.std.specs.Result.{IsErrAnd, IsErrOf}
-use Rattle.as4_flow.specs.Told.{Told, before}
+use Rattle.as4_flow.specs.Flow.{Told, before}
 use Rattle.as4_http.specs.Limits.{Limits, the_limits}
 use Rattle.as4_http.specs.Refused.{IsStop, OnRefusal, OnRefused, Dooms, MayBecome, Refuses, Denies}
 use Rattle.as4_http.specs.declared.refusal.HttpRefusal.{HttpRefusal}

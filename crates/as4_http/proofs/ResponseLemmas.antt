@@ -1,6 +1,6 @@
 -- Lemmas on responses.
 use Rattle.std.proofs.Common.{◌≡◌, ℕ, List, ◌++◌, Option, inr, refl, sym, ◌∙◌, ap, subst, append_assoc}
-use Rattle.as4_flow.specs.Told.{Told}
+use Rattle.as4_flow.specs.Flow.{Told}
 use Rattle.httparse.specs.Grammar.{ResponseHead, IsResponseHead, print_response}
 use Rattle.httparse.proofs.GrammarLemmas.{response_unique}
 use Rattle.as4_http.specs.Bodies.{BeginsBody, HasNoBody, IsBody, TakesBody}

@@ -1,8 +1,8 @@
 -- Lemmas on a stream: what an intake holds, and then what a source has left, where that is told.
 use Rattle.std.proofs.Common.{◌≡◌, ℕ, ◌≤◌, List, [], ◌++◌, length, take, drop, Option, None, Some, refl, sym, ◌∙◌, ap, subst, append_assoc}
 use Rattle.std.proofs.lemmas.List.{take_at, take-append-le, take-append-drop, append-nil}
-use Rattle.as4_flow.specs.Told.{Told, before}
-use Rattle.as4_flow.proofs.ToldLemmas.{before_append}
+use Rattle.as4_flow.specs.Flow.{Told, before}
+use Rattle.as4_flow.proofs.FlowLemmas.{before_append}
 use Rattle.as4_http.specs.Refused.{Dooms}
 
 -- of two fronts of the same bytes the shorter begins the longer

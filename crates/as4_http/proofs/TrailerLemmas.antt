@@ -6,8 +6,8 @@ use Rattle.std.proofs.lemmas.Bool.{false≢true, or_parts, eqb-false}
 use Rattle.std.proofs.lemmas.List.{append_cancel_right, take-append-drop, flat_map_more, length-take-le}
 use Rattle.std.proofs.lemmas.List.Concat.{flat_map-append}
 use Rattle.std.proofs.lemmas.List.Elements.{All-nil, All-cons, All-append, All-head, All-tail, All-weaker}
-use Rattle.as4_flow.specs.Told.{before}
-use Rattle.as4_flow.proofs.ToldLemmas.{before_append}
+use Rattle.as4_flow.specs.Flow.{before}
+use Rattle.as4_flow.proofs.FlowLemmas.{before_append}
 use Rattle.httparse.specs.declared.Error.{Error}
 use Rattle.httparse.specs.declared.Error.TheVariants.{HeaderName, HeaderValue, NewLine, Status, Token, TooManyHeaders, Version}
 use Rattle.httparse.specs.declared.Status.{Status as Parsed}

@@ -1,6 +1,6 @@
 -- A body in the stream, as its head frames it (RFC 9112, section 6.3).
 use Rattle.std.specs.Prelude.{◌≡◌, ℕ, ◌<◌, ◌≤◌, List, [], ◌++◌, length, Option}
-use Rattle.as4_flow.specs.Told.{Told, before}
+use Rattle.as4_flow.specs.Flow.{Told, before}
 use Rattle.as4_http.specs.Chunks.{ChunkedBody, print_chunked, joined, IsChunked, IsSmallChunked, TakesChunked}
 use Rattle.as4_http.specs.declared.framing.Framing.{Framing}
 use Rattle.as4_http.specs.declared.framing.Framing.TheVariants.{Empty, Counted, Chunked, ToEnd}

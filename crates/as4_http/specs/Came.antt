@@ -1,6 +1,6 @@
 -- Pieces of a source that went behind bytes that were held.
 use Rattle.std.specs.Prelude.{◌≡◌, ℕ, ◌<◌, List, ◌++◌, length, Option}
-use Rattle.as4_flow.specs.Told.{before}
+use Rattle.as4_flow.specs.Flow.{before}
 
 -- a piece of n bytes came from what was left, and is held behind what was held before
 pub record Came (n : ℕ) (old new : List ℕ) (left rest : Option (List ℕ)) : Type 0 where

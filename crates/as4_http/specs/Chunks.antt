@@ -1,7 +1,7 @@
 -- A body in chunks (RFC 9112, section 7.1).
 use Rattle.std.specs.Prelude.{◌≡◌, ◌≢◌, ℕ, ◌<◌, ◌≤◌, List, [], ◌∷◌, ◌++◌, length, Option, All}
 use Rattle.std.specs.List.{flat_map}
-use Rattle.as4_flow.specs.Told.{before}
+use Rattle.as4_flow.specs.Flow.{before}
 use Rattle.httparse.specs.Grammar.{LineEnd, Field, IsField, print_section, ChunkLine, IsChunkLine, print_chunk_line, chunk_size}
 use Rattle.as4_http.specs.ChunkLines.{IsShortLine}
 use Rattle.as4_http.specs.Limits.{Limits, the_limits}

@@ -2,7 +2,7 @@
 -- the limit is right: a head by its grammar, whatever its fields say, and all that stands behind one by what it says.
 use Rattle.std.specs.Prelude.{◌≡◌, ℕ, ◌+◌, ◌<◌, ◌≤◌, List, [], ◌++◌, length, Option, All}
 use Rattle.std.specs.List.{flat_map}
-use Rattle.as4_flow.specs.Told.{before}
+use Rattle.as4_flow.specs.Flow.{before}
 use Rattle.httparse.specs.Grammar.{MayBecomeRequest, MayBecomeResponse, LineEnd, Field, print_section, ReadsSection, ChunkLine, print_chunk_line, ReadsChunkLine, chunk_size}
 use Rattle.httparse.specs.Spans.{RequestExceeds, ResponseExceeds}
 use Rattle.as4_http.specs.Chunks.{Chunk, print_chunk, joined, IsChunk, IsShortChunk}

@@ -1,6 +1,6 @@
 -- Why no message was read.
 use Rattle.std.specs.Prelude.{◌≡◌, ℕ, List, ◌++◌, Option, Result, Ok, Err}
-use Rattle.as4_flow.specs.Told.{Told, before}
+use Rattle.as4_flow.specs.Flow.{Told, before}
 use Rattle.as4_http.specs.Limits.{Limits, the_limits}
 use Rattle.as4_http.specs.declared.refusal.HttpRefusal.{HttpRefusal}
 use Rattle.as4_http.specs.declared.refusal.HttpRefusal.TheVariants.{Cut, Bad, TooLong, ReadFault, NoMemory}

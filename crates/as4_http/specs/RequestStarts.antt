@@ -1,7 +1,7 @@
 -- What the head of a request says (RFC 9112, sections 3, 6 and 9.3).
 use Rattle.std.specs.Prelude.{◌≡◌, ℕ, ◌≤◌, ◌==◌, ◌&&◌, not, List, length, map, codes, Option}
 use Rattle.std.specs.Option.{option_to_list}
-use Rattle.as4_flow.specs.Told.{before}
+use Rattle.as4_flow.specs.Flow.{before}
 use Rattle.httparse.specs.Grammar.{RequestHead, IsRequestHead, print_request, ReadsRequest, HasNoRequest, MayBecomeRequest}
 use Rattle.httparse.specs.Spans.{name_and_value}
 use Rattle.as4_http.specs.Connection.{closes}

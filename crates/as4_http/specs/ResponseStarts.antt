@@ -1,7 +1,7 @@
 -- What the head of a response says (RFC 9112, sections 4 and 6).
 use Rattle.std.specs.Prelude.{◌≡◌, ℕ, ◌≤◌, ◌==◌, ◌||◌, List, if◌then◌else◌, length, map, codes, Option}
 use Rattle.std.specs.Option.{option_to_list}
-use Rattle.as4_flow.specs.Told.{before}
+use Rattle.as4_flow.specs.Flow.{before}
 use Rattle.httparse.specs.Grammar.{ResponseHead, IsResponseHead, print_response, ReadsResponse, HasNoResponse, MayBecomeResponse, status_code}
 use Rattle.httparse.specs.Spans.{name_and_value}
 use Rattle.as4_http.specs.Fields.{values_in}

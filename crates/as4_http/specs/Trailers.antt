@@ -1,6 +1,6 @@
 -- The trailers behind the last chunk (RFC 9112, section 7.1.2), line by line.
 use Rattle.std.specs.Prelude.{◌≡◌, ◌≢◌, ℕ, ◌+◌, ◌<◌, ◌≤◌, Bool, true, false, List, [], ◌∷◌, ◌++◌, length, drop, Option, All}
-use Rattle.as4_flow.specs.Told.{before}
+use Rattle.as4_flow.specs.Flow.{before}
 use Rattle.httparse.specs.Grammar.{LineEnd, print_end, Field, print_field, IsField, print_section, ReadsSection}
 use Rattle.as4_http.specs.Limits.{Limits}
 use Rattle.as4_http.specs.declared.limits.TheConstants.{MAX_TRAILERS}

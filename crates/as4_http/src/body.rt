@@ -1,7 +1,6 @@
 //! A body, as its head frames it (RFC 9112, section 6.3).
 ghost use Rattle.std.specs.Prelude.{◌≡◌, [], ◌≤◌, IfOk, OnOk, IfErr, IsErrOf};
-ghost use Rattle.as4_flow.specs.Faults.{Rose};
-ghost use Rattle.as4_flow.specs.Told.{Told, before};
+ghost use Rattle.as4_flow.specs.Flow.{Rose, Told, before};
 ghost use Rattle.as4_http.specs.Bodies.{TakesBody, HasNoBody, IsBody, TakesRest, IsLong};
 ghost use Rattle.as4_http.specs.Passed.{PassesBody, Shows};
 ghost use Rattle.as4_http.specs.Refused.{Refuses, MayBecome};

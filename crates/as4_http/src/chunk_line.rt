@@ -1,8 +1,7 @@
 //! The line before a chunk, and the CRLF behind it (RFC 9112, section 7.1).
 ghost use Rattle.std.specs.Prelude.{◌≡◌, ◌≢◌, ℕ, ◌+◌, ◌<◌, ◌≤◌, List, [], ◌∷◌, ◌++◌, length, IfOk, OnOk, IfErr, IsErrOf};
 ghost use Rattle.httparse.specs.Grammar.{HasNoChunkLine, MayBecomeChunkLine};
-ghost use Rattle.as4_flow.specs.Faults.{Rose};
-ghost use Rattle.as4_flow.specs.Told.{Told, before};
+ghost use Rattle.as4_flow.specs.Flow.{Rose, Told, before};
 ghost use Rattle.as4_http.specs.ChunkLines.{TakesLine, HasNoLine, IsWholeLine, IsCrlf, HasNoCrlf, shortest_end};
 ghost use Rattle.as4_http.specs.Passed.{PassesNext, Shows};
 ghost use Rattle.as4_http.specs.Refused.{IsDenial, MayBecome, Refuses, Denies};

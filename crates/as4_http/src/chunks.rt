@@ -3,8 +3,7 @@
 //!     line   bytes   CRLF     for each chunk; the line says how many bytes there are
 //!     line   trailers         behind the last chunk; the line says 0
 ghost use Rattle.std.specs.Prelude.{◌≡◌, [], ◌≤◌, OnOk, IfErr, IsErrOf};
-ghost use Rattle.as4_flow.specs.Faults.{Rose};
-ghost use Rattle.as4_flow.specs.Told.{Told, before};
+ghost use Rattle.as4_flow.specs.Flow.{Rose, Told, before};
 ghost use Rattle.as4_http.specs.Chunks.{TakesChunk, HasNoChunk, TakesChunked, HasNoChunked, IsWholeChunk, IsWholeChunked};
 ghost use Rattle.as4_http.specs.Passed.{PassesChunked, Shows};
 ghost use Rattle.as4_http.specs.Refused.{Refuses, MayBecome};

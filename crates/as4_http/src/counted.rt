@@ -1,7 +1,6 @@
 //! So many bytes of the stream, read straight into the buffer of a body.
 ghost use Rattle.std.specs.Prelude.{◌≡◌, [], ◌≤◌, OnOk, IfErr, IsErrOf};
-ghost use Rattle.as4_flow.specs.Faults.{Rose};
-ghost use Rattle.as4_flow.specs.Told.{Told, before};
+ghost use Rattle.as4_flow.specs.Flow.{Rose, Told, before};
 ghost use Rattle.as4_http.specs.Came.{Came, IsShorter};
 ghost use Rattle.as4_http.specs.Refused.{IsStop, OnRefused};
 

@@ -6,9 +6,8 @@
 //! The memory of the room grows by half of what is there. The room is written with zeros a piece at a time, and once
 //! only: a piece of one byte costs no more than a byte of a large piece.
 ghost use Rattle.std.specs.Prelude.{◌≡◌, [], ◌+◌, ◌++◌, ◌<◌, ◌≤◌, length, take, drop, IfOk, OnOk, IfErr, OnErr, IsErrOf};
-ghost use Rattle.as4_flow.specs.Faults.{Rose};
+ghost use Rattle.as4_flow.specs.Flow.{Rose, Told};
 ghost use Rattle.as4_flow.specs.Got.{IfGave, OnNothing, UnlessFailed};
-ghost use Rattle.as4_flow.specs.Told.{Told};
 ghost use Rattle.as4_http.specs.Came.{Came};
 ghost use Rattle.as4_http.specs.Refused.{IsStop};
 

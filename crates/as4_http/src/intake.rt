@@ -1,7 +1,6 @@
 //! The bytes that were read from a source and belong to no message yet.
 ghost use Rattle.std.specs.Prelude.{◌≡◌, [], ◌+◌, ◌++◌, ◌≤◌, length, drop, IfOk, OnErr, IfErr, IsErrOf};
-ghost use Rattle.as4_flow.specs.Faults.{Rose};
-ghost use Rattle.as4_flow.specs.Told.{Told};
+ghost use Rattle.as4_flow.specs.Flow.{Rose, Told};
 ghost use Rattle.as4_http.specs.Came.{Came};
 ghost use Rattle.as4_http.specs.Refused.{IsStop};
 

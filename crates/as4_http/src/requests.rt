@@ -1,7 +1,6 @@
 //! Requests, read from a source one after another.
 ghost use Rattle.std.specs.Prelude.{◌≡◌, ◌<◌, ◌≤◌, ◌⊎◌, ◌++◌, ℕ, List, [], Option, true, false, IsTrue, length, IfSome, IfOk, IsOkAnd, IfErr, IsErrOf};
-ghost use Rattle.as4_flow.specs.Faults.{Rose};
-ghost use Rattle.as4_flow.specs.Told.{Told, before};
+ghost use Rattle.as4_flow.specs.Flow.{Rose, Told, before};
 ghost use Rattle.as4_values.specs.Address.{has_address_form};
 ghost use Rattle.as4_http.specs.Passed.{PassesRequest, Shows};
 ghost use Rattle.as4_http.specs.ReadBack.{IsMedia, IsWithinLimits, request_to};

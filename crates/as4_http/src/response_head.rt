@@ -1,7 +1,6 @@
 //! The head of a response, read from a source.
 ghost use Rattle.std.specs.Prelude.{◌≡◌, [], ◌≤◌, ◌<◌, length, drop, IfOk, OnErr, IfErr, IsErrOf};
-ghost use Rattle.as4_flow.specs.Faults.{Rose};
-ghost use Rattle.as4_flow.specs.Told.{Told, before};
+ghost use Rattle.as4_flow.specs.Flow.{Rose, Told, before};
 ghost use Rattle.httparse.specs.Grammar.{ResponseHead, MayBecomeResponse};
 ghost use Rattle.httparse.specs.Spans.{IsResponseAt, IsResponseWithin, IsResponseOf};
 ghost use Rattle.as4_http.specs.Limits.{the_limits};

@@ -1,7 +1,6 @@
 //! Responses, read from a source one after another.
 ghost use Rattle.std.specs.Prelude.{◌≡◌, [], ◌≤◌, ◌++◌, ℕ, List, Option, IsTrue, codes, IfSome, IfOk, IsErrOf};
-ghost use Rattle.as4_flow.specs.Faults.{Rose};
-ghost use Rattle.as4_flow.specs.Told.{Told, before};
+ghost use Rattle.as4_flow.specs.Flow.{Rose, Told, before};
 ghost use Rattle.as4_http.specs.Passed.{PassesResponse, Shows};
 ghost use Rattle.as4_http.specs.ReadBack.{IsMedia, IsWithinLimits, response_with};
 ghost use Rattle.as4_http.specs.Refused.{OnRefused, Dooms};

@@ -1,8 +1,7 @@
 //! The trailers behind the last chunk (RFC 9112, section 7.1.2): field lines, which are skipped one by one, and
 //! the empty line behind them. No memory is taken for them.
 ghost use Rattle.std.specs.Prelude.{◌≡◌, [], ◌+◌, ◌<◌, ◌≤◌, ◌⊎◌, true, false, length, take, IfOk, OnOk, OnErr, IfErr, IsErrOf, IfSome, IfNone};
-ghost use Rattle.as4_flow.specs.Faults.{Rose};
-ghost use Rattle.as4_flow.specs.Told.{Told, before};
+ghost use Rattle.as4_flow.specs.Flow.{Rose, Told, before};
 ghost use Rattle.httparse.specs.Grammar.{MayBecomeSection, NeverHasSection};
 ghost use Rattle.as4_http.specs.Passed.{GoesOver, IsLongTrailers, ReadsTrailers, Shows};
 ghost use Rattle.as4_http.specs.Refused.{IsDenial, MayBecome, Refuses, Denies};

@@ -9,7 +9,7 @@ use Rattle.as4_effects.specs.Pairing.{cid_in, named_by, are_paired}
 use Rattle.mime_fields.specs.Fields.{PartValue}
 use Rattle.byte_forms.proofs.CutLemmas.{cases_option}
 use Rattle.as4_message.specs.Attached.{AttachedValue, is_inside, is_outside, all_attached, paired, attach, not_supported, external, inconsistent}
-use Rattle.as4_message.specs.Views.{attached_value}
+use Rattle.as4_message.specs.Meaning.{attached_value}
 use Rattle.as4_message.specs.declared.attachment.Attachment.{Attachment}
 
 right_of : (a b : Bool) → (a || b) ≡ false → b ≡ false

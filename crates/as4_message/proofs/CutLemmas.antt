@@ -8,7 +8,7 @@ use Rattle.std.proofs.lemmas.Bool.Decides.{Decides-eqb}
 use Rattle.std.proofs.lemmas.List.{get_or_append_left, get_or-append-add, drop-drop}
 use Rattle.std.proofs.lemmas.List.Prefix.{at_from_reads}
 use Rattle.memchr.specs.Find.{OccursAt, FindsNeedle}
-use Rattle.as4_message.specs.FileReading.{cut_at}
+use Rattle.message_model.specs.Wire.{cut_at}
 
 occurs_here : (front needle back : List ℕ) → OccursAt (front ++ (needle ++ back)) needle (length front)
 occurs_here front needle back = record {

@@ -15,16 +15,14 @@ use Rattle.header_reader.specs.declared.refusal.HeaderRefusal.{HeaderRefusal}
 use Rattle.header_reader.specs.declared.refusal.HeaderRefusal.TheVariants as header_refusal
 use Rattle.mime_fields.specs.Fields.{PartValue}
 use Rattle.mime_package.specs.Reading.{PackageValue, package_of}
-use Rattle.mime_package.specs.declared.refusal.MimeRefusal.{MimeRefusal}
-use Rattle.mime_package.specs.declared.refusal.MimeRefusal.TheVariants as mime
+use Rattle.mime_package.specs.declared.read.MimeRefusal.{MimeRefusal}
+use Rattle.mime_package.specs.declared.read.MimeRefusal.TheVariants as mime
 use Rattle.as4_message.specs.Attached.{AttachedValue, is_inside, is_outside, all_attached, attach, paired}
-use Rattle.as4_message.specs.Meaning.{ReceivedValue, signal, pair, RootMeans, PackageMeans, Means, package_code, unit_or_code, user_with, alone, unit_with, root_with}
-use Rattle.as4_message.specs.Answers.{AnswersBy}
-use Rattle.as4_message.specs.Views.{received_value}
+use Rattle.as4_message.specs.Meaning.{ReceivedValue, signal, pair, RootMeans, PackageMeans, Means, package_code, unit_or_code, user_with, alone, unit_with, root_with, AnswersBy, received_value}
 use Rattle.as4_message.specs.declared.received.Received.{Received}
-use Rattle.as4_message.specs.declared.refusal.Refusal.{Refusal}
-use Rattle.as4_message.specs.declared.refusal.MessageRefusal.{MessageRefusal}
-use Rattle.as4_message.specs.declared.refusal.MessageRefusal.TheVariants.{Refused}
+use Rattle.as4_message.specs.declared.received.Refusal.{Refusal}
+use Rattle.as4_message.specs.declared.received.MessageRefusal.{MessageRefusal}
+use Rattle.as4_message.specs.declared.received.MessageRefusal.TheVariants.{Refused}
 
 one_root : (root : List ℕ) (one other : Result MessageUnit ℕ) → RootMeans root one → RootMeans root other → one ≡ other
 one_root root one other (inl first) (inl second) = first.0 ∙ sym second.0

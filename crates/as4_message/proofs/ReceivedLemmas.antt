@@ -3,13 +3,11 @@ use Rattle.std.proofs.Common.{◌≡◌, ℕ, List, Option, Some, None, Result, 
 use Rattle.mime_package.specs.Answers.{Answers}
 use Rattle.mime_package.specs.Reading.{package_of}
 use Rattle.mime_package.specs.Lent.{package_value}
-use Rattle.mime_package.specs.declared.refusal.MimeRefusal.{MimeRefusal}
-use Rattle.mime_package.specs.declared.refusal.MimeRefusal.TheVariants as mime
-use Rattle.as4_message.specs.Answers.{AnswersBy, Refuses}
-use Rattle.as4_message.specs.Meaning.{Means, package_code}
-use Rattle.as4_message.specs.Views.{received_value}
-use Rattle.as4_message.specs.declared.refusal.MessageRefusal.{MessageRefusal}
-use Rattle.as4_message.specs.declared.refusal.MessageRefusal.TheVariants.{Refused, NoMemory}
+use Rattle.mime_package.specs.declared.read.MimeRefusal.{MimeRefusal}
+use Rattle.mime_package.specs.declared.read.MimeRefusal.TheVariants as mime
+use Rattle.as4_message.specs.Meaning.{AnswersBy, Refuses, Means, package_code, received_value}
+use Rattle.as4_message.specs.declared.received.MessageRefusal.{MessageRefusal}
+use Rattle.as4_message.specs.declared.received.MessageRefusal.TheVariants.{Refused, NoMemory}
 
 means_none : (media body : List ℕ) (refusal : MimeRefusal) (answer : MessageRefusal) → package_of media body ≡ Err refusal → Refuses (package_code refusal) None answer → AnswersBy received_value (Err answer) (Means media body)
 means_none media body refusal (Refused told) is refuses = rw is (ap Err refuses)

@@ -6,7 +6,7 @@ use Rattle.as4_values.specs.declared.signal.Signal.{Signal}
 use Rattle.as4_values.specs.declared.signal_body.SignalBody.{SignalBody}
 use Rattle.as4_values.specs.declared.signal_body.SignalBody.TheVariants.{Pull, Receipt, Errors}
 use Rattle.as4_message.specs.Meaning.{ReceivedValue, user, signal, pair}
-use Rattle.as4_message.specs.declared.refusal.Refusal.{Refusal}
+use Rattle.as4_message.specs.declared.received.Refusal.{Refusal}
 
 -- the message that a receipt is of
 abbrev pub reference : Signal → List ℕ

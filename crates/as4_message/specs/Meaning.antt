@@ -1,5 +1,5 @@
 -- What a media text and a body mean: a message, or a refusal, by the first of the errors below that is one (ebMS 3.0 Core,
--- section 6.7.1).
+-- section 6.7.1). And what a reader of them answers.
 use Rattle.std.specs.Prelude.{◌≡◌, ◌⊎◌, ℕ, List, [], ◌∷◌, Option, Some, None, Result, Ok, Err, map}
 use Rattle.as4_envelope.specs.declared.tree.Element.{Element}
 use Rattle.as4_values.specs.declared.header.UserHeader.{UserHeader}
@@ -16,16 +16,30 @@ use Rattle.header_reader.specs.declared.refusal.HeaderRefusal.{HeaderRefusal}
 use Rattle.header_reader.specs.declared.refusal.HeaderRefusal.TheVariants as header_refusal
 use Rattle.mime_fields.specs.Fields.{PartValue}
 use Rattle.mime_package.specs.Reading.{PackageValue, package_of}
-use Rattle.mime_package.specs.declared.refusal.MimeRefusal.{MimeRefusal}
-use Rattle.mime_package.specs.declared.refusal.MimeRefusal.TheVariants as mime_refusal
+use Rattle.mime_package.specs.declared.read.MimeRefusal.{MimeRefusal}
+use Rattle.mime_package.specs.declared.read.MimeRefusal.TheVariants as mime_refusal
 use Rattle.as4_message.specs.Attached.{AttachedValue, attach, not_supported, inconsistent}
-use Rattle.as4_message.specs.declared.refusal.Refusal.{Refusal}
+use Rattle.as4_message.specs.declared.attachment.Attachment.{Attachment}
+use Rattle.as4_message.specs.declared.received.Received.{Received}
+use Rattle.as4_message.specs.declared.received.Received.TheVariants as lent
+use Rattle.as4_message.specs.declared.received.Refusal.{Refusal}
+use Rattle.as4_message.specs.declared.received.MessageRefusal.{MessageRefusal}
+use Rattle.as4_message.specs.declared.received.MessageRefusal.TheVariants.{Refused, NoMemory}
 
 -- a message as it came: a header and the parts that it refers to, a signal, or a pair
 pub data ReceivedValue : Type 0 where
   user : UserHeader → List AttachedValue → ReceivedValue
   signal : Signal → ReceivedValue
   pair : Pair → ReceivedValue
+
+-- what is lent, without where it lies in memory
+abbrev pub attached_value : Attachment → AttachedValue
+attached_value part = record { cid = part.cid; media = part.media; content = part.content.now }
+
+abbrev pub received_value : Received → ReceivedValue
+received_value (lent.User header parts) = user header (map attached_value parts.items)
+received_value (lent.Signal s) = signal s
+received_value (lent.Pair p) = pair p
 
 abbrev pub refused : {X : Type 0} → ℕ → Option (List ℕ) → Result X Refusal
 refused code about = Err (record { code = code; about = about })
@@ -93,3 +107,19 @@ abbrev pub IsMessage : ReceivedValue → Message → Type 0
 IsMessage (user header parts) m = (payloads : List Payload) × (parts ≡ map payload_value payloads) × (m ≡ message.User header payloads)
 IsMessage (signal s) m = m ≡ message.Signal s
 IsMessage (pair p) m = m ≡ message.Pair p
+
+-- what a reader returned, of which something holds; for want of memory nothing is said
+abbrev pub AnswersBy : {X Y : Type 0} → (X → Y) → Result X MessageRefusal → (Result Y Refusal → Type 0) → Type 0
+AnswersBy view (Ok x) holds = holds (Ok (view x))
+AnswersBy view (Err (Refused refusal)) holds = holds (Err refusal)
+AnswersBy view (Err NoMemory) holds = Unit {0}
+
+-- the refusal of this code about this message, unless memory ran out
+abbrev pub Refuses : ℕ → Option (List ℕ) → MessageRefusal → Type 0
+Refuses code about (Refused refusal) = refusal ≡ record { code = code; about = about }
+Refuses code about NoMemory = Unit {0}
+
+-- a message that came so, or the same refusal
+abbrev pub Copies : (Result ReceivedValue Refusal → Type 0) → Result Message Refusal → Type 0
+Copies holds (Ok message) = (received : ReceivedValue) × holds (Ok received) × IsMessage received message
+Copies holds (Err refusal) = holds (Err refusal)

@@ -1,14 +1,13 @@
 //! The parts of a package that a header refers to (ebMS 3.0 Core, section 5.2.2.13; RFC 2392).
 ghost use Rattle.std.specs.Prelude.{◌≡◌, IfOk, Some, map, option_map, option_and_then};
 ghost use Rattle.std.specs.List.{list_any};
+ghost use Rattle.std.specs.Result.{result_map_both};
 ghost use Rattle.as4_effects.specs.Pairing.{cid_in, named_by, are_paired};
 ghost use Rattle.mime_fields.specs.Lent.{part_value};
 ghost use Rattle.as4_message.specs.Attached.{is_inside, is_outside, attached, all_attached, paired, attach};
-ghost use Rattle.as4_message.specs.Answers.{StopsBy};
-ghost use Rattle.as4_message.specs.Views.{attached_value};
+ghost use Rattle.as4_message.specs.Meaning.{attached_value};
 
 use crate::attachment::Attachment;
-use crate::stop::Stop;
 use as4_effects::{all_differ, are_among, cid_in};
 use as4_values::{NoMemory, Octets, PartInfo, PlainData};
 use mime_fields::Part;
@@ -23,20 +22,21 @@ const EXTERNAL: u16 = 11;
 /// The code of what is no package: MimeInconsistency.
 pub(crate) const INCONSISTENT: u16 = 7;
 
-/// The parts that the part infos refer to.
+/// The parts that the part infos refer to, or the code of the error by which they are refused.
 pub(crate) fn attach<'a>(
     alloc: Global,
     infos: &[PartInfo],
     parts: &[Part<'a>],
-) -> Result<Vec<Attachment<'a>>, Stop>
-    ensures { StopsBy (λ list. map attached_value list.items) result (λ answer. answer ≡ attach infos.now (map part_value parts.now)) }
+) -> Result<Result<Vec<Attachment<'a>>, u16>, NoMemory>
+    ensures { IfOk result (λ found. result_map_both (λ list. map attached_value list.items) (λ code. code) found
+        ≡ attach infos.now (map part_value parts.now)) }
 {
     if any_inside(infos) {
-        return Err(Stop::Code(NOT_SUPPORTED));
+        return Ok(Err(NOT_SUPPORTED));
     }
     match names_of(alloc, infos)? {
         Some(names) => attach_named(alloc, names.as_slice(), parts),
-        None => Err(Stop::Code(EXTERNAL)),
+        None => Ok(Err(EXTERNAL)),
     }
 }
 
@@ -45,17 +45,18 @@ fn attach_named<'a>(
     alloc: Global,
     names: &[Octets],
     parts: &[Part<'a>],
-) -> Result<Vec<Attachment<'a>>, Stop>
-    ensures { StopsBy (λ list. map attached_value list.items) result (λ answer. answer ≡ paired (Some names.now) (all_attached (map part_value parts.now))) }
+) -> Result<Result<Vec<Attachment<'a>>, u16>, NoMemory>
+    ensures { IfOk result (λ found. result_map_both (λ list. map attached_value list.items) (λ code. code) found
+        ≡ paired (Some names.now) (all_attached (map part_value parts.now))) }
 {
     let Some(parts) = all_attached(alloc, parts)? else {
-        return Err(Stop::Code(INCONSISTENT));
+        return Ok(Err(INCONSISTENT));
     };
     if are_paired(names, parts.as_slice()) {
-        return Ok(parts);
+        return Ok(Ok(parts));
     }
     drop(parts);
-    Err(Stop::Code(INCONSISTENT))
+    Ok(Err(INCONSISTENT))
 }
 
 fn any_inside(infos: &[PartInfo]) -> bool

@@ -1,7 +1,7 @@
 //! Laws of what media texts and bodies mean.
 ghost use Rattle.std.specs.Prelude.{◌≡◌, ℕ, List, Result};
 ghost use Rattle.as4_message.specs.Meaning.{ReceivedValue, Means};
-ghost use Rattle.as4_message.specs.declared.refusal.Refusal.{Refusal};
+ghost use Rattle.as4_message.specs.declared.received.Refusal.{Refusal};
 
 /// No media text and body mean two things.
 pub fn one_meaning()

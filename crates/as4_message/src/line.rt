@@ -11,12 +11,10 @@
 ghost use Rattle.std.specs.Prelude.{◌≡◌, ◌++◌, OnOk, IfOk, codes, Ok, Err};
 ghost use Rattle.as4_codes.specs.ErrorCodes.{code_text};
 ghost use Rattle.as4_values.specs.Moment.{digits};
-ghost use Rattle.as4_message.specs.Meaning.{Means};
-ghost use Rattle.as4_message.specs.Views.{received_value};
+ghost use Rattle.as4_message.specs.Meaning.{Means, received_value};
 ghost use Rattle.as4_message.specs.Line.{reference, channel, signal_words, received_words, about_words, refusal_words, line_of, IsLine};
 
-use crate::received::{Received, lend_message};
-use crate::refusal::{MessageRefusal, Refusal};
+use crate::received::{MessageRefusal, Received, Refusal, lend_message};
 use as4_values::{MessageId, NoMemory, Octets, Signal, SignalBody};
 use itoa::Buffer;
 use std::alloc::Global;

@@ -1,4 +1,4 @@
-//! Message files: a media text as a field, an empty line, and a body.
+//! Messages as they are sent, and message files: a media text as a field, an empty line, and a body.
 //!
 //!     Content-Type: MEDIA
 //!
@@ -8,13 +8,14 @@
 
 ghost use Rattle.std.specs.Prelude.{◌≡◌, ◌<◌, IfOk, length};
 ghost use Rattle.std.specs.Option.{option_map};
-ghost use Rattle.message_model.specs.Wire.{IsFile, message_file};
-ghost use Rattle.as4_message.specs.FileReading.{cut_at, file_at, media_and_body};
+ghost use Rattle.message_model.specs.Package.{envelope_media};
+ghost use Rattle.message_model.specs.Wire.{IsWire, IsFile, message_file, cut_at, file_at, media_and_body};
 
-use crate::write::write_message;
 use as4_values::{Message, NoMemory, Octets};
 use byte_forms::behind;
+use header_writer::{write_pair_envelope, write_signal_envelope, write_user_envelope};
 use memchr::memmem;
+use package_writer::{ENVELOPE_MEDIA, Wire, write_parts};
 use std::alloc::Global;
 
 /// More than the field and the empty line take, in bytes.
@@ -31,7 +32,7 @@ pub fn split_file(file: &[u8]) -> (&[u8], &[u8])
     }
 }
 
-#[tactic(auto, unfolding(crate::specs::FileReading::file_at))]
+#[tactic(auto, unfolding(message_model::specs::Wire::file_at))]
 fn field_and_body(file: &[u8]) -> Option<(&[u8], &[u8])>
     ensures { option_map (λ parts. (parts.0.now, parts.1.now)) result ≡ file_at file.now }
 {
@@ -49,6 +50,39 @@ fn cut_at<'a>(needle: &[u8], bytes: &'a [u8]) -> Option<(&'a [u8], &'a [u8])>
     let (front, rest) = bytes.split_at(at);
     let (_, behind) = rest.split_at(needle.len());
     Some((front, behind))
+}
+
+/// A message as it is sent (AS4 Profile, section 2.1): a user message as a package with the least boundary that is free,
+/// a signal or a pair as a bare envelope.
+pub fn write_message(alloc: Global, message: &Message) -> Result<Wire, NoMemory>
+    ensures { IfOk result (λ wire. IsWire message.now wire.media wire.body) }
+{
+    match message {
+        Message::User { header, payloads } => {
+            let root = write_user_envelope(alloc, header)?;
+            write_parts(alloc, root.bytes(), payloads)
+        }
+        Message::Signal(signal) => bare(alloc, write_signal_envelope(alloc, signal)?),
+        Message::Pair(pair) => bare(alloc, write_pair_envelope(alloc, pair)?),
+    }
+}
+
+/// A bare envelope.
+#[tactic(auto, unfolding(message_model::specs::Package::envelope_media))]
+fn bare(alloc: Global, body: Octets) -> Result<Wire, NoMemory>
+    ensures media { IfOk result (λ wire. wire.media ≡ envelope_media) }
+    ensures body { IfOk result (λ wire. wire.body ≡ body) }
+{
+    match Vec::from_slice(alloc, ENVELOPE_MEDIA) {
+        Ok(media) => Ok(Wire {
+            media: Octets::of(media),
+            body,
+        }),
+        Err(_) => {
+            drop(body);
+            Err(NoMemory)
+        }
+    }
 }
 
 /// The message file of a message.

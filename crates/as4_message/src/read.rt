@@ -1,14 +1,11 @@
 //! Reads messages.
 ghost use Rattle.std.specs.Prelude.{◌≡◌, Err, IfOk, IsSome, map};
 ghost use Rattle.as4_codes.specs.ErrorCodes.{error_row};
-ghost use Rattle.as4_message.specs.declared.refusal.Refusal.{Refusal as RefusalValue};
-ghost use Rattle.as4_message.specs.Answers.{AnswersBy, Copies};
-ghost use Rattle.as4_message.specs.Meaning.{Means, IsMessage, payload_value};
-ghost use Rattle.as4_message.specs.Views.{attached_value, received_value};
+ghost use Rattle.as4_message.specs.declared.received.Refusal.{Refusal as RefusalValue};
+ghost use Rattle.as4_message.specs.Meaning.{AnswersBy, Copies, Means, IsMessage, payload_value, attached_value, received_value};
 
 use crate::attachment::Attachment;
-use crate::received::{Received, lend_message};
-use crate::refusal::MessageRefusal;
+use crate::received::{MessageRefusal, Received, lend_message};
 use as4_values::{Message, NoMemory, Octets, Payload, PlainData, Seq};
 use std::alloc::Global;
 

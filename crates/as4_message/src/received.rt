@@ -1,21 +1,20 @@
-//! Messages as they come, lent from the bytes that carry them.
-ghost use Rattle.std.specs.Prelude.{◌≡◌, Ok, Err, None, Some, IsSome, map};
+//! Messages as they come, lent from the bytes that carry them, and the refusals of what is no message.
+ghost use Rattle.std.specs.Prelude.{◌≡◌, ◌≤◌, Ok, Err, None, Some, IfOk, IsSome, map};
+ghost use Rattle.std.specs.Result.{result_map_both};
 ghost use Rattle.as4_codes.specs.ErrorCodes.{error_row};
-ghost use Rattle.as4_message.specs.declared.refusal.Refusal.{Refusal as RefusalValue};
+ghost use Rattle.as4_codes.specs.Signals.{IsErrorSignalOf};
+ghost use Rattle.as4_message.specs.declared.received.Refusal.{Refusal as RefusalValue};
 ghost use Rattle.mime_fields.specs.Lent.{part_value};
 ghost use Rattle.mime_package.specs.Lent.{package_value};
 ghost use Rattle.as4_message.specs.Attached.{attach};
 ghost use Rattle.as4_message.specs.Meaning as meaning;
-ghost use Rattle.as4_message.specs.Meaning.{PackageMeans, Means, package_code, unit_with, alone, user_with};
-ghost use Rattle.as4_message.specs.Answers.{AnswersBy, Refuses};
-ghost use Rattle.as4_message.specs.Views.{received_value};
+ghost use Rattle.as4_message.specs.Meaning.{PackageMeans, Means, package_code, unit_with, root_with, alone, user_with, attached_value, received_value, AnswersBy, Refuses};
 
 use crate::attach::{INCONSISTENT, NOT_SUPPORTED, attach};
 use crate::attachment::Attachment;
-use crate::refusal::{MessageRefusal, Refusal};
 use crate::root::read_root;
-use crate::stop::Stop;
-use as4_values::{MessageId, Pair, PlainData, Signal, Unit, UserHeader};
+use as4_codes::error_signal;
+use as4_values::{MAX_MOMENT, MessageId, NoMemory, Pair, PlainData, Signal, Unit, UserHeader};
 use mime_fields::Part;
 use mime_package::{MimeRefusal, read_parts};
 use std::alloc::Global;
@@ -29,6 +28,24 @@ pub enum Received<'a> {
     Signal(Signal),
     /// A receipt, bundled with a pull request.
     Pair(Pair),
+}
+
+/// What is refused: its error code (ebMS 3.0 Core, section 6.7), and the message that it is about.
+#[derive(Drop)]
+pub struct Refusal {
+    /// The number of the code, such as 7 for `EBMS:0007`.
+    pub code: u16,
+    /// The identifier of the message, where it could be read.
+    pub about: Option<MessageId>,
+}
+
+/// Why bytes are no message that is read.
+#[derive(Drop)]
+pub enum MessageRefusal {
+    /// The bytes are no message.
+    Refused(Refusal),
+    /// Memory ran out.
+    NoMemory,
 }
 
 /// Reads a message from the media text and the body that carry it, and copies no payload.
@@ -85,9 +102,21 @@ fn with_root<'a>(
     ensures { AnswersBy received_value result (PackageMeans (Ok (record { root = root.now; parts = map part_value parts.now }))) }
 {
     match read_root(alloc, root) {
+        Ok(read) => with_read(alloc, read, parts),
+        Err(NoMemory) => Err(MessageRefusal::NoMemory),
+    }
+}
+
+fn with_read<'a>(
+    alloc: Global,
+    read: Result<Unit, u16>,
+    parts: &[Part<'a>],
+) -> Result<Received<'a>, MessageRefusal>
+    ensures { AnswersBy received_value result (λ answer. answer ≡ root_with (map part_value parts.now) read) }
+{
+    match read {
         Ok(unit) => with_parts(alloc, unit, parts),
-        Err(Stop::Code(code)) => Err(refused(code, None)),
-        Err(Stop::NoMemory) => Err(MessageRefusal::NoMemory),
+        Err(code) => Err(refused(code, None)),
     }
 }
 
@@ -113,15 +142,28 @@ fn user_with<'a>(
     ensures { AnswersBy received_value result (λ answer. answer ≡ user_with header (attach header.parts (map part_value parts.now))) }
 {
     match attach(alloc, header.parts.items(), parts) {
+        Ok(found) => with_found(alloc, header, found),
+        Err(NoMemory) => {
+            drop(header);
+            Err(MessageRefusal::NoMemory)
+        }
+    }
+}
+
+fn with_found<'a>(
+    alloc: Global,
+    header: UserHeader,
+    found: Result<Vec<Attachment<'a>>, u16>,
+) -> Result<Received<'a>, MessageRefusal>
+    ensures { AnswersBy received_value result
+        (λ answer. answer ≡ user_with header (result_map_both (λ list. map attached_value list.items) (λ code. code) found.entry)) }
+{
+    match found {
         Ok(attachments) => Ok(Received::User(header, attachments)),
-        Err(Stop::Code(code)) => {
+        Err(code) => {
             let refusal = about(alloc, code, &header.id);
             drop(header);
             Err(refusal)
-        }
-        Err(Stop::NoMemory) => {
-            drop(header);
-            Err(MessageRefusal::NoMemory)
         }
     }
 }
@@ -164,4 +206,20 @@ fn pair_with<'a>(
         return Err(refusal);
     }
     Ok(Received::Pair(pair))
+}
+
+/// The error signal of a refusal (ebMS 3.0 Core, section 6.2), made at the moment `stamp`, in milliseconds since
+/// 1970-01-01T00:00:00Z, and named by the nonce.
+pub fn refusal_signal(
+    alloc: Global,
+    refusal: &Refusal,
+    stamp: u64,
+    nonce: u128,
+) -> Result<Signal, NoMemory>
+    // The table of error codes has the code.
+    requires known { IsSome (error_row refusal.now.code) }
+    requires moment { stamp ≤ MAX_MOMENT }
+    ensures { IfOk result (λ signal. IsErrorSignalOf refusal.now.code refusal.now.about stamp nonce signal) }
+{
+    error_signal(alloc, refusal.code, refusal.about.as_ref(), stamp, nonce)
 }

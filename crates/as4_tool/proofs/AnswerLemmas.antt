@@ -4,15 +4,14 @@ use Rattle.std.specs.Result.{is_err}
 use Rattle.as4_values.specs.declared.memory.NoMemory.{NoMemory}
 use Rattle.as4_values.specs.declared.signal.Signal.{Signal}
 use Rattle.as4_values.specs.declared.message.Message.TheVariants as message
-use Rattle.message_model.specs.Wire.{IsFile}
+use Rattle.message_model.specs.Wire.{IsFile, media_and_body}
 use Rattle.as4_message.proofs.MeaningLemmas.{one_meaning_of}
-use Rattle.as4_message.specs.FileReading.{media_and_body}
 use Rattle.as4_message.specs.Line.{line_of}
 use Rattle.as4_message.specs.Meaning.{ReceivedValue, user, signal, pair}
-use Rattle.as4_message.specs.declared.refusal.Refusal.{Refusal}
+use Rattle.as4_message.specs.declared.received.Refusal.{Refusal}
 use Rattle.as4_tool.specs.Answer.{FileMeans, IsReply, IsAnswer, IsSignal, IsSignalFile, IsFileLine}
-use Rattle.as4_flow.specs.Told.{Told, before}
-use Rattle.as4_flow.proofs.ToldLemmas.{read_whole}
+use Rattle.as4_flow.specs.Flow.{Told, before}
+use Rattle.as4_flow.proofs.FlowLemmas.{read_whole}
 
 -- what holds of the bytes that came holds of what was told
 pub told_whole : (start end : Option (List ℕ)) (bytes : List ℕ) (P : List ℕ → Type 0) → start ≡ before bytes end → Told end (λ rest. rest ≡ []) → P bytes → Told start P

@@ -1,11 +1,11 @@
 -- The status of a drill's end, and what it comes from.
 use Rattle.std.proofs.Common.{◌≡◌, ◌≢◌, ℕ, refl, arith}
-use Rattle.as4_flow.specs.Faults.{Rose}
 use Rattle.as4_flow.specs.Flow.{Streams}
 use Rattle.drill.specs.Ends.{CountsAt}
 use Rattle.drill.specs.Generated.{GeneratedAt}
 use Rattle.drill.specs.declared.script.DrillEnd.{DrillEnd}
 use Rattle.drill.specs.declared.script.DrillEnd.TheVariants as ends
+use Rattle.as4_tool.specs.Ends.{TellsFaults}
 use Rattle.as4_tool.specs.Status.{code_of, status_of}
 use Rattle.as4_tool.specs.declared.status.Status.TheVariants.{Done, ReadFault, WriteFault, TooLong, NotUser, BadWords}
 
@@ -21,30 +21,22 @@ no_other ends.WriteFault = (omega arith, omega arith, omega arith)
 no_other ends.NoMemory = (omega arith, omega arith, omega arith)
 
 -- a read fault comes of the source, and without one its count is as it was
-pub record Reads (end : DrillEnd) (streams : Streams) : Type 0 where
-  pub fault : code_of (status_of end) ≡ code_of ReadFault → Rose streams.read_faults streams.later_read_faults
-  pub quiet : code_of (status_of end) ≢ code_of ReadFault → streams.later_read_faults ≡ streams.read_faults
-
-pub reads : (end : DrillEnd) (streams : Streams) → CountsAt end streams → Reads end streams
-reads ends.Read streams counts = record { fault = λ is. absurd (omega (arith, is)); quiet = λ _. counts.0 }
-reads (ends.Line number) streams counts = record { fault = λ is. absurd (omega (arith, is)); quiet = λ _. counts.0 }
-reads ends.TooMany streams counts = record { fault = λ is. absurd (omega (arith, is)); quiet = λ _. counts.0 }
-reads ends.ReadFault streams counts = record { fault = λ _. counts.0; quiet = λ never. absurd (never refl) }
-reads ends.WriteFault streams counts = record { fault = λ is. absurd (omega (arith, is)); quiet = λ _. counts.0 }
-reads ends.NoMemory streams counts = record { fault = λ is. absurd (omega (arith, is)); quiet = λ _. counts.0 }
+pub reads : (end : DrillEnd) (streams : Streams) → CountsAt end streams → TellsFaults ReadFault (code_of (status_of end)) streams.read_faults streams.later_read_faults
+reads ends.Read streams counts = (λ is. absurd (omega (arith, is)), λ _. counts.0)
+reads (ends.Line number) streams counts = (λ is. absurd (omega (arith, is)), λ _. counts.0)
+reads ends.TooMany streams counts = (λ is. absurd (omega (arith, is)), λ _. counts.0)
+reads ends.ReadFault streams counts = (λ _. counts.0, λ never. absurd (never refl))
+reads ends.WriteFault streams counts = (λ is. absurd (omega (arith, is)), λ _. counts.0)
+reads ends.NoMemory streams counts = (λ is. absurd (omega (arith, is)), λ _. counts.0)
 
 -- a write fault comes of the sink, and without one its count is as it was
-pub record Writes (end : DrillEnd) (streams : Streams) : Type 0 where
-  pub fault : code_of (status_of end) ≡ code_of WriteFault → Rose streams.write_faults streams.later_write_faults
-  pub quiet : code_of (status_of end) ≢ code_of WriteFault → streams.later_write_faults ≡ streams.write_faults
-
-pub writes : (end : DrillEnd) (streams : Streams) → CountsAt end streams → Writes end streams
-writes ends.Read streams counts = record { fault = λ is. absurd (omega (arith, is)); quiet = λ _. counts.1 }
-writes (ends.Line number) streams counts = record { fault = λ is. absurd (omega (arith, is)); quiet = λ _. counts.1 }
-writes ends.TooMany streams counts = record { fault = λ is. absurd (omega (arith, is)); quiet = λ _. counts.1 }
-writes ends.ReadFault streams counts = record { fault = λ is. absurd (omega (arith, is)); quiet = λ _. counts.1 }
-writes ends.WriteFault streams counts = record { fault = λ _. counts.1; quiet = λ never. absurd (never refl) }
-writes ends.NoMemory streams counts = record { fault = λ is. absurd (omega (arith, is)); quiet = λ _. counts.1 }
+pub writes : (end : DrillEnd) (streams : Streams) → CountsAt end streams → TellsFaults WriteFault (code_of (status_of end)) streams.write_faults streams.later_write_faults
+writes ends.Read streams counts = (λ is. absurd (omega (arith, is)), λ _. counts.1)
+writes (ends.Line number) streams counts = (λ is. absurd (omega (arith, is)), λ _. counts.1)
+writes ends.TooMany streams counts = (λ is. absurd (omega (arith, is)), λ _. counts.1)
+writes ends.ReadFault streams counts = (λ is. absurd (omega (arith, is)), λ _. counts.1)
+writes ends.WriteFault streams counts = (λ _. counts.1, λ never. absurd (never refl))
+writes ends.NoMemory streams counts = (λ is. absurd (omega (arith, is)), λ _. counts.1)
 
 -- a generated script ends with no read fault, and with none of the others
 pub no_fault_of_input : (seed count : ℕ) (end : DrillEnd) (streams : Streams) → GeneratedAt seed count end streams

@@ -1,10 +1,9 @@
 -- What is told in parts.
 use Rattle.std.proofs.Common.{◌≡◌, ℕ, ◌≤◌, inl, inr, List, ◌++◌, Option, Result, Ok, Err, OnOk, OnErr, ◌∙◌, ap}
-use Rattle.as4_flow.specs.Faults.{Rose}
-use Rattle.as4_flow.specs.Told.{behind, TakesFront}
-use Rattle.as4_flow.proofs.FaultsLemmas.{Rose_from}
-use Rattle.as4_flow.proofs.ToldLemmas.{behind_append, takes_longer, takes_more}
-use Rattle.as4_tool.specs.Telling.{Tells}
+use Rattle.as4_flow.specs.Flow.{Rose, appended, TakesFront}
+use Rattle.as4_flow.proofs.FlowLemmas.{Rose_from}
+use Rattle.as4_flow.proofs.FlowLemmas.{appended_append, takes_longer, takes_more}
+use Rattle.as4_tool.specs.Status.{Tells}
 
 -- a front of the first part and then a fault are a front of all parts
 pub tells_front : (text more : List ℕ) (taken later : Option (List ℕ)) (faults later_faults : ℕ)
@@ -13,16 +12,16 @@ tells_front text more taken later faults later_faults front rose = inr (takes_lo
 
 -- a part was told, and then the rest
 pub tells_next : (text more : List ℕ) (taken mid later : Option (List ℕ)) (faults mid_faults later_faults : ℕ)
-    → mid ≡ behind taken text → faults ≤ mid_faults → Tells more mid later mid_faults later_faults
+    → mid ≡ appended taken text → faults ≤ mid_faults → Tells more mid later mid_faults later_faults
     → Tells (text ++ more) taken later faults later_faults
 tells_next text more taken mid later faults mid_faults later_faults told counted (inl all) =
-    inl (all ∙ ap (λ (t : Option (List ℕ)). behind t more) told ∙ behind_append taken text more)
+    inl (all ∙ ap (λ (t : Option (List ℕ)). appended t more) told ∙ appended_append taken text more)
 tells_next text more taken mid later faults mid_faults later_faults told counted (inr front) =
     inr (takes_more text more taken mid later told front.0, Rose_from faults mid_faults later_faults counted front.1)
 
 -- what was sent was told, or a front of it and then the errors failed
 pub tells_sent : {A F : Type 0} (r : Result A F) (text : List ℕ) (taken later : Option (List ℕ)) (faults later_faults : ℕ)
-    → OnOk r (later ≡ behind taken text) → OnErr r (Rose faults later_faults) → TakesFront text taken later
+    → OnOk r (later ≡ appended taken text) → OnErr r (Rose faults later_faults) → TakesFront text taken later
     → Tells text taken later faults later_faults
 tells_sent (Ok a) text taken later faults later_faults ok err front = inl ok
 tells_sent (Err e) text taken later faults later_faults ok err front = inr (front, err)

@@ -2,12 +2,11 @@
 use Rattle.std.specs.Prelude.{◌≡◌, ℕ, List, Bool, Result, Ok, Err}
 use Rattle.as4_values.specs.declared.signal.Signal.{Signal}
 use Rattle.as4_values.specs.declared.message.Message.TheVariants as message
-use Rattle.message_model.specs.Wire.{IsFile}
+use Rattle.message_model.specs.Wire.{IsFile, media_and_body}
 use Rattle.as4_codes.specs.Signals.{IsReceiptOf, IsErrorSignalOf}
-use Rattle.as4_message.specs.FileReading.{media_and_body}
 use Rattle.as4_message.specs.Line.{IsLine}
 use Rattle.as4_message.specs.Meaning.{ReceivedValue, user, signal, pair, Means}
-use Rattle.as4_message.specs.declared.refusal.Refusal.{Refusal}
+use Rattle.as4_message.specs.declared.received.Refusal.{Refusal}
 
 -- what the media text and the body of a message file mean
 abbrev pub FileMeans : List ℕ → Result ReceivedValue Refusal → Type 0

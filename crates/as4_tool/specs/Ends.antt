@@ -1,12 +1,11 @@
 -- How a run ends: with which status, and what it has written then.
-use Rattle.std.specs.Prelude.{◌≡◌, ℕ, ◌≤◌, ◌⊎◌, List, [], ◌∷◌, Bool, if◌then◌else◌, Option, None, length}
-use Rattle.as4_flow.specs.Flow.{Streams}
-use Rattle.as4_flow.specs.Told.{Told, behind, TakesFront}
+use Rattle.std.specs.Prelude.{◌≡◌, ◌≢◌, ℕ, ◌≤◌, ◌⊎◌, List, [], ◌∷◌, Bool, if◌then◌else◌, Option, None, length}
+use Rattle.as4_flow.specs.Flow.{Streams, Told, Rose, appended, TakesFront}
 use Rattle.drill.specs.Ends.{Ends as DrillEnds}
 use Rattle.drill.specs.Generated.{GeneratedEnds}
 use Rattle.drill.specs.declared.script.DrillEnd.{DrillEnd}
 use Rattle.as4_tool.specs.Answer.{IsAnswer, IsFileLine}
-use Rattle.as4_tool.specs.Status.{IsOneOf, status_of}
+use Rattle.as4_tool.specs.Status.{IsOneOf, code_of, status_of}
 use Rattle.as4_tool.specs.declared.texts.TheConstants.{HELP, VERSION}
 use Rattle.as4_tool.specs.declared.running.TheConstants.{LIMIT}
 use Rattle.as4_tool.specs.declared.command.Command.{Command}
@@ -17,11 +16,16 @@ use Rattle.as4_tool.specs.declared.status.Status.TheVariants.{Done, Refused, Rea
 -- the whole text was written behind what was taken, and the run ends so, or a front of it and then the output failed
 abbrev pub WritesAs : Status → List ℕ → Status → Option (List ℕ) → Option (List ℕ) → Type 0
 WritesAs end text status taken later =
-    ((status ≡ end) × (later ≡ behind taken text))
+    ((status ≡ end) × (later ≡ appended taken text))
     ⊎ ((status ≡ WriteFault) × TakesFront text taken later)
 
 abbrev pub Writes : List ℕ → Status → Option (List ℕ) → Option (List ℕ) → Type 0
 Writes text status taken later = WritesAs Done text status taken later
+
+-- by the exit status, this fault is told only where the stream has failed, and where it isn't its count is as it was
+abbrev pub TellsFaults : Status → ℕ → ℕ → ℕ → Type 0
+TellsFaults fault code faults later =
+    (code ≡ code_of fault → Rose faults later) × (code ≢ code_of fault → later ≡ faults)
 
 -- the input is within the limit and was read to its end, and its answer was written
 abbrev pub Answers : ℕ → ℕ → Status → Streams → Type 0

@@ -2,4 +2,3 @@ pub mod Answer
 pub mod Command
 pub mod Status
 pub mod Ends
-pub mod Telling

@@ -1,6 +1,7 @@
--- The exit statuses of the program, and the line that tells each: its own choice.
-use Rattle.std.specs.Prelude.{◌≡◌, ℕ, ◌⊎◌, List, [], ◌∷◌, ◌++◌, codes}
+-- The exit statuses of the program, and the line that tells each on the errors: its own choice.
+use Rattle.std.specs.Prelude.{◌≡◌, ℕ, ◌⊎◌, List, [], ◌∷◌, ◌++◌, Option, codes}
 use Rattle.std.specs.Fmt.{decimal}
+use Rattle.as4_flow.specs.Flow.{Rose, appended, TakesFront}
 use Rattle.drill.specs.declared.script.DrillEnd.{DrillEnd}
 use Rattle.drill.specs.declared.script.DrillEnd.TheVariants as ends
 use Rattle.as4_tool.specs.declared.status.Status.{Status}
@@ -36,6 +37,11 @@ line_of TooManyEvents = codes "more than 100000 events\n"
 line_of NotUser = codes "not a user message\n"
 line_of TooLong = codes "input too long\n"
 line_of BadWords = codes "bad words\n"
+
+-- the whole text was told, or a front of it and then the errors failed
+abbrev pub Tells : List ℕ → Option (List ℕ) → Option (List ℕ) → ℕ → ℕ → Type 0
+Tells text taken later faults later_faults =
+    (later ≡ appended taken text) ⊎ (TakesFront text taken later × Rose faults later_faults)
 
 -- the status of a drill's end
 abbrev pub status_of : DrillEnd → Status

@@ -3,8 +3,7 @@
 ghost use Rattle.std.specs.Prelude.{◌≡◌, ◌≤◌, Ok, None, Some, IfOk, MatchOption};
 ghost use Rattle.as4_values.specs.declared.signal.Signal.{Signal as SignalValue};
 ghost use Rattle.message_model.specs.Wire.{IsFile};
-ghost use Rattle.as4_message.specs.Views.{received_value};
-ghost use Rattle.as4_message.specs.Answers.{AnswersBy};
+ghost use Rattle.as4_message.specs.Meaning.{received_value, AnswersBy};
 ghost use Rattle.as4_tool.specs.Answer.{FileMeans, IsReply, IsAnswer, IsSignal, IsSignalFile, IsFileLine};
 
 use as4_codes::receipt;

@@ -7,15 +7,13 @@
 //!     drill --generate SEED COUNT     the numbers that a generated script leads to   0, 4, 5
 //!     other words                                                                    64
 ghost use Rattle.std.specs.Prelude.{◌≡◌, ◌≢◌, if◌then◌else◌, ℕ, [], ◌+◌, ◌<◌, ◌≤◌, ◌↔◌, List, None, length, IfOk, IsErrOf, MatchResult};
-ghost use Rattle.as4_flow.specs.Told.{Told, LosesFront};
-ghost use Rattle.as4_flow.specs.Faults.{Rose};
+ghost use Rattle.as4_flow.specs.Flow.{Told, LosesFront, between, flow};
 ghost use Rattle.drill.specs.Generated.{GeneratedEnds};
 ghost use Rattle.drill.specs.declared.script.DrillEnd.{DrillEnd};
 ghost use Rattle.as4_tool.specs.Command.{Spells, IsCommand, AsksOfFile, AsksDrill};
-ghost use Rattle.as4_tool.specs.Status.{code_of, line_of, status_of};
+ghost use Rattle.as4_tool.specs.Status.{code_of, line_of, status_of, Tells};
 ghost use Rattle.as4_tool.specs.Answer.{IsSignalFile};
-ghost use Rattle.as4_tool.specs.Ends.{Writes, WritesAs, Ends};
-ghost use Rattle.as4_tool.specs.Telling.{Tells};
+ghost use Rattle.as4_tool.specs.Ends.{Writes, WritesAs, TellsFaults, Ends};
 
 use crate::answers::{answer_file, check_file};
 use crate::command::{Command, command_of};
@@ -45,27 +43,18 @@ pub fn run<I: Source, O: Sink, E: Sink>(
     // The exit status is that of an end, its line is told on the errors, and each command ends so.
     ensures ends { (status : Status) × (result ≡ code_of status)
         × Tells (line_of status) (E.taken errors.old) (E.taken errors.new) (E.faults errors.old) (E.faults errors.new)
-        × ((command : Command) → Spells words.now command → Ends command status (record {
-          left = I.left input.old;
-          rest = I.left input.new;
-          taken = O.taken output.old;
-          later = O.taken output.new;
-          read_faults = I.faults input.old;
-          later_read_faults = I.faults input.new;
-          write_faults = O.faults output.old;
-          later_write_faults = O.faults output.new;
-        })) }
+        × ((command : Command) → Spells words.now command → Ends command status (between
+        (flow (I.left input.old) (O.taken output.old) (I.faults input.old) (O.faults output.old))
+        (flow (I.left input.new) (O.taken output.new) (I.faults input.new) (O.faults output.new)))) }
+
+    // A fault of the input or the output is told only where there was one, and none is read over or written over.
+    ensures read_faults { TellsFaults Status.ReadFault result (I.faults input.old) (I.faults input.new) }
+    ensures write_faults { TellsFaults Status.WriteFault result (O.faults output.old) (O.faults output.new) }
 
     // What each other status comes from.
-    ensures read_fault { result ≡ code_of Status.ReadFault → Rose (I.faults input.old) (I.faults input.new) }
-    ensures write_fault { result ≡ code_of Status.WriteFault → Rose (O.faults output.old) (O.faults output.new) }
     ensures too_long { result ≡ code_of Status.TooLong → Told (I.left input.old) (λ file. LIMIT < length file) }
     ensures not_user { result ≡ code_of Status.NotUser →
         Told (I.left input.old) (λ file. (length file ≤ LIMIT) × IsSignalFile file) × Told (I.left input.new) (λ rest. rest ≡ []) }
-
-    // No fault is read over or written over.
-    ensures read_quiet { result ≢ code_of Status.ReadFault → I.faults input.new ≡ I.faults input.old }
-    ensures write_quiet { result ≢ code_of Status.WriteFault → O.faults output.new ≡ O.faults output.old }
 
     // Of a message file a front is read, of one byte above the limit at most.
     ensures reads { AsksOfFile words.now → LosesFront (LIMIT + 1) (I.left input.old) (I.left input.new) }
@@ -91,25 +80,16 @@ fn obey<I: Source, O: Sink>(
 ) -> Status
     ensures bad_words { (code_of result ≡ code_of Status.BadWords) ↔ ¬ IsCommand words.now }
     ensures command { code_of result ≢ code_of Status.BadWords → IsCommand words.now }
-    ensures ends { (command : Command) → Spells words.now command → Ends command result (record {
-      left = I.left input.old;
-      rest = I.left input.new;
-      taken = O.taken output.old;
-      later = O.taken output.new;
-      read_faults = I.faults input.old;
-      later_read_faults = I.faults input.new;
-      write_faults = O.faults output.old;
-      later_write_faults = O.faults output.new;
-    }) }
+    ensures ends { (command : Command) → Spells words.now command → Ends command result (between
+        (flow (I.left input.old) (O.taken output.old) (I.faults input.old) (O.faults output.old))
+        (flow (I.left input.new) (O.taken output.new) (I.faults input.new) (O.faults output.new))) }
 
-    ensures read_fault { code_of result ≡ code_of Status.ReadFault → Rose (I.faults input.old) (I.faults input.new) }
-    ensures write_fault { code_of result ≡ code_of Status.WriteFault → Rose (O.faults output.old) (O.faults output.new) }
+    ensures read_faults { TellsFaults Status.ReadFault (code_of result) (I.faults input.old) (I.faults input.new) }
+    ensures write_faults { TellsFaults Status.WriteFault (code_of result) (O.faults output.old) (O.faults output.new) }
     ensures too_long { code_of result ≡ code_of Status.TooLong → Told (I.left input.old) (λ file. LIMIT < length file) }
     ensures not_user { code_of result ≡ code_of Status.NotUser →
         Told (I.left input.old) (λ file. (length file ≤ LIMIT) × IsSignalFile file) × Told (I.left input.new) (λ rest. rest ≡ []) }
 
-    ensures read_quiet { code_of result ≢ code_of Status.ReadFault → I.faults input.new ≡ I.faults input.old }
-    ensures write_quiet { code_of result ≢ code_of Status.WriteFault → O.faults output.new ≡ O.faults output.old }
     ensures reads { AsksOfFile words.now → LosesFront (LIMIT + 1) (I.left input.old) (I.left input.new) }
     ensures silent { ¬ AsksDrill words.now → code_of result ≢ code_of Status.Done → code_of result ≢ code_of Status.Refused →
         code_of result ≢ code_of Status.WriteFault → O.taken output.new ≡ O.taken output.old }
@@ -130,8 +110,7 @@ fn obey<I: Source, O: Sink>(
 // Writes all the bytes.
 fn write<O: Sink>(output: &mut O, bytes: &[u8]) -> Status
     ensures writes { Writes bytes.now result (O.taken output.old) (O.taken output.new) }
-    ensures fault { code_of result ≡ code_of Status.WriteFault → Rose (O.faults output.old) (O.faults output.new) }
-    ensures quiet { code_of result ≢ code_of Status.WriteFault → O.faults output.new ≡ O.faults output.old }
+    ensures faults { TellsFaults Status.WriteFault (code_of result) (O.faults output.old) (O.faults output.new) }
     ensures counted { O.faults output.old ≤ O.faults output.new }
 {
     write_as(Status::Done, output, bytes)
@@ -141,8 +120,7 @@ fn write<O: Sink>(output: &mut O, bytes: &[u8]) -> Status
 fn write_as<O: Sink>(end: Status, output: &mut O, bytes: &[u8]) -> Status
     requires { code_of end ≢ code_of Status.WriteFault }
     ensures writes { WritesAs end bytes.now result (O.taken output.old) (O.taken output.new) }
-    ensures fault { code_of result ≡ code_of Status.WriteFault → Rose (O.faults output.old) (O.faults output.new) }
-    ensures quiet { code_of result ≢ code_of Status.WriteFault → O.faults output.new ≡ O.faults output.old }
+    ensures faults { TellsFaults Status.WriteFault (code_of result) (O.faults output.old) (O.faults output.new) }
     ensures counted { O.faults output.old ≤ O.faults output.new }
 {
     match send_all(output, bytes) {
@@ -160,25 +138,16 @@ fn answer<I: Source, O: Sink>(
     output: &mut O,
 ) -> Status
     requires { stamp ≤ MAX_MOMENT }
-    ensures ends { Ends (Command.Answer stamp nonce) result (record {
-      left = I.left input.old;
-      rest = I.left input.new;
-      taken = O.taken output.old;
-      later = O.taken output.new;
-      read_faults = I.faults input.old;
-      later_read_faults = I.faults input.new;
-      write_faults = O.faults output.old;
-      later_write_faults = O.faults output.new;
-    }) }
+    ensures ends { Ends (Command.Answer stamp nonce) result (between
+        (flow (I.left input.old) (O.taken output.old) (I.faults input.old) (O.faults output.old))
+        (flow (I.left input.new) (O.taken output.new) (I.faults input.new) (O.faults output.new))) }
 
-    ensures read_fault { code_of result ≡ code_of Status.ReadFault → Rose (I.faults input.old) (I.faults input.new) }
-    ensures write_fault { code_of result ≡ code_of Status.WriteFault → Rose (O.faults output.old) (O.faults output.new) }
+    ensures read_faults { TellsFaults Status.ReadFault (code_of result) (I.faults input.old) (I.faults input.new) }
+    ensures write_faults { TellsFaults Status.WriteFault (code_of result) (O.faults output.old) (O.faults output.new) }
     ensures too_long { code_of result ≡ code_of Status.TooLong → Told (I.left input.old) (λ file. LIMIT < length file) }
     ensures not_user { code_of result ≡ code_of Status.NotUser →
         Told (I.left input.old) (λ file. (length file ≤ LIMIT) × IsSignalFile file) × Told (I.left input.new) (λ rest. rest ≡ []) }
 
-    ensures read_quiet { code_of result ≢ code_of Status.ReadFault → I.faults input.new ≡ I.faults input.old }
-    ensures write_quiet { code_of result ≢ code_of Status.WriteFault → O.faults output.new ≡ O.faults output.old }
     ensures reads { LosesFront (LIMIT + 1) (I.left input.old) (I.left input.new) }
     ensures silent { code_of result ≢ code_of Status.Done → code_of result ≢ code_of Status.WriteFault →
         O.taken output.new ≡ O.taken output.old }
@@ -199,22 +168,13 @@ fn answer<I: Source, O: Sink>(
 
 // Reads the input to its end and writes its line.
 fn check<I: Source, O: Sink>(alloc: Global, input: &mut I, output: &mut O) -> Status
-    ensures ends { Ends Command.Check result (record {
-      left = I.left input.old;
-      rest = I.left input.new;
-      taken = O.taken output.old;
-      later = O.taken output.new;
-      read_faults = I.faults input.old;
-      later_read_faults = I.faults input.new;
-      write_faults = O.faults output.old;
-      later_write_faults = O.faults output.new;
-    }) }
+    ensures ends { Ends Command.Check result (between
+        (flow (I.left input.old) (O.taken output.old) (I.faults input.old) (O.faults output.old))
+        (flow (I.left input.new) (O.taken output.new) (I.faults input.new) (O.faults output.new))) }
 
-    ensures read_fault { code_of result ≡ code_of Status.ReadFault → Rose (I.faults input.old) (I.faults input.new) }
-    ensures write_fault { code_of result ≡ code_of Status.WriteFault → Rose (O.faults output.old) (O.faults output.new) }
+    ensures read_faults { TellsFaults Status.ReadFault (code_of result) (I.faults input.old) (I.faults input.new) }
+    ensures write_faults { TellsFaults Status.WriteFault (code_of result) (O.faults output.old) (O.faults output.new) }
     ensures too_long { code_of result ≡ code_of Status.TooLong → Told (I.left input.old) (λ file. LIMIT < length file) }
-    ensures read_quiet { code_of result ≢ code_of Status.ReadFault → I.faults input.new ≡ I.faults input.old }
-    ensures write_quiet { code_of result ≢ code_of Status.WriteFault → O.faults output.new ≡ O.faults output.old }
     ensures others { (code_of result ≢ code_of Status.NotUser) × (code_of result ≢ code_of Status.BadWords) }
     ensures reads { LosesFront (LIMIT + 1) (I.left input.old) (I.left input.new) }
     ensures silent { code_of result ≢ code_of Status.Done → code_of result ≢ code_of Status.Refused →
@@ -245,21 +205,12 @@ fn end_of(refused: bool) -> Status
 
 // Runs the script that the input has.
 fn play<I: Source, O: Sink>(alloc: Global, input: &mut I, output: &mut O) -> Status
-    ensures ends { Ends Command.Drill result (record {
-      left = I.left input.old;
-      rest = I.left input.new;
-      taken = O.taken output.old;
-      later = O.taken output.new;
-      read_faults = I.faults input.old;
-      later_read_faults = I.faults input.new;
-      write_faults = O.faults output.old;
-      later_write_faults = O.faults output.new;
-    }) }
+    ensures ends { Ends Command.Drill result (between
+        (flow (I.left input.old) (O.taken output.old) (I.faults input.old) (O.faults output.old))
+        (flow (I.left input.new) (O.taken output.new) (I.faults input.new) (O.faults output.new))) }
 
-    ensures read_fault { code_of result ≡ code_of Status.ReadFault → Rose (I.faults input.old) (I.faults input.new) }
-    ensures write_fault { code_of result ≡ code_of Status.WriteFault → Rose (O.faults output.old) (O.faults output.new) }
-    ensures read_quiet { code_of result ≢ code_of Status.ReadFault → I.faults input.new ≡ I.faults input.old }
-    ensures write_quiet { code_of result ≢ code_of Status.WriteFault → O.faults output.new ≡ O.faults output.old }
+    ensures read_faults { TellsFaults Status.ReadFault (code_of result) (I.faults input.old) (I.faults input.new) }
+    ensures write_faults { TellsFaults Status.WriteFault (code_of result) (O.faults output.old) (O.faults output.new) }
     ensures others { (code_of result ≢ code_of Status.TooLong) × (code_of result ≢ code_of Status.NotUser) ×
         (code_of result ≢ code_of Status.BadWords) }
     ensures counted { (I.faults input.old ≤ I.faults input.new) × (O.faults output.old ≤ O.faults output.new) }
@@ -270,19 +221,10 @@ fn play<I: Source, O: Sink>(alloc: Global, input: &mut I, output: &mut O) -> Sta
 // Runs a generated script.
 fn generate<O: Sink>(alloc: Global, seed: u64, count: u64, output: &mut O) -> Status
     requires { count ≤ 1000 }
-    ensures ends { (end : DrillEnd) × (result ≡ status_of end) × GeneratedEnds seed count end (record {
-      left = None;
-      rest = None;
-      taken = O.taken output.old;
-      later = O.taken output.new;
-      read_faults = 0;
-      later_read_faults = 0;
-      write_faults = O.faults output.old;
-      later_write_faults = O.faults output.new;
-    }) }
+    ensures ends { (end : DrillEnd) × (result ≡ status_of end) × GeneratedEnds seed count end (between
+        (flow None (O.taken output.old) 0 (O.faults output.old)) (flow None (O.taken output.new) 0 (O.faults output.new))) }
 
-    ensures write_fault { code_of result ≡ code_of Status.WriteFault → Rose (O.faults output.old) (O.faults output.new) }
-    ensures write_quiet { code_of result ≢ code_of Status.WriteFault → O.faults output.new ≡ O.faults output.old }
+    ensures write_faults { TellsFaults Status.WriteFault (code_of result) (O.faults output.old) (O.faults output.new) }
     ensures others { (code_of result ≢ code_of Status.ReadFault) × (code_of result ≢ code_of Status.TooLong) ×
         (code_of result ≢ code_of Status.NotUser) × (code_of result ≢ code_of Status.BadWords) }
     ensures silent { code_of result ≢ code_of Status.Done → code_of result ≢ code_of Status.WriteFault →

@@ -8,7 +8,7 @@
 //!      5  no memory
 ghost use Rattle.std.specs.Prelude.{◌≡◌, ◌≤◌, ◌++◌, codes};
 ghost use Rattle.std.specs.Fmt.{decimal};
-ghost use Rattle.as4_tool.specs.Telling.{Tells};
+ghost use Rattle.as4_tool.specs.Status.{Tells};
 
 use as4_flow::{SendFailed, Sink, send_all};
 use drill::DrillEnd;

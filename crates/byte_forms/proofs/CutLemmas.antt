@@ -103,6 +103,11 @@ run_again class front rest run stops =
     let len = run_len class front rest run.1 stops in
     rw (ne_eqb (prefix_len class (front ++ rest)) 0 (omega (arith, run.0, len)), take_again class front rest run.1 stops, skip_again class front rest run.1 stops) refl
 
+-- there is none
+pub run_none : (class : ℕ → Bool) (bytes : List ℕ) → Stops class bytes → run_at class bytes ≡ None
+unfolding run_at
+run_none class bytes stops = rw (run_len class [] bytes refl stops) refl
+
 -- ---- words
 
 pub behind_takes : (word bytes rest : List ℕ) → behind word bytes ≡ Some rest → bytes ≡ word ++ rest

@@ -3,10 +3,8 @@ use Rattle.std.proofs.Common.{◌≡◌, ℕ, ◌+◌, ◌<◌, ◌≤◌, inl, 
 use Rattle.std.proofs.lemmas.Bool.{and_parts, leb-true}
 use Rattle.std.proofs.lemmas.List.{append-nil}
 use Rattle.std.proofs.lemmas.List.Concat.{flat_map-append}
-use Rattle.as4_flow.specs.Faults.{Rose}
-use Rattle.as4_flow.specs.Flow.{Flow, between, flow}
-use Rattle.as4_flow.specs.Told.{Told, before, behind, LosesFront, TakesFront}
-use Rattle.as4_flow.proofs.ToldLemmas.{before_nil, before_append, behind_nil, behind_append, takes_more}
+use Rattle.as4_flow.specs.Flow.{Rose, Flow, between, flow, Told, before, appended, LosesFront, TakesFront}
+use Rattle.as4_flow.proofs.FlowLemmas.{before_nil, before_append, appended_nil, appended_append, takes_more}
 use Rattle.drill.specs.Ends.{Ends, IsOutside, IsTooMuch, Played}
 use Rattle.drill.specs.Next.{HoldsNoLine}
 use Rattle.drill.specs.Running.{SoFar}
@@ -92,7 +90,7 @@ so_far_none state held start new none = record {
   few = omega arith;
   came = sym (before_nil (before held start.left) ∙ ap (λ (l : List ℕ). before l start.left) none ∙ before_nil start.left);
   ahead = omega (arith, ap length none);
-  wrote = sym (behind_nil start.taken);
+  wrote = sym (appended_nil start.taken);
   read = refl;
   written = refl;
 }
@@ -121,7 +119,7 @@ held_less front held within = omega (arith, within, length-append front (10 ∷ 
 -- a line was played and its text written
 pub so_far_played : (l : Line) (words : List ℕ) (state new : DrillState) (held : List ℕ) (count : ℕ) (start now : Flow) (taken : Option (List ℕ)) (writes : ℕ)
     → SoFar state (parted 10 (line_text l) held) count start now → Turn l words state new → count < lines_limit
-    → taken ≡ behind now.taken words → writes ≡ now.writes
+    → taken ≡ appended now.taken words → writes ≡ now.writes
     → SoFar new held (count + 1) start (flow now.left taken now.reads writes)
 so_far_played l words state new held count start now taken writes s turn few wrote quiet = record {
   lines = s.lines ++ l ∷ [];
@@ -131,7 +129,7 @@ so_far_played l words state new held count start now taken writes s turn few wro
   few = omega (arith, few);
   came = came_more s.lines l held start.left now.left s.came;
   ahead = held_less (line_text l) held s.ahead;
-  wrote = wrote ∙ ap (λ (told : Option (List ℕ)). behind told words) s.wrote ∙ behind_append start.taken s.text words;
+  wrote = wrote ∙ ap (λ (told : Option (List ℕ)). appended told words) s.wrote ∙ appended_append start.taken s.text words;
   read = s.read;
   written = quiet ∙ s.written;
 }
@@ -320,7 +318,7 @@ ends_unread law state held count start now reads s rose = (
 -- all was read and written
 pub ends_read : Delivers → (state : DrillState) (held : List ℕ) (count : ℕ) (start now : Flow) (taken : Option (List ℕ)) (writes : ℕ)
     → SoFar state held count start now → Told (before held now.left) (λ bytes. bytes ≡ [])
-    → taken ≡ behind now.taken (end_lines state.world) → writes ≡ now.writes
+    → taken ≡ appended now.taken (end_lines state.world) → writes ≡ now.writes
     → Ends ends.Read (between start (flow now.left taken now.reads writes))
 ends_read law state held count start now taken writes s none wrote quiet = (
   s.lines,
@@ -329,7 +327,7 @@ ends_read law state held count start now taken writes s none wrote quiet = (
   played_so_far law state held count start now s,
   (
     nothing_told (script_text s.lines) start.left (before held now.left) s.came none,
-    wrote ∙ ap (λ (told : Option (List ℕ)). behind told (end_lines state.world)) s.wrote ∙ behind_append start.taken s.text (end_lines state.world),
+    wrote ∙ ap (λ (told : Option (List ℕ)). appended told (end_lines state.world)) s.wrote ∙ appended_append start.taken s.text (end_lines state.world),
   ),
   (s.read, quiet ∙ s.written),
   nothing_left held now.left none,

@@ -1,6 +1,6 @@
 -- What stands next in a script.
 use Rattle.std.proofs.Common.{◌≡◌, ◌≢◌, ℕ, ◌+◌, ◌<◌, ◌≤◌, List, ◌∷◌, ◌++◌, length, take, Option, None, Some, IsTrue, sym, ◌∙◌, ap, subst, arith, append_assoc, length-append}
-use Rattle.as4_flow.specs.Told.{Told, before}
+use Rattle.as4_flow.specs.Flow.{Told, before}
 use Rattle.drill.specs.Next.{HoldsNoLine}
 use Rattle.drill_script.specs.Lacking.{Lacks, parted}
 use Rattle.drill_script.specs.Lines.{BeginsLong}

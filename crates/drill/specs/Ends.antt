@@ -1,8 +1,6 @@
 -- How a drill ends: what it has read, and what it has written then.
 use Rattle.std.specs.Prelude.{◌≡◌, ℕ, ◌+◌, ◌<◌, ◌≤◌, ◌⊎◌, List, [], ◌∷◌, ◌++◌, true, false, Option, length}
-use Rattle.as4_flow.specs.Faults.{Rose}
-use Rattle.as4_flow.specs.Flow.{Streams}
-use Rattle.as4_flow.specs.Told.{Told, behind, LosesFront, TakesFront}
+use Rattle.as4_flow.specs.Flow.{Rose, Streams, Told, appended, LosesFront, TakesFront}
 use Rattle.drill.specs.Transcript.{DrillState, PlaysAll, new_state, script_text, end_lines, is_right, is_too_many, lines_limit}
 use Rattle.drill.specs.declared.script.DrillEnd.{DrillEnd}
 use Rattle.drill.specs.declared.script.DrillEnd.TheVariants as ends
@@ -37,22 +35,22 @@ IsTooMuch lines state rest =
 -- by what was played: its text was written, and what comes behind it is as said
 abbrev pub EndsAt : DrillEnd → List Line → List ℕ → DrillState → Streams → Type 0
 EndsAt ends.Read lines text state streams =
-    Reads lines [] streams × (streams.later ≡ behind streams.taken (text ++ end_lines state.world))
+    Reads lines [] streams × (streams.later ≡ appended streams.taken (text ++ end_lines state.world))
 EndsAt (ends.Line number) lines text state streams =
-    (number ≡ length lines + 1) × (streams.later ≡ behind streams.taken text)
+    (number ≡ length lines + 1) × (streams.later ≡ appended streams.taken text)
     × Told streams.left (λ script. (rest : List ℕ) × (script ≡ script_text lines ++ rest) × IsOutside lines state rest)
 EndsAt ends.TooMany lines text state streams =
-    (streams.later ≡ behind streams.taken text)
+    (streams.later ≡ appended streams.taken text)
     × Told streams.left (λ script. (rest : List ℕ) × (script ≡ script_text lines ++ rest) × IsTooMuch lines state rest)
 EndsAt ends.ReadFault lines text state streams =
-    (streams.later ≡ behind streams.taken text)
+    (streams.later ≡ appended streams.taken text)
     × Told streams.left (λ script. (rest : List ℕ) × (script ≡ script_text lines ++ rest))
 EndsAt ends.WriteFault lines text state streams =
     (TakesFront text streams.taken streams.later
     × Told streams.left (λ script. (rest : List ℕ) × (script ≡ script_text lines ++ rest)))
     ⊎ (TakesFront (text ++ end_lines state.world) streams.taken streams.later × Reads lines [] streams)
 EndsAt ends.NoMemory lines text state streams =
-    (streams.later ≡ behind streams.taken text)
+    (streams.later ≡ appended streams.taken text)
     × Told streams.left (λ script. (rest : List ℕ) × (script ≡ script_text lines ++ rest))
 
 -- a count of faults has risen where the drill ended by it, and the others are as they were

@@ -7,10 +7,9 @@
 -- the package is lost where c mod 3 is 2; else it comes, and where c mod 5 is 4 it comes once more, with the reply lost.
 -- The first answer to a message that came is carried next, by the same rule. Last, a's clock is set to 33,000.
 use Rattle.std.specs.Prelude.{◌≡◌, ℕ, zero, suc, ◌+◌, ◌*◌, ◌/◌, ◌%◌, ◌^◌, ◌==◌, ◌⊎◌, List, [], ◌∷◌, ◌++◌, true, false, if◌then◌else◌, None, Some, length, codes}
-use Rattle.as4_flow.specs.Flow.{Streams}
+use Rattle.as4_flow.specs.Flow.{Streams, appended, TakesFront}
 use Rattle.as4_effects.specs.declared.effect.Effect.TheVariants as effect
 use Rattle.as4_effects.specs.declared.queue.Queue.TheVariants as queue
-use Rattle.as4_flow.specs.Told.{behind, TakesFront}
 use Rattle.drill.specs.Ends.{CountsAt}
 use Rattle.drill.specs.Transcript.{DrillState, PlaysAll, new_state, end_lines}
 use Rattle.drill.specs.declared.script.DrillEnd.{DrillEnd}
@@ -117,7 +116,7 @@ IsGenerated seed count state =
 abbrev pub GeneratedAt : ℕ → ℕ → DrillEnd → Streams → Type 0
 GeneratedAt seed count ends.Read streams =
     (state : DrillState) × IsGenerated seed count state × HasDeliveredOnce state.world
-    × (streams.later ≡ behind streams.taken (end_lines state.world))
+    × (streams.later ≡ appended streams.taken (end_lines state.world))
 GeneratedAt seed count ends.WriteFault streams =
     (state : DrillState) × IsGenerated seed count state × HasDeliveredOnce state.world
     × TakesFront (end_lines state.world) streams.taken streams.later

@@ -1,6 +1,6 @@
 -- What stands next in a script.
 use Rattle.std.specs.Prelude.{◌≡◌, ℕ, ◌<◌, ◌≤◌, List, ◌∷◌, ◌++◌, IsTrue, Option, length}
-use Rattle.as4_flow.specs.Told.{before}
+use Rattle.as4_flow.specs.Flow.{before}
 use Rattle.drill.specs.declared.next.Next.{Next}
 use Rattle.drill.specs.declared.next.Next.TheVariants as next
 use Rattle.drill_script.specs.LineText.{line_text, is_line, line_limit}

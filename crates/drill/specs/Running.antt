@@ -1,7 +1,6 @@
 -- How far a drill has come.
 use Rattle.std.specs.Prelude.{◌≡◌, ℕ, ◌≤◌, List, Option, length}
-use Rattle.as4_flow.specs.Flow.{Flow}
-use Rattle.as4_flow.specs.Told.{before, behind}
+use Rattle.as4_flow.specs.Flow.{Flow, before, appended}
 use Rattle.drill.specs.Transcript.{DrillState, PlaysAll, new_state, script_text, lines_limit}
 use Rattle.drill_script.specs.Lines.{ahead_limit}
 use Rattle.drill_script.specs.declared.line.Line.{Line}
@@ -16,6 +15,6 @@ pub record SoFar (state : DrillState) (held : List ℕ) (count : ℕ) (start now
   pub few : count ≤ lines_limit
   pub came : start.left ≡ before (script_text lines) (before held now.left)
   pub ahead : length held ≤ ahead_limit
-  pub wrote : now.taken ≡ behind start.taken text
+  pub wrote : now.taken ≡ appended start.taken text
   pub read : now.reads ≡ start.reads
   pub written : now.writes ≡ start.writes

@@ -1,7 +1,6 @@
 //! The next line of a script, read.
 ghost use Rattle.std.specs.Prelude.{◌≡◌, ◌≢◌, [], ◌≤◌, IsTrue, length};
-ghost use Rattle.as4_flow.specs.Faults.{Rose};
-ghost use Rattle.as4_flow.specs.Told.{Told, before};
+ghost use Rattle.as4_flow.specs.Flow.{Rose, Told, before};
 ghost use Rattle.drill.specs.Next.{HoldsNoLine, IfLine, ReadsAhead};
 ghost use Rattle.drill_script.specs.Lacking.{parted};
 ghost use Rattle.drill_script.specs.LineParts.{BeginsKept};

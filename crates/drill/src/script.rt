@@ -1,7 +1,6 @@
 //! A script is read line by line, and each line is played.
 ghost use Rattle.std.specs.Prelude.{◌⊎◌, Some, false, true, ◌≡◌, ℕ, [], ◌+◌, ◌<◌, ◌≤◌, List, Option, IsNone, IsTrue, MatchOption, length};
-ghost use Rattle.as4_flow.specs.Flow.{Flow, between, flow};
-ghost use Rattle.as4_flow.specs.Told.{Told, before};
+ghost use Rattle.as4_flow.specs.Flow.{Flow, between, flow, Told, before};
 ghost use Rattle.drill.specs.Ends.{Ends};
 ghost use Rattle.drill.specs.Running.{SoFar};
 ghost use Rattle.drill.specs.Transcript.{is_right, is_too_many, lines_limit};
@@ -41,27 +40,40 @@ pub enum DrillEnd {
 /// Runs the script on two ends, and writes a line for each that does something. Where the script ends early, or a fault
 /// comes, what the lines before have written stays.
 pub fn drill<S: Source, K: Sink>(alloc: Global, source: &mut S, sink: &mut K) -> DrillEnd
-    ensures ends { Ends result (record {
-      left = S.left source.old;
-      rest = S.left source.new;
-      taken = K.taken sink.old;
-      later = K.taken sink.new;
-      read_faults = S.faults source.old;
-      later_read_faults = S.faults source.new;
-      write_faults = K.faults sink.old;
-      later_write_faults = K.faults sink.new;
-    }) }
+    ensures ends { Ends result (between
+        (flow (S.left source.old) (K.taken sink.old) (S.faults source.old) (K.faults sink.old))
+        (flow (S.left source.new) (K.taken sink.new) (S.faults source.new) (K.faults sink.new))) }
     ensures counted { (S.faults source.old ≤ S.faults source.new) × (K.faults sink.old ≤ K.faults sink.new) }
 {
     a_drill_delivers_once();
-    let mut reader = LineReader::new(alloc);
-    let mut state = match DrillState::new(alloc) {
-        Ok(state) => state,
-        Err(_) => return DrillEnd::NoMemory,
-    };
+    match DrillState::new(alloc) {
+        Ok(mut state) => {
+            let mut reader = LineReader::new(alloc);
+            let end = play_lines(alloc, &mut reader, source, &mut state, sink);
+            drop(reader);
+            drop(state);
+            end
+        }
+        Err(_) => DrillEnd::NoMemory,
+    }
+}
+
+// Reads, plays and writes line by line, until the drill ends.
+fn play_lines<S: Source, K: Sink>(
+    alloc: Global,
+    reader: &mut LineReader,
+    source: &mut S,
+    state: &mut DrillState,
+    sink: &mut K,
+) -> DrillEnd
+    ensures ends { (start : Flow)
+        → SoFar state.old reader.old 0 start (flow (S.left source.old) (K.taken sink.old) (S.faults source.old) (K.faults sink.old))
+        → Ends result (between start (flow (S.left source.new) (K.taken sink.new) (S.faults source.new) (K.faults sink.new))) }
+    ensures counted { (S.faults source.old ≤ S.faults source.new) × (K.faults sink.old ≤ K.faults sink.new) }
+{
     let mut played = 0;
     'lines: loop {
-        if let Some(end) = play_next(alloc, &mut reader, source, &mut state, sink, played) {
+        if let Some(end) = play_next(alloc, reader, source, state, sink, played) {
             return end;
         }
         played += 1;

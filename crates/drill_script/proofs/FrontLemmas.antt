@@ -2,7 +2,7 @@
 use Rattle.std.proofs.Common.{◌≡◌, ℕ, zero, suc, ◌⊎◌, inl, inr, refl, ◌+◌, ◌<◌, ◌≤◌, Bool, true, false, cond, Option, None, Some, List, [], ◌∷◌, ◌++◌, length, take, drop, sym, ◌∙◌, ap, subst, arith, append_assoc, length-append}
 use Rattle.std.proofs.lemmas.List.{take-append-drop, take_at, drop_at, length-take-le, take-append-le, take-take, take_all, append-nil}
 use Rattle.std.proofs.Math.Seq.{take-append-add}
-use Rattle.as4_flow.specs.Told.{Told, before}
+use Rattle.as4_flow.specs.Flow.{Told, before}
 use Rattle.memchr.specs.Find.{IsFirstByte, is_byte}
 use Rattle.drill_script.specs.Fronts.{BeginsLine}
 use Rattle.drill_script.specs.Lacking.{Lacks, parted}

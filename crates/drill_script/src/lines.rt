@@ -6,8 +6,7 @@
 //! holds moves to the front, so that each byte is moved once and searched for an LF once.
 ghost use Rattle.std.specs.Prelude.{◌≡◌, ◌≢◌, ℕ, [], ◌+◌, ◌++◌, ◌<◌, ◌≤◌, length, take, drop, IfOk, OnOk};
 ghost use Rattle.std.specs.Result.{OnErr};
-ghost use Rattle.as4_flow.specs.Faults.{Rose};
-ghost use Rattle.as4_flow.specs.Told.{Told, before};
+ghost use Rattle.as4_flow.specs.Flow.{Rose, Told, before};
 ghost use Rattle.drill_script.specs.Lacking.{Lacks, parted};
 
 use crate::pieces::{drop_front, front_of, read_piece};

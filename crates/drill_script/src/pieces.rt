@@ -1,7 +1,6 @@
 //! The bytes that a reader of lines holds, and the pieces that it reads behind them.
 ghost use Rattle.std.specs.Prelude.{◌≡◌, ◌≢◌, [], ◌+◌, ◌<◌, ◌≤◌, length, take, drop};
-ghost use Rattle.as4_flow.specs.Faults.{Rose};
-ghost use Rattle.as4_flow.specs.Told.{Told, before};
+ghost use Rattle.as4_flow.specs.Flow.{Rose, Told, before};
 ghost use Rattle.drill_script.specs.Fronts.{Has, MatchFilled};
 ghost use Rattle.drill_script.specs.Lacking.{Lacks};
 ghost use Rattle.drill_script.specs.LineText.{line_limit};

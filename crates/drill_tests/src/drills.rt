@@ -45,7 +45,7 @@ pub(crate) fn plays_made(
 }
 
 /// The front, so many times the middle, and the back.
-fn repeated(
+pub(crate) fn repeated(
     alloc: Global,
     front: &[u8],
     middle: &[u8],

@@ -1,16 +1,14 @@
 //! What no clause says: that memory suffices. Power that fails in a line, and between two; journals that are folded.
-use crate::drills::{plays, plays_made};
+use crate::drills::{plays, plays_made, repeated};
 use drill::DrillEnd;
-use std::alloc::{AllocError, Global};
+use std::alloc::Global;
 
-/// A line that is stopped: what the script has before it, and what that writes; the line, and what is written of its
-/// stop; what the script has behind it, and what that writes where the step of the line is gone, and where it stands.
+/// A line that is stopped: what the script has before it, the line and what the script has behind it; what is written up
+/// to the stop, and behind it where the step of the line is gone, and where it stands.
 struct Stop {
     front: &'static [u8],
+    rest: &'static [u8],
     front_text: &'static [u8],
-    line: &'static [u8],
-    stop_text: &'static [u8],
-    back: &'static [u8],
     gone: &'static [u8],
     stands: &'static [u8],
 }
@@ -19,10 +17,8 @@ struct Stop {
 const STOPS: [Stop; 5] = [
     Stop {
         front: b"mode m push 3 1000\n",
-        front_text: b"",
-        line: b"submit a m hex=61\n",
-        stop_text: b"a reopened\n",
-        back: b"status a 0\ntake a\n",
+        rest: b"submit a m hex=61\nstatus a 0\ntake a\n",
+        front_text: b"a reopened\n",
         gone: b"a status 0 unknown
 a nothing
 a end 0 0 0 0 0
@@ -36,12 +32,11 @@ b end 0 0 0 0 0
     },
     Stop {
         front: b"mode m push 0 1000\nsubmit a m hex=61\ntake a\n",
+        rest: b"tick a 1000\nstatus a 0\n",
         front_text: b"a submitted 0 0.00000000-0000-0000-0000-000000000000@as4
 a sent 0 user 0.00000000-0000-0000-0000-000000000000@as4
+a reopened
 ",
-        line: b"tick a 1000\n",
-        stop_text: b"a reopened\n",
-        back: b"status a 0\n",
         gone: b"a status 0 pending 1
 a end 1 0 0 0 0
 b end 0 0 0 0 0
@@ -53,10 +48,10 @@ b end 0 0 0 0 0
     },
     Stop {
         front: b"mode m push 3 1000\nsubmit a m hex=61\n",
-        front_text: b"a submitted 0 0.00000000-0000-0000-0000-000000000000@as4\n",
-        line: b"take a\n",
-        stop_text: b"a reopened\n",
-        back: b"status a 0\ncame b 0\n",
+        rest: b"take a\nstatus a 0\ncame b 0\n",
+        front_text: b"a submitted 0 0.00000000-0000-0000-0000-000000000000@as4
+a reopened
+",
         gone: b"a status 0 pending 0
 b no-package
 a end 1 0 0 0 0
@@ -70,12 +65,11 @@ b end 0 0 0 0 0
     },
     Stop {
         front: b"mode m push 3 1000\nsubmit a m hex=61\ntake a\n",
+        rest: b"came b 0\nread b 0\ncame b 0\n",
         front_text: b"a submitted 0 0.00000000-0000-0000-0000-000000000000@as4
 a sent 0 user 0.00000000-0000-0000-0000-000000000000@as4
+b reopened
 ",
-        line: b"came b 0\n",
-        stop_text: b"b reopened\n",
-        back: b"read b 0\ncame b 0\n",
         gone: b"b no-entry
 b sent 0 receipt 0.00000000-0000-0000-0000-000000000000@as4
 a end 1 0 0 0 0
@@ -89,13 +83,12 @@ b end 0 0 0 0 1
     },
     Stop {
         front: b"mode m push 3 1000\nsubmit a m hex=61\ntake a\ncame b 0\n",
+        rest: b"confirm b 0\nread b 0\n",
         front_text: b"a submitted 0 0.00000000-0000-0000-0000-000000000000@as4
 a sent 0 user 0.00000000-0000-0000-0000-000000000000@as4
 b sent 0 receipt 0.00000000-0000-0000-0000-000000000000@as4
+b reopened
 ",
-        line: b"confirm b 0\n",
-        stop_text: b"b reopened\n",
-        back: b"read b 0\n",
         gone: b"b entry 0 0.00000000-0000-0000-0000-000000000000@as4 1 1
 a end 1 0 0 0 0
 b end 0 0 0 0 1
@@ -107,68 +100,29 @@ b end 0 0 0 0 1
     },
 ];
 
-/// A device call and an image of the disk, as a script spells them, and whether the step of a line that is stopped there
-/// stands.
+/// A stop at a device call with an image of the disk, as a script spells them, and whether the step of the line stands.
 const PLACES: [(&[u8], bool); 12] = [
-    (b"1 old ", false),
-    (b"1 new ", false),
-    (b"1 other ", false),
-    (b"2 old ", false),
-    (b"2 new ", false),
-    (b"2 other ", false),
-    (b"3 old ", false),
-    (b"3 new ", true),
-    (b"3 other ", false),
-    (b"4 old ", false),
-    (b"4 new ", true),
-    (b"4 other ", false),
+    (b"stop 1 old ", false),
+    (b"stop 1 new ", false),
+    (b"stop 1 other ", false),
+    (b"stop 2 old ", false),
+    (b"stop 2 new ", false),
+    (b"stop 2 other ", false),
+    (b"stop 3 old ", false),
+    (b"stop 3 new ", true),
+    (b"stop 3 other ", false),
+    (b"stop 4 old ", false),
+    (b"stop 4 new ", true),
+    (b"stop 4 other ", false),
 ];
-
-/// The script with the line stopped there.
-fn stopped_script(alloc: Global, stop: &Stop, place: &[u8]) -> Result<Vec<u8>, AllocError> {
-    let mut bytes = Vec::new(alloc);
-    match put_stopped(&mut bytes, stop, place) {
-        Ok(()) => Ok(bytes),
-        Err(error) => {
-            drop(bytes);
-            Err(error)
-        }
-    }
-}
-
-fn put_stopped(bytes: &mut Vec<u8>, stop: &Stop, place: &[u8]) -> Result<(), AllocError> {
-    bytes.extend_from_slice(stop.front)?;
-    bytes.extend_from_slice(b"stop ")?;
-    bytes.extend_from_slice(place)?;
-    bytes.extend_from_slice(stop.line)?;
-    bytes.extend_from_slice(stop.back)
-}
-
-/// What is written where this is left behind the stop.
-fn stopped_text(alloc: Global, stop: &Stop, left: &[u8]) -> Result<Vec<u8>, AllocError> {
-    let mut bytes = Vec::new(alloc);
-    match put_text(&mut bytes, stop, left) {
-        Ok(()) => Ok(bytes),
-        Err(error) => {
-            drop(bytes);
-            Err(error)
-        }
-    }
-}
-
-fn put_text(bytes: &mut Vec<u8>, stop: &Stop, left: &[u8]) -> Result<(), AllocError> {
-    bytes.extend_from_slice(stop.front_text)?;
-    bytes.extend_from_slice(stop.stop_text)?;
-    bytes.extend_from_slice(left)
-}
 
 fn stops_so(alloc: Global, stop: &Stop, place: &[u8], stands: bool) -> bool {
     let left = if stands { stop.stands } else { stop.gone };
     plays_made(
         alloc,
-        stopped_script(alloc, stop, place),
+        repeated(alloc, stop.front, place, 1, stop.rest),
         DrillEnd::Read,
-        stopped_text(alloc, stop, left),
+        repeated(alloc, stop.front_text, left, 1, b""),
     )
 }
 

@@ -10,7 +10,7 @@ use Rattle.as4_disk.specs.Image.{Image}
 use Rattle.as4_disk.specs.Runs.{FirstThen, LeavesOnly}
 use Rattle.as4_disk.proofs.RunLemmas.{no_call, then}
 use Rattle.as4_effects.specs.declared.effect.Effect.{Effect}
-use Rattle.as4_flow.specs.Told.{Told}
+use Rattle.as4_flow.specs.Flow.{Told}
 use Rattle.event_code.specs.Spelled.{AreSpelled, IsSpelledEffect}
 use Rattle.exchange_model.specs.Apply.{record_len}
 use Rattle.exchange_model.specs.End.{End, empty_end}

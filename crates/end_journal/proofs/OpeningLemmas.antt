@@ -5,7 +5,7 @@ use Rattle.std.proofs.lemmas.Bool.{cases_lt}
 use Rattle.as4_disk.specs.Image.{Image}
 use Rattle.as4_disk.specs.Runs.{FirstThen, LeavesOnly}
 use Rattle.as4_disk.proofs.RunLemmas.{then, weaken}
-use Rattle.as4_flow.specs.Told.{Told}
+use Rattle.as4_flow.specs.Flow.{Told}
 use Rattle.exchange_model.specs.End.{End, empty_end}
 use Rattle.exchange_model.specs.Fold.{IsFoldedSize, folded_size, resized}
 use Rattle.fold_laws.specs.Reached.{IsReached}

@@ -3,7 +3,7 @@ use Rattle.std.proofs.Common.{◌≡◌, inl, inr, ℕ, ◌+◌, ◌<◌, ◌≤
 use Rattle.as4_disk.specs.Image.{Image}
 use Rattle.as4_disk.specs.Runs.{LeavesOnly}
 use Rattle.as4_disk.proofs.RunLemmas.{no_call, then}
-use Rattle.as4_flow.specs.Told.{Told}
+use Rattle.as4_flow.specs.Flow.{Told}
 use Rattle.as4_effects.specs.Effects.{effects_body}
 use Rattle.as4_effects.specs.declared.effect.Effect.{Effect}
 use Rattle.exchange_model.specs.Apply.{record_len}

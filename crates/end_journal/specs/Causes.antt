@@ -1,6 +1,6 @@
 -- What a call that makes other calls tells of a disk that failed.
 use Rattle.std.specs.Prelude.{◌≡◌, ℕ, ◌≤◌}
-use Rattle.as4_flow.specs.Faults.{Rose}
+use Rattle.as4_flow.specs.Flow.{Rose}
 use Rattle.journal.specs.declared.fault.JournalFault.{JournalFault}
 use Rattle.journal.specs.declared.fault.JournalFault.TheVariants.{Disk}
 

@@ -1,7 +1,7 @@
 -- What is read of a journal, and what it leads to.
 use Rattle.std.specs.Prelude.{◌≡◌, ℕ, ◌+◌, ◌<◌, List, [], ◌∷◌, ◌++◌, Option, length}
 use Rattle.as4_disk.specs.Image.{Image}
-use Rattle.as4_flow.specs.Told.{Told}
+use Rattle.as4_flow.specs.Flow.{Told}
 use Rattle.end_records.specs.Records.{RecordLeads, RecordsLead}
 use Rattle.exchange_model.specs.End.{End, empty_end}
 use Rattle.journal.specs.Leaf.{Lists, front_of, limit_of, width_of}

@@ -3,7 +3,7 @@ ghost use Rattle.std.specs.Prelude.{◌≡◌, ℕ, ◌+◌, ◌≤◌, ◌^◌,
 ghost use Rattle.as4_disk.specs.Image.{Image};
 ghost use Rattle.as4_disk.specs.Runs.{LeavesOnly, MakesAll};
 ghost use Rattle.as4_effects.specs.Effects.{effects_body, effects_limit};
-ghost use Rattle.as4_flow.specs.Told.{Told};
+ghost use Rattle.as4_flow.specs.Flow.{Told};
 ghost use Rattle.end_journal.specs.Frames.{IsFrameOf};
 ghost use Rattle.end_records.specs.Opens.{IsAtOneOf, IsJournalOf};
 ghost use Rattle.end_records.specs.Records.{RecordLeads};

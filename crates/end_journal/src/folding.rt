@@ -5,7 +5,7 @@ ghost use Rattle.std.specs.List.{slice_get};
 ghost use Rattle.as4_disk.specs.Image.{Image};
 ghost use Rattle.as4_disk.specs.Runs.{FirstThen, LeavesOnly};
 ghost use Rattle.as4_effects.specs.declared.effect.Effect.{Effect as EffectValue};
-ghost use Rattle.as4_flow.specs.Told.{Told};
+ghost use Rattle.as4_flow.specs.Flow.{Told};
 ghost use Rattle.end_journal.specs.Adding.{AddsPart, HasAdded};
 ghost use Rattle.end_journal.specs.Causes.{IsDiskSince};
 ghost use Rattle.end_records.specs.Opens.{IsAt, IsJournalOf};
@@ -187,9 +187,7 @@ fn frame_of_one(alloc: Global, effect: Effect) -> Result<Frame, NoMemory>
     ensures body { IfOk result (λ frame. frame ≡ alone effect) }
     ensures spelled { IfOk result (λ _. IsSpelledEffect effect) }
 {
-    let mut effects = Vec::with_capacity(alloc, 1)?;
-    effects.push(effect)?;
-    let effects = Seq::of(effects);
+    let effects = Seq::of(only(alloc, effect)?);
     // So it isn't too long for a record.
     let _ = body_len(&effects);
     let frame = frame_of(alloc, &effects);
@@ -198,4 +196,19 @@ fn frame_of_one(alloc: Global, effect: Effect) -> Result<Frame, NoMemory>
         Some(frame) => Ok(frame),
         None => unreachable!(),
     }
+}
+
+// A list of this value alone. That it is of any type keeps the proof of what lets go of an effect out of here.
+fn only<T: Drop>(alloc: Global, item: T) -> Result<Vec<T>, NoMemory>
+    ensures { IfOk result (λ list. list.items ≡ item ∷ []) }
+{
+    let mut list = match Vec::with_capacity(alloc, 1) {
+        Ok(list) => list,
+        Err(_) => {
+            drop(item);
+            return Err(NoMemory);
+        }
+    };
+    list.push(item)?;
+    Ok(list)
 }

@@ -1,7 +1,7 @@
 //! How the records of a journal are read, and their effects made again.
 ghost use Rattle.std.specs.Prelude.{◌≡◌, ℕ, ◌+◌, ◌≤◌, ◌^◌, List, [], IfErr, IfOk, OnOk, is_some, length, true, false};
 ghost use Rattle.as4_disk.specs.Runs.{LeavesOnly, Quiet};
-ghost use Rattle.as4_flow.specs.Told.{Told};
+ghost use Rattle.as4_flow.specs.Flow.{Told};
 ghost use Rattle.end_journal.specs.Causes.{IsDiskSince};
 ghost use Rattle.end_journal.specs.Reading.{EndsReading, HasReplayedAll, ReadsOn};
 ghost use Rattle.end_records.specs.Records.{RecordLeads, RecordsLead};

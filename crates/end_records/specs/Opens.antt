@@ -2,7 +2,7 @@
 -- they have in version 2, which is what an office writes.
 use Rattle.std.specs.Prelude.{◌≡◌, ◌⊎◌, ℕ, ◌+◌, List, Option, IsNone}
 use Rattle.as4_disk.specs.Image.{Image}
-use Rattle.as4_flow.specs.Told.{Told}
+use Rattle.as4_flow.specs.Flow.{Told}
 use Rattle.end_records.specs.Records.{RecordLeads, RecordsLead}
 use Rattle.exchange_model.specs.End.{End, empty_end}
 use Rattle.exchange_model.specs.Fold.{IsFoldedSize, resized}

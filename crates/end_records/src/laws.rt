@@ -8,7 +8,7 @@ ghost use Rattle.as4_disk.specs.declared.change.Pick.{Pick};
 ghost use Rattle.as4_disk.specs.declared.change.Pick.TheVariants.{New};
 ghost use Rattle.as4_disk.specs.declared.part.Part.{Part};
 ghost use Rattle.as4_effects.specs.declared.effect.Effect.{Effect};
-ghost use Rattle.as4_flow.specs.Told.{Told};
+ghost use Rattle.as4_flow.specs.Flow.{Told};
 ghost use Rattle.end_records.specs.Opens.{IsAt, IsJournalOf, IsOld, OpensAs, OpensWith, ReadsAs};
 ghost use Rattle.end_records.specs.Puts.{Puts};
 ghost use Rattle.end_records.specs.Records.{RecordLeads, RecordsLead, alone};

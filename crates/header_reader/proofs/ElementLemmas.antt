@@ -7,7 +7,7 @@ use Rattle.std.proofs.lemmas.List.{drop_more, take-append-drop}
 use Rattle.std.proofs.lemmas.List.Elements.{filter-append}
 use Rattle.as4_envelope.specs.declared.tree.Element.{Element}
 use Rattle.header_reader.specs.declared.names.ElementName.{ElementName}
-use Rattle.header_reader.specs.Gives.{◌>>=◌}
+use Rattle.byte_forms.specs.Cuts.{◌>>=◌}
 use Rattle.header_reader.specs.Elements.{is_named, named, at_most_one}
 
 -- the children from this one on

@@ -5,7 +5,7 @@ use Rattle.as4_envelope.specs.Tree.{ebms}
 use Rattle.as4_envelope.specs.declared.tree.Attribute.{Attribute}
 use Rattle.as4_envelope.specs.declared.tree.Element.{Element}
 use Rattle.as4_envelope.specs.declared.tree.Element.TheViews.{out-Element}
-use Rattle.header_reader.specs.Gives.{◌>>=◌}
+use Rattle.byte_forms.specs.Cuts.{◌>>=◌}
 use Rattle.header_reader.specs.Names.{element_name, attribute_name}
 use Rattle.header_reader.specs.Values.{optional}
 use Rattle.header_reader.specs.declared.names.AttributeName.{AttributeName}

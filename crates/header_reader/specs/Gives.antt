@@ -3,12 +3,6 @@ use Rattle.std.specs.Prelude.{◌≡◌, Option, Some, None, Result, Ok, Err}
 use Rattle.header_reader.specs.declared.refusal.HeaderRefusal.{HeaderRefusal}
 use Rattle.header_reader.specs.declared.refusal.HeaderRefusal.TheVariants.{Invalid, Unsupported, NoMemory}
 
-infixl 10 ◌>>=◌
--- and then: nothing where one of the two is nothing
-abbrev pub ◌>>=◌ : {X Y : Type 0} → Option X → (X → Option Y) → Option Y
-None >>= next = None
-(Some x) >>= next = next x
-
 -- a refusal where nothing is given; for want of memory nothing is said
 abbrev pub Refuses : {X : Type 0} → HeaderRefusal → Option X → Type 0
 Refuses Invalid given = given ≡ None

@@ -9,7 +9,7 @@ use Rattle.as4_values.specs.declared.signal_body.Severity.TheVariants.{Failure, 
 use Rattle.as4_values.specs.declared.signal_body.SignalBody.{SignalBody}
 use Rattle.as4_values.specs.declared.signal_body.SignalBody.TheVariants as body
 use Rattle.header_reader.specs.Elements.{optional_attribute, attribute, child, optional_child, children, holding}
-use Rattle.header_reader.specs.Gives.{◌>>=◌}
+use Rattle.byte_forms.specs.Cuts.{◌>>=◌}
 use Rattle.header_reader.specs.Made.{signal_from}
 use Rattle.header_reader.specs.User.{info_of, maybe_text, user_of}
 use Rattle.header_reader.specs.Values.{text_of, id_of, code_of}

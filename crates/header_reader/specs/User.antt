@@ -10,7 +10,7 @@ use Rattle.as4_values.specs.declared.header.Property.{Property}
 use Rattle.as4_values.specs.declared.header.PartInfo.{PartInfo}
 use Rattle.as4_values.specs.declared.header.UserHeader.{UserHeader}
 use Rattle.header_reader.specs.Elements.{optional_attribute, attribute, child, optional_child, children, holding, leaf}
-use Rattle.header_reader.specs.Gives.{◌>>=◌}
+use Rattle.byte_forms.specs.Cuts.{◌>>=◌}
 use Rattle.header_reader.specs.Made.{side_from, part_from, header_from}
 use Rattle.header_reader.specs.Values.{text_of, id_of, stamp_of, optional}
 use Rattle.header_reader.specs.declared.names.AttributeName.TheVariants as attr

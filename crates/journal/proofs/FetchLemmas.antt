@@ -3,7 +3,7 @@ use Rattle.std.proofs.Common.{◌≡◌, ℕ, ◌<◌, Option, List, [], ◌∷�
 use Rattle.std.specs.Prelude.{flat_map}
 use Rattle.std.proofs.lemmas.List.{drop_at}
 use Rattle.std.proofs.lemmas.List.Concat.{flat_map-append}
-use Rattle.as4_flow.specs.Told.{Told}
+use Rattle.as4_flow.specs.Flow.{Told}
 use Rattle.as4_disk.specs.declared.part.Part.{Part}
 use Rattle.as4_disk.specs.Image.{Image}
 use Rattle.journal.specs.declared.version.Version.{Version}

@@ -3,7 +3,7 @@ use Rattle.std.proofs.Common.{◌≡◌, ◌≢◌, inl, ℕ, ◌<◌, Bool, Lis
 use Rattle.std.proofs.lemmas.List.{drop_at}
 use Rattle.as4_disk.specs.Bytes.{Torn}
 use Rattle.as4_disk.specs.Image.{Image}
-use Rattle.as4_flow.specs.Told.{Told}
+use Rattle.as4_flow.specs.Flow.{Told}
 use Rattle.as4_disk.specs.declared.part.Part.{Part}
 use Rattle.as4_disk.specs.Runs.{LeavesOnly, Quiet}
 use Rattle.as4_disk.proofs.ByteLemmas.{torn_byte}

@@ -8,7 +8,7 @@ use Rattle.as4_disk.specs.declared.part.Part.TheVariants.{Selector}
 use Rattle.as4_disk.specs.Bytes.{IsOverwritten, Torn}
 use Rattle.as4_disk.specs.Image.{Image, On, IsOnly, TornFrom}
 use Rattle.as4_disk.specs.Runs.{Goes, Follows, Within}
-use Rattle.as4_flow.specs.Told.{Told}
+use Rattle.as4_flow.specs.Flow.{Told}
 use Rattle.as4_disk.proofs.ByteLemmas.{overwritten_behind}
 use Rattle.as4_disk.proofs.ImageLemmas.{only_elsewhere, only_within}
 use Rattle.journal.specs.declared.version.Version.{Version}

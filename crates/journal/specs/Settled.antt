@@ -1,7 +1,7 @@
 -- What stands of the disk of a journal once the picked leaf is settled.
 use Rattle.std.specs.Prelude.{◌≡◌, ℕ, ◌<◌, ◌≤◌, Bool, not, List, [], ◌∷◌, ◌++◌, Option, Some, length}
 use Rattle.as4_disk.specs.declared.part.Part.TheVariants.{Selector}
-use Rattle.as4_flow.specs.Told.{Told}
+use Rattle.as4_flow.specs.Flow.{Told}
 use Rattle.as4_disk.specs.Image.{Image, IsOnly}
 use Rattle.journal.specs.declared.version.Version.{Version}
 use Rattle.journal.specs.declared.version.Version.TheVariants.{Two}

@@ -1,6 +1,6 @@
 //! How a record is appended.
 ghost use Rattle.std.specs.Prelude.{◌≡◌, ◌+◌, ◌<◌, ◌≤◌, ◌^◌, ◌++◌, [], ◌∷◌, List, ℕ, IfOk, IfErr, OnOk, IsErr, IsNone, length, is_ok, is_some};
-ghost use Rattle.as4_flow.specs.Told.{Told};
+ghost use Rattle.as4_flow.specs.Flow.{Told};
 ghost use Rattle.as4_disk.specs.Runs.{LeavesOnly, MakesAll};
 
 use crate::store::add_record;

@@ -1,6 +1,6 @@
 //! How a journal is folded: other records that stand for its own are written to the other leaf, which is then picked.
 ghost use Rattle.std.specs.Prelude.{◌≡◌, ◌+◌, ◌<◌, ◌≤◌, ◌^◌, ◌++◌, [], ◌∷◌, List, ℕ, Some, IfOk, IfErr, OnOk, IsNone, IsSome, IsSomeAnd, length, is_some};
-ghost use Rattle.as4_flow.specs.Told.{Told};
+ghost use Rattle.as4_flow.specs.Flow.{Told};
 ghost use Rattle.as4_disk.specs.Runs.{LeavesOnly, FirstThen};
 
 use crate::other::{empty_other, finish_other, write_other};

@@ -6,7 +6,7 @@
 //! A gate is open as the byte 1 and closed as any other. A record that is written has a gate 0 behind it before its own
 //! gate is opened; so a crash leaves the records before it, and this one or not.
 ghost use Rattle.std.specs.Prelude.{◌≡◌, ◌+◌, ◌<◌, ◌≤◌, ◌^◌, [], ◌++◌, ◌∷◌, IfOk, IfErr, IsNone, unwrap_or, is_some};
-ghost use Rattle.as4_flow.specs.Told.{Told};
+ghost use Rattle.as4_flow.specs.Flow.{Told};
 ghost use Rattle.as4_disk.specs.Runs.{FirstThen, Quiet};
 
 use crate::JournalFault;

@@ -1,6 +1,6 @@
 //! What a fold does to the disk: it fills the leaf that isn't picked, settles it, and then picks it.
 ghost use Rattle.std.specs.Prelude.{◌≡◌, ◌⊎◌, ℕ, ◌≤◌, List, [], ◌∷◌, ◌++◌, not, length, OnOk, is_some};
-ghost use Rattle.as4_flow.specs.Told.{Told};
+ghost use Rattle.as4_flow.specs.Flow.{Told};
 ghost use Rattle.as4_disk.specs.Bytes.{overwritten};
 ghost use Rattle.as4_disk.specs.Runs.{LeavesOnly, FirstThen, HasCause};
 ghost use Rattle.journal.specs.Leaf.{front_of};

@@ -1,7 +1,6 @@
 //! How a gate is passed: the record behind an open one is read, and a closed one that isn't 0 is closed to 0.
 ghost use Rattle.std.specs.Prelude.{◌≡◌, ◌++◌, ◌∷◌, ◌<◌, ◌≤◌, ◌^◌, length, IfOk, IsErrOf, is_some};
-ghost use Rattle.as4_flow.specs.Told.{Told};
-ghost use Rattle.as4_flow.specs.Faults.{Rose};
+ghost use Rattle.as4_flow.specs.Flow.{Told, Rose};
 ghost use Rattle.as4_disk.specs.Runs.{LeavesOnly, Quiet};
 ghost use Rattle.journal.specs.Leaf.{front_of, limit_of};
 ghost use Rattle.journal.specs.Reading.{IsWithin, IsAhead};

@@ -1,7 +1,6 @@
 //! What stands at a gate of a leaf: a record, a closed gate, or neither.
 ghost use Rattle.std.specs.Prelude.{◌≡◌, ℕ, ◌+◌, ◌<◌, ◌≤◌, ◌^◌, List, length, take, drop, IfOk, IfSome, IfNone, OnOk, IsErrOf};
-ghost use Rattle.as4_flow.specs.Told.{Told};
-ghost use Rattle.as4_flow.specs.Faults.{Rose};
+ghost use Rattle.as4_flow.specs.Flow.{Told, Rose};
 ghost use Rattle.as4_disk.specs.Runs.{Quiet, HasCause};
 ghost use Rattle.journal.specs.Leaf.{width_of, limit_of};
 ghost use Rattle.journal.specs.Reading.{IsNext, IsThere, IsWithin, IsAhead, IsLength, IsHead, HasNoBody, IsBodyAt};

@@ -1,6 +1,6 @@
 //! The records of a journal, read one after the other, and one of them by its gate.
 ghost use Rattle.std.specs.Prelude.{◌≡◌, ◌+◌, ◌<◌, ◌≤◌, ◌^◌, ◌++◌, [], ◌∷◌, IfOk, IfErr, IfSome, IfNone, OnErr, IsErrOf, length, is_some};
-ghost use Rattle.as4_flow.specs.Told.{Told};
+ghost use Rattle.as4_flow.specs.Flow.{Told};
 ghost use Rattle.as4_disk.specs.Runs.{LeavesOnly, Quiet};
 
 use crate::passing::pass;

@@ -1,7 +1,6 @@
 //! How a leaf is picked, settled and known, before its records are read.
 ghost use Rattle.std.specs.Prelude.{◌≡◌, ◌≤◌, ◌++◌, [], IfOk, IfSome, IfNone, IsErrOf, List, ℕ, length, take, is_some};
-ghost use Rattle.as4_flow.specs.Told.{Told};
-ghost use Rattle.as4_flow.specs.Faults.{Rose};
+ghost use Rattle.as4_flow.specs.Flow.{Told, Rose};
 ghost use Rattle.as4_disk.specs.Runs.{FirstThen, LeavesOnly, Quiet};
 ghost use Rattle.journal.specs.Leaf.{magic_of, IsBroken, IsNew};
 ghost use Rattle.journal.specs.Store.{KeepsLeaf, picked_leaf, picks, is_second_of};

@@ -1,6 +1,6 @@
 //! What a journal does to its disk: writes to the picked leaf that are durable once they have answered.
 ghost use Rattle.std.specs.Prelude.{◌≡◌, ℕ, ◌+◌, ◌<◌, ◌≤◌, ◌^◌, List, [], ◌∷◌, ◌++◌, length, drop, OnOk, is_ok, is_some};
-ghost use Rattle.as4_flow.specs.Told.{Told};
+ghost use Rattle.as4_flow.specs.Flow.{Told};
 ghost use Rattle.as4_disk.specs.Bytes.{Torn};
 ghost use Rattle.as4_disk.specs.Runs.{LeavesOnly, HasCause, MakesAll};
 ghost use Rattle.as4_disk.specs.declared.change.Change.TheVariants.{Synced, Wrote};

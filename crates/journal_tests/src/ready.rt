@@ -1,6 +1,6 @@
 //! A journal whose records have all been read.
 ghost use Rattle.std.specs.Prelude.{◌≡◌, List, ℕ, IfOk, IsNone};
-ghost use Rattle.as4_flow.specs.Told.{Told};
+ghost use Rattle.as4_flow.specs.Flow.{Told};
 ghost use Rattle.journal.specs.State.{HasRecords};
 
 use as4_disk::{Disk, MemoryDisk};

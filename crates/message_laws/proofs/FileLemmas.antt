@@ -11,8 +11,7 @@ use Rattle.as4_values.specs.declared.message.Message.{Message}
 use Rattle.as4_values.specs.declared.message.Message.TheVariants as message
 use Rattle.byte_forms.proofs.CutLemmas.{behind_again}
 use Rattle.message_model.specs.Package.{crlf, envelope_media, package_media}
-use Rattle.message_model.specs.Wire.{media_of, message_file, IsWire, IsFile}
-use Rattle.as4_message.specs.FileReading.{cut_at, file_at, media_and_body}
+use Rattle.message_model.specs.Wire.{media_of, message_file, IsWire, IsFile, cut_at, file_at, media_and_body}
 use Rattle.package_laws.proofs.DigitLemmas.{digits_pass}
 
 -- no byte of it is CR

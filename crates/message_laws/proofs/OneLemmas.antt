@@ -2,11 +2,10 @@
 use Rattle.std.proofs.Common.{◌≡◌, ℕ, List, [], ◌∷◌, Result, Ok, Err, map, refl, sym, ap, ap₂, ◌∙◌}
 use Rattle.as4_effects.proofs.PartLemmas.{payload_told}
 use Rattle.as4_message.proofs.MeaningLemmas.{one_meaning_of}
-use Rattle.as4_message.specs.Answers.{AnswersBy, Copies}
+use Rattle.as4_message.specs.Meaning.{AnswersBy, Copies, ReceivedValue, user, signal, pair, Means, IsMessage, payload_value}
 use Rattle.as4_message.specs.Attached.{AttachedValue}
-use Rattle.as4_message.specs.Meaning.{ReceivedValue, user, signal, pair, Means, IsMessage, payload_value}
-use Rattle.as4_message.specs.declared.refusal.MessageRefusal.{MessageRefusal}
-use Rattle.as4_message.specs.declared.refusal.MessageRefusal.TheVariants.{Refused, NoMemory}
+use Rattle.as4_message.specs.declared.received.MessageRefusal.{MessageRefusal}
+use Rattle.as4_message.specs.declared.received.MessageRefusal.TheVariants.{Refused, NoMemory}
 use Rattle.as4_values.specs.declared.message.Message.{Message}
 use Rattle.as4_values.specs.declared.message.Message.TheVariants as message
 use Rattle.as4_values.specs.declared.payload.Payload.{Payload}

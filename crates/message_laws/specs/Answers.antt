@@ -1,7 +1,7 @@
 -- What the reader of messages has to answer.
 use Rattle.std.specs.Prelude.{◌≡◌, Result, Ok, Err}
-use Rattle.as4_message.specs.declared.refusal.MessageRefusal.{MessageRefusal}
-use Rattle.as4_message.specs.declared.refusal.MessageRefusal.TheVariants.{Refused, NoMemory}
+use Rattle.as4_message.specs.declared.received.MessageRefusal.{MessageRefusal}
+use Rattle.as4_message.specs.declared.received.MessageRefusal.TheVariants.{Refused, NoMemory}
 use Rattle.as4_values.specs.declared.message.Message.{Message}
 
 -- the answer is this message, unless memory ran out

@@ -1,14 +1,12 @@
 //! What is written of a message is read as that message.
 
 ghost use Rattle.std.specs.Prelude.{ℕ, List, Result, Ok};
-ghost use Rattle.as4_message.specs.Answers.{AnswersBy, Copies};
-ghost use Rattle.as4_message.specs.Meaning.{ReceivedValue, Means, IsMessage};
-ghost use Rattle.as4_message.specs.declared.refusal.MessageRefusal.{MessageRefusal};
-ghost use Rattle.as4_message.specs.FileReading.{media_and_body};
+ghost use Rattle.as4_message.specs.Meaning.{AnswersBy, Copies, ReceivedValue, Means, IsMessage};
+ghost use Rattle.as4_message.specs.declared.received.MessageRefusal.{MessageRefusal};
+ghost use Rattle.message_model.specs.Wire.{media_and_body, IsFile, IsWire};
 ghost use Rattle.as4_values.specs.declared.message.Message.{Message as MessageValue};
 ghost use Rattle.message_laws.specs.Answers.{IsReadAs};
 ghost use Rattle.message_laws.specs.Readable.{IsShort, ArePaired};
-ghost use Rattle.message_model.specs.Wire.{IsFile, IsWire};
 
 use as4_values::Message;
 use package_laws::{envelope_is_read_again, package_is_read_again};

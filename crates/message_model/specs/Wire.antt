@@ -1,5 +1,7 @@
--- A message on the wire: the media text and the body that carry it.
-use Rattle.std.specs.Prelude.{◌≡◌, ℕ, List, ◌++◌, codes}
+-- A message on the wire: the media text and the body that carry it. And message files, a form of this program's own.
+use Rattle.std.specs.Prelude.{◌≡◌, ℕ, List, [], ◌∷◌, ◌++◌, if◌then◌else◌, Option, Some, None, option_map, nat_eq, codes, unwrap_or, length, drop}
+use Rattle.std.specs.List.{starts_with}
+use Rattle.byte_forms.specs.Cuts.{◌>>=◌, behind}
 use Rattle.as4_values.specs.declared.message.Message.{Message}
 use Rattle.as4_values.specs.declared.message.Message.TheVariants as message
 use Rattle.message_model.specs.UnitText.{user_message, signal_message, pair_text, envelope_text}
@@ -29,7 +31,7 @@ pub record IsWire (message : Message) (media body : List ℕ) : Type 0 where
   pub media_is : media ≡ media_of number message
   pub body_is : body ≡ body_of number message
 
--- a message file, a form of this program's own: the media text as a field, an empty line, and the body
+-- a message file: the media text as a field, an empty line, and the body
 abbrev pub message_file : List ℕ → List ℕ → List ℕ
 message_file media body = codes "Content-Type: " ++ media ++ crlf ++ crlf ++ body
 
@@ -39,3 +41,18 @@ pub record IsFile (message : Message) (file : List ℕ) : Type 0 where
   pub body : List ℕ
   pub wire : IsWire message media body
   pub file_is : file ≡ message_file media body
+
+-- how a message file is read: what stands before and behind the first place of these bytes
+unfoldable pub cut_at : List ℕ → List ℕ → Option (List ℕ × List ℕ)
+cut_at needle [] = None
+cut_at needle (x ∷ xs) =
+    if starts_with nat_eq (x ∷ xs) needle then Some ([], drop (length needle) (x ∷ xs))
+    else option_map (λ cut. (x ∷ cut.0, cut.1)) (cut_at needle xs)
+
+-- the media text, up to the first empty line, and the body
+unfoldable pub file_at : List ℕ → Option (List ℕ × List ℕ)
+file_at bytes = behind (codes "Content-Type: ") bytes >>= cut_at (crlf ++ crlf)
+
+-- the media text and the body of a message file; bytes of another form have an empty one of each
+abbrev pub media_and_body : List ℕ → List ℕ × List ℕ
+media_and_body bytes = unwrap_or (file_at bytes) ([], [])

@@ -2,8 +2,8 @@
 use Rattle.std.proofs.Common.{◌≡◌, ℕ, zero, suc, ◌+◌, ◌≤◌, List, [], ◌∷◌, ◌++◌, ◌⊎◌, Some, None, length, drop, refl, sym, ap, subst, ◌∙◌, arith, inl, inr, ◌↔◌}
 use Rattle.std.specs.Prelude.{Result, Ok, Err, IsTrue}
 use Rattle.mime_fields.specs.Fields.{PartValue, crlf, part_of}
-use Rattle.mime_package.specs.declared.refusal.MimeRefusal.{MimeRefusal}
-use Rattle.mime_package.specs.declared.refusal.MimeRefusal.TheVariants.{NoBoundary, BadPart}
+use Rattle.mime_package.specs.declared.read.MimeRefusal.{MimeRefusal}
+use Rattle.mime_package.specs.declared.read.MimeRefusal.TheVariants.{NoBoundary, BadPart}
 use Rattle.mime_package.specs.Pieces.{IsDelimiter, IsLastDelimiter, Holds, GoesOn, ArePieces, HasNoEnd, HasBadPiece, BreaksAt}
 use Rattle.mime_package.specs.Reading.{Ending, last, next, is_boundary, delimiter_at, ending_at, up_to, max_parts, also, parts_within, parts_of}
 use Rattle.byte_forms.proofs.CutLemmas.{cases_option}

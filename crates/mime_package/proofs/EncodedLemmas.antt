@@ -5,8 +5,8 @@ use Rattle.std.proofs.lemmas.Bool.{cases_Bool}
 use Rattle.std.proofs.lemmas.Option.{cond_some}
 use Rattle.mime_fields.specs.Fields.{PartValue, crlf}
 use Rattle.mime_fields.specs.MediaTypes.{MediaType, media_type_of, is_type, names_differ, Parameter}
-use Rattle.mime_package.specs.declared.refusal.MimeRefusal.{MimeRefusal}
-use Rattle.mime_package.specs.declared.refusal.MimeRefusal.TheVariants.{BadType, NoBoundary, BadPart, NoRoot, Encoding, NoMemory}
+use Rattle.mime_package.specs.declared.read.MimeRefusal.{MimeRefusal}
+use Rattle.mime_package.specs.declared.read.MimeRefusal.TheVariants.{BadType, NoBoundary, BadPart, NoRoot, Encoding, NoMemory}
 use Rattle.mime_package.specs.Encoded.{IsFirstEncoded, EncodedAt}
 use Rattle.mime_package.specs.Reading.{PackageValue, is_boundary, is_envelope, boundary_of, parameter, delimiter_at, up_to, max_parts, parts_of, encoded_at, is_root, root_of, with_root, packaged, related, typed, package_of}
 use Rattle.byte_forms.proofs.CutLemmas.{cases_option, bind_some}

@@ -2,7 +2,7 @@
 use Rattle.std.proofs.Common.{◌≡◌, ℕ, suc, ◌+◌, List, [], ◌∷◌, ◌++◌, Some, None, drop, refl}
 use Rattle.std.specs.Prelude.{Ok, Err}
 use Rattle.mime_fields.specs.Fields.{PartValue, crlf, part_of}
-use Rattle.mime_package.specs.declared.refusal.MimeRefusal.TheVariants.{NoBoundary, BadPart}
+use Rattle.mime_package.specs.declared.read.MimeRefusal.TheVariants.{NoBoundary, BadPart}
 use Rattle.mime_package.specs.Reading.{Ending, last, next, delimiter_at, ending_at, up_to, max_parts, also, parts_within, parts_of}
 
 -- nothing ends the part

@@ -5,7 +5,7 @@ use Rattle.std.specs.List.{remove}
 use Rattle.std.proofs.lemmas.Bool.{cond-true, cond-false}
 use Rattle.mime_fields.specs.Lent.{part_value}
 use Rattle.mime_fields.specs.declared.part.Part.{Part}
-use Rattle.mime_package.specs.declared.refusal.MimeRefusal.TheVariants.{NoRoot, Encoding}
+use Rattle.mime_package.specs.declared.read.MimeRefusal.TheVariants.{NoRoot, Encoding}
 use Rattle.mime_package.specs.Reading.{encoded_at, is_root, with_root}
 use Rattle.mime_package.specs.Steps.{package_at, taken_out}
 use Rattle.mime_package.proofs.RootLemmas.{encoded_first, taken_removed}

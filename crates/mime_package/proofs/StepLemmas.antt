@@ -3,8 +3,8 @@ use Rattle.std.proofs.Common.{◌≡◌, ℕ, suc, ◌+◌, ◌-◌, ◌<◌, Li
 use Rattle.std.specs.Prelude.{Result, Ok, Err, option_map, unwrap_or}
 use Rattle.byte_forms.proofs.CutLemmas.{cases_option}
 use Rattle.mime_fields.specs.Fields.{PartValue, part_of}
-use Rattle.mime_package.specs.declared.refusal.MimeRefusal.{MimeRefusal}
-use Rattle.mime_package.specs.declared.refusal.MimeRefusal.TheVariants.{BadPart}
+use Rattle.mime_package.specs.declared.read.MimeRefusal.{MimeRefusal}
+use Rattle.mime_package.specs.declared.read.MimeRefusal.TheVariants.{BadPart}
 use Rattle.mime_package.specs.Reading.{Ending, last, next, ending_at, up_to, max_parts, also, parts_within}
 use Rattle.mime_package.specs.Steps.{part_at, with_part}
 

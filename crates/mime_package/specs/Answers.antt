@@ -1,7 +1,7 @@
 -- What a reader returned, and what its definition gives.
 use Rattle.std.specs.Prelude.{◌≡◌, Result, Ok, Err}
-use Rattle.mime_package.specs.declared.refusal.MimeRefusal.{MimeRefusal}
-use Rattle.mime_package.specs.declared.refusal.MimeRefusal.TheVariants.{BadType, NoBoundary, BadPart, NoRoot, Encoding, NoMemory}
+use Rattle.mime_package.specs.declared.read.MimeRefusal.{MimeRefusal}
+use Rattle.mime_package.specs.declared.read.MimeRefusal.TheVariants.{BadType, NoBoundary, BadPart, NoRoot, Encoding, NoMemory}
 
 -- the answer by the definition, unless memory ran out
 abbrev pub Answers : {X Y : Type 0} → (X → Y) → Result X MimeRefusal → Result Y MimeRefusal → Type 0

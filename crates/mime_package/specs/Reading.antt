@@ -7,8 +7,8 @@ use Rattle.as4_values.specs.Payload.{is_space}
 use Rattle.byte_forms.specs.Cuts.{◌>>=◌, skip, behind}
 use Rattle.mime_fields.specs.MediaTypes.{Parameter, MediaType, media_type_of, is_type, is_named, names_differ}
 use Rattle.mime_fields.specs.Fields.{PartValue, crlf, part_of, without_brackets}
-use Rattle.mime_package.specs.declared.refusal.MimeRefusal.{MimeRefusal}
-use Rattle.mime_package.specs.declared.refusal.MimeRefusal.TheVariants.{BadType, NoBoundary, BadPart, NoRoot, Encoding}
+use Rattle.mime_package.specs.declared.read.MimeRefusal.{MimeRefusal}
+use Rattle.mime_package.specs.declared.read.MimeRefusal.TheVariants.{BadType, NoBoundary, BadPart, NoRoot, Encoding}
 
 -- the root of a package, and its other parts
 pub record PackageValue : Type 0 where

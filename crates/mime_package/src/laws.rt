@@ -4,7 +4,7 @@ ghost use Rattle.std.specs.Prelude.{◌≡◌, ◌↔◌, ◌++◌, ℕ, List, O
 ghost use Rattle.mime_fields.specs.Fields.{PartValue, crlf};
 ghost use Rattle.mime_package.specs.Encoded.{EncodedAt};
 ghost use Rattle.mime_package.specs.Pieces.{IsDelimiter, Holds, BreaksAt, HasParts};
-ghost use Rattle.mime_package.specs.declared.refusal.MimeRefusal.TheVariants.{NoBoundary, BadPart, Encoding, NoMemory};
+ghost use Rattle.mime_package.specs.declared.read.MimeRefusal.TheVariants.{NoBoundary, BadPart, Encoding, NoMemory};
 ghost use Rattle.mime_package.specs.Reading.{is_boundary, package_of, parts_of};
 
 /// The parts that are read are those of the one cut of the body at its delimiters, and each such cut whose pieces spell

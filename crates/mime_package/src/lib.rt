@@ -9,7 +9,6 @@ mod package;
 mod parameters;
 mod parts;
 mod read;
-mod refusal;
 mod root;
 mod search;
 
@@ -18,5 +17,4 @@ pub use laws::{
     an_encoded_part_is_the_first, the_meaning_wants_no_memory,
 };
 pub use package::Package;
-pub use read::read_parts;
-pub use refusal::MimeRefusal;
+pub use read::{MimeRefusal, read_parts};

@@ -9,7 +9,7 @@ ghost use Rattle.mime_package.specs.Lent.{ending_of};
 ghost use Rattle.mime_package.specs.Steps.{part_at, with_part};
 
 use crate::delimiters::Ending;
-use crate::refusal::MimeRefusal;
+use crate::read::MimeRefusal;
 use crate::search::Search;
 use as4_values::NoMemory;
 use mime_fields::{Part, read_part};

@@ -1,4 +1,4 @@
-//! Reads a package from its media text and its body (RFC 2387; RFC 2046, section 5.1).
+//! Reads a package from its media text and its body (RFC 2387; RFC 2046, section 5.1), or tells why they are none.
 
 ghost use Rattle.std.specs.Prelude.{◌≡◌, ◌<◌, Ok, codes, length, map, option_map};
 ghost use Rattle.mime_fields.specs.Lent.{parameter_of, type_of, part_value};
@@ -6,14 +6,56 @@ ghost use Rattle.mime_package.specs.Answers.{Answers};
 ghost use Rattle.mime_package.specs.Lent.{package_value};
 ghost use Rattle.mime_package.specs.Reading.{package_of, packaged, parameter, related, typed};
 ghost use Rattle.mime_package.specs.Steps.{package_at};
+ghost use Rattle.mime_package.specs.declared.read.MimeRefusal.TheVariants.{NoMemory};
 
 use crate::package::Package;
 use crate::parameters::{boundary_of, is_envelope};
 use crate::parts::parts_of;
-use crate::refusal::MimeRefusal;
 use crate::root::checked_root;
 use mime_fields::{MediaType, Parameter, Part, read_media_type};
-use std::alloc::Global;
+use std::alloc::{AllocError, AllocFailed, Global};
+
+/// Why a media text and a body are no package.
+#[derive(Clone, Copy, Debug, PartialEq, Eq)]
+pub enum MimeRefusal {
+    /// The media text isn't spelled, has a parameter twice, or is neither that of an envelope in a character set that
+    /// is read nor that of a package.
+    BadType,
+    /// The media text names no boundary, or the body has no delimiter.
+    NoBoundary,
+    /// The part of this index, from 0, isn't ended by a delimiter or isn't spelled, or is one too many.
+    BadPart { index: usize },
+    /// The media text names no part as the root or more than one, or the root's media text isn't that of an envelope.
+    NoRoot,
+    /// The content of the part of this index is encoded for transfer (RFC 2045, section 6).
+    Encoding { index: usize },
+    /// Memory ran out.
+    NoMemory,
+}
+
+impl From<as4_values::NoMemory> for MimeRefusal {
+    ghost from_gives = { λ _ e. e ≡ NoMemory };
+
+    fn from(_error: as4_values::NoMemory) -> MimeRefusal {
+        MimeRefusal::NoMemory
+    }
+}
+
+impl From<AllocError> for MimeRefusal {
+    ghost from_gives = { λ _ e. e ≡ NoMemory };
+
+    fn from(_error: AllocError) -> MimeRefusal {
+        MimeRefusal::NoMemory
+    }
+}
+
+impl<T: Drop> From<AllocFailed<T>> for MimeRefusal {
+    ghost from_gives = { λ _ e. e ≡ NoMemory };
+
+    fn from(_error: AllocFailed<T>) -> MimeRefusal {
+        MimeRefusal::NoMemory
+    }
+}
 
 /// Reads a package: its media text names the boundary at which the body is cut into parts, and the root. A bare
 /// envelope is a package without other parts. Contents aren't copied.

@@ -8,7 +8,7 @@ ghost use Rattle.mime_package.specs.Reading.{has_id, is_root, only_one, packaged
 ghost use Rattle.mime_package.specs.Steps.{is_id, package_at, taken_at};
 
 use crate::parameters::{is_envelope, meant};
-use crate::refusal::MimeRefusal;
+use crate::read::MimeRefusal;
 use as4_values::NoMemory;
 use mime_fields::{Parameter, Part, read_media_type, without_brackets};
 use std::alloc::Global;

@@ -1,5 +1,6 @@
 -- What the calls of an office led to is what may happen to an end, and so is what a crash left behind them.
 use Rattle.std.proofs.Common.{◌≡◌, inl, inr, ⊎_elim, List, [], ◌∷◌, ◌++◌, Some, None, false, true, refl, sym, ap, ◌∙◌, subst}
+use Rattle.std.specs.List.{Contains}
 use Rattle.as4_disk.specs.Image.{Image}
 use Rattle.as4_values.specs.declared.mode.Mode.{Mode}
 use Rattle.end_records.specs.Opens.{IsAt, IsAtWith, IsOld, OpensAs, ReadsAs, ReopensAs}
@@ -10,6 +11,8 @@ use Rattle.exchange_model.specs.Alone.{MayHappenTo, end_after}
 use Rattle.exchange_model.specs.Apply.{applied}
 use Rattle.exchange_model.specs.End.{End, empty_end}
 use Rattle.exchange_model.specs.Fold.{resized}
+use Rattle.exchange_model.specs.Questions.{is_pending}
+use Rattle.exchange_model.specs.declared.sent.Sent.{Sent}
 use Rattle.exchange_model.specs.Staying.{Keeps}
 use Rattle.exchange_model.specs.World.{Act, Does, Folds, Happening, Site, Left}
 use Rattle.exchange_laws.proofs.AloneLemmas.{after_both}
@@ -17,7 +20,7 @@ use Rattle.journal.specs.Store.{picked_leaf}
 use Rattle.office.specs.Calls.{Leads}
 use Rattle.office.specs.Happened.{Happened, IsCutOff, MayLead}
 use Rattle.office.specs.Left.{IsLeft, IsStepTo}
-use Rattle.office.specs.Openings.{Opening, LeadsOver}
+use Rattle.office.specs.Openings.{HappenedOver, LeadsOver, Opening}
 use Rattle.office.specs.declared.call.Call.{Call}
 use Rattle.office.specs.declared.call.Call.TheVariants.{Done, Folded, Stop}
 
@@ -47,6 +50,9 @@ history site modes (Stop event halt ∷ calls) start end (rose, refused, here) =
 
 abbrev pub StaysOver : Type 0
 StaysOver = (all more : List Happening) → MayHappenTo (all ++ more) empty_end → Keeps (end_after all empty_end) (end_after (all ++ more) empty_end)
+
+abbrev pub SettledStays : Type 0
+SettledStays = (all more : List Happening) → MayHappenTo (all ++ more) empty_end → (s : Sent) → Contains (end_after all empty_end).sent s → is_pending s ≡ false → Contains (end_after (all ++ more) empty_end).sent s
 
 stays_on : StaysOver → (before more : List Happening) (end : End) → MayHappenTo before empty_end → MayLead more (end_after before empty_end) end → Keeps (end_after before empty_end) end
 stays_on kept before more end may later =
@@ -134,16 +140,29 @@ module _ (one : (image : Image) (a b : End) → ReadsAs image a → ReadsAs imag
             then.2,
       )
 
-  over : (openings : List Opening) (start end : End) → LeadsOver openings start end → (all : List Happening) × MayLead all start end
-  over [] start end here = ([], (tt, here))
-  over (opening ∷ later) start end (here, leads, left, next, reads, goes) =
-      let found = leaves_off Left opening.modes opening.calls start here next opening.left leads left reads in
-      let rest = over later next end goes in
-      (found.0 ++ found.1 ++ rest.0, lead_join (found.0 ++ found.1) rest.0 start next end found.4 rest.1)
+  pub happened_over : (site : Site) (openings : List Opening) (modes : List Mode) (calls : List Call) (start next end : End) → LeadsOver openings start next → Leads modes next calls end
+      → (all : List Happening) × HappenedOver site openings modes calls all × MayLead all start end
+  happened_over site [] modes calls start next end here last =
+      let found = history site modes calls next end last in
+      (found.0, found.1, subst (λ (e : End). MayLead found.0 e end) (sym here) found.2)
+  happened_over site (opening ∷ later) modes calls start next end (here, leads, left, mid, reads, goes) last =
+      let found = leaves_off site opening.modes opening.calls start here mid opening.left leads left reads in
+      let rest = happened_over site later modes calls mid next end goes last in (
+        found.0 ++ found.1 ++ rest.0,
+        (found.0, found.1, rest.0, found.2, found.3, rest.1, refl),
+        lead_join (found.0 ++ found.1) rest.0 start mid end found.4 rest.2,
+      )
 
   pub stays_over : StaysOver → (before : List Happening) (openings : List Opening) (modes : List Mode) (calls : List Call) (next end : End) → MayHappenTo before empty_end
       → LeadsOver openings (end_after before empty_end) next → Leads modes next calls end → Keeps (end_after before empty_end) end
   stays_over kept before openings modes calls next end may goes leads =
-      let first = over openings (end_after before empty_end) next goes in
-      let later = history Left modes calls next end leads in
-      stays_on kept before (first.0 ++ later.0) end may (lead_join first.0 later.0 (end_after before empty_end) next end first.1 later.2)
+      let found = happened_over Left openings modes calls (end_after before empty_end) next end goes leads in
+      stays_on kept before found.0 end may found.2
+
+  pub settled_over : SettledStays → (before : List Happening) (openings : List Opening) (modes : List Mode) (calls : List Call) (next end : End) → MayHappenTo before empty_end
+      → LeadsOver openings (end_after before empty_end) next → Leads modes next calls end
+      → (s : Sent) → Contains (end_after before empty_end).sent s → is_pending s ≡ false → Contains end.sent s
+  settled_over kept before openings modes calls next end may goes leads s there settled =
+      let found = happened_over Left openings modes calls (end_after before empty_end) next end goes leads in
+      let all = lead_join before found.0 empty_end (end_after before empty_end) end (may, refl) found.2 in
+      subst (λ (e : End). Contains e.sent s) all.1 (kept before found.0 all.0 s there settled)

@@ -18,7 +18,7 @@ use Rattle.office.specs.Steps.{Enters, Handles, Steps}
 use Rattle.office.specs.declared.call.Call.{Call}
 use Rattle.office.specs.declared.call.Call.TheVariants.{Done, Stop}
 use Rattle.office.specs.declared.fault.OfficeFault.{OfficeFault}
-use Rattle.office.specs.declared.fault.OfficeFault.TheVariants.{Disk, NoMemory, NotJournal, Stopped, Worn}
+use Rattle.office.specs.declared.fault.OfficeFault.TheVariants.{Disk, NoMemory, Stopped, Worn}
 use Rattle.pass_book.specs.States.{PassState}
 
 -- what a call finds is what was there before room was made
@@ -60,7 +60,6 @@ module _ {D : Type 0} (seen : D → Option Image) (may_leave : D → Image → T
   )
   same_step event (Err Worn) is = record { full = is.full; seen = is.seen; list = is.list; end = is.end; disk = is.disk; pass = is.pass }
   same_step event (Err NoMemory) is = (record { list = is.0.list; end = is.0.end; pass = is.0.pass }, is.1)
-  same_step event (Err (NotJournal at)) is = absurd is
 
   pub same_handling : (event : Event) (result : Result Reply OfficeFault) → Handles seen may_leave moment left_since fault_count makes roomy new pass_old pass_new event result
       → Handles seen may_leave moment left_since fault_count makes old new pass_old pass_new event result

@@ -2,7 +2,7 @@
 use Rattle.std.specs.Prelude.{◌≡◌, ◌⊎◌, ℕ, ◌<◌, ◌≤◌, Option, None, Result, Ok, Err, ◌^◌, length}
 use Rattle.as4_disk.specs.Image.{Image}
 use Rattle.as4_disk.specs.Runs.{LeavesOnly}
-use Rattle.as4_flow.specs.Told.{Told}
+use Rattle.as4_flow.specs.Flow.{Told}
 use Rattle.end_records.specs.Opens.{OpensFolded}
 use Rattle.exchange_model.specs.Fold.{IsFoldedSize, resized}
 use Rattle.office.specs.Calls.{stop_of}
@@ -11,7 +11,7 @@ use Rattle.office.specs.Steps.{Enters, EntersNothing, FindsItWorn, Keeps, Stands
 use Rattle.office.specs.declared.call.Call.{Call}
 use Rattle.office.specs.declared.call.Call.TheVariants.{Folded}
 use Rattle.office.specs.declared.fault.OfficeFault.{OfficeFault}
-use Rattle.office.specs.declared.fault.OfficeFault.TheVariants.{Disk, NoMemory, NotJournal, Stopped, Worn}
+use Rattle.office.specs.declared.fault.OfficeFault.TheVariants.{Disk, NoMemory, Stopped, Worn}
 use Rattle.pass_book.specs.States.{PassState}
 
 module _ {D : Type 0} (old new : OfficeState D) (pass_old pass_new : PassState Call) where
@@ -37,7 +37,6 @@ module _ {D : Type 0} (old new : OfficeState D) (pass_old pass_new : PassState C
   Shortening fault_count (Err (Stopped before after)) = StandsStill old new pass_old pass_new before after × EntersNothing old new pass_old pass_new × (length old.list < 2 ^ 63)
   Shortening fault_count (Err Worn) = FindsItWorn old new pass_old pass_new
   Shortening fault_count (Err NoMemory) = (stop_of old.list ≡ None) × EntersNothing old new pass_old pass_new
-  Shortening fault_count (Err (NotJournal at)) = ⊥
 
 -- What a checkpoint does. While it is made a crash leaves the end, with its journal folded or as it was.
 pub record Checkpoints {D : Type 0} (seen : D → Option Image) (may_leave : D → Image → Type 0) (moment : D → ℕ) (left_since : D → ℕ → Image → Type 0) (fault_count : D → ℕ) (old new : OfficeState D) (pass_old pass_new : PassState Call) (result : Result ℕ OfficeFault) : Type 0 where

@@ -6,4 +6,3 @@ pub mod Recording
 pub mod State
 pub mod Steps
 pub mod Folds
-pub mod Opening

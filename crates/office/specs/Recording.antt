@@ -4,7 +4,7 @@ use Rattle.as4_disk.specs.Image.{Image}
 use Rattle.as4_disk.specs.Runs.{LeavesOnly, MakesAll}
 use Rattle.as4_disk.specs.declared.change.Change.{Change}
 use Rattle.as4_disk.specs.declared.part.Part.{Part}
-use Rattle.as4_flow.specs.Told.{Told}
+use Rattle.as4_flow.specs.Flow.{Told}
 use Rattle.end_journal.specs.Frames.{IsFrameOf}
 use Rattle.end_records.specs.Opens.{IsAtOneOf, IsJournalOf}
 use Rattle.end_records.specs.Puts.{Puts}

@@ -1,8 +1,7 @@
 -- An office as contracts see it.
 use Rattle.std.specs.Prelude.{◌≡◌, ◌≤◌, ℕ, List, Option, None, IfSome}
 use Rattle.as4_disk.specs.Image.{Image}
-use Rattle.as4_flow.specs.Faults.{Rose}
-use Rattle.as4_flow.specs.Told.{Told}
+use Rattle.as4_flow.specs.Flow.{Rose, Told}
 use Rattle.as4_values.specs.declared.mode.Mode.{Mode}
 use Rattle.end_records.specs.Opens.{IsJournalOf}
 use Rattle.end_tables.specs.Rooms.{Rooms}

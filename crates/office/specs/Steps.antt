@@ -4,8 +4,7 @@ use mathlib.Core.List.{IsPrefix}
 use Rattle.as4_disk.specs.Image.{Image}
 use Rattle.as4_disk.specs.Runs.{LeavesOnly}
 use Rattle.as4_disk.specs.declared.change.Change.{Change}
-use Rattle.as4_flow.specs.Faults.{Rose}
-use Rattle.as4_flow.specs.Told.{Told}
+use Rattle.as4_flow.specs.Flow.{Rose, Told}
 use Rattle.end_records.specs.Opens.{KeepsEnd}
 use Rattle.exchange_model.specs.Apply.{applied}
 use Rattle.exchange_model.specs.End.{End}
@@ -22,7 +21,7 @@ use Rattle.office.specs.State.{OfficeState}
 use Rattle.office.specs.declared.call.Call.{Call}
 use Rattle.office.specs.declared.call.Call.TheVariants.{Done, Stop}
 use Rattle.office.specs.declared.fault.OfficeFault.{OfficeFault}
-use Rattle.office.specs.declared.fault.OfficeFault.TheVariants.{Disk, NoMemory, NotJournal, Stopped, Worn}
+use Rattle.office.specs.declared.fault.OfficeFault.TheVariants.{Disk, NoMemory, Stopped, Worn}
 use Rattle.pass_book.specs.States.{PassState}
 
 module _ {D : Type 0} (old new : OfficeState D) (pass_old pass_new : PassState Call) where
@@ -104,7 +103,6 @@ module _ {D : Type 0} (seen : D → Option Image) (may_leave : D → Image → T
   Steps event (Err (Stopped before after)) = StandsStill old new pass_old pass_new before after × Enters old new pass_old pass_new (Done event (reply.Stopped before after))
   Steps event (Err Worn) = FindsItWorn old new pass_old pass_new
   Steps event (Err NoMemory) = EntersNothing old new pass_old pass_new × (new.disk ≡ old.disk)
-  Steps event (Err (NotJournal at)) = ⊥
 
   -- What becomes of an event. While it is handled a crash leaves the end before its step, or the one behind it.
   pub record Handles (event : Event) (result : Result Reply OfficeFault) : Type 0 where

@@ -1,21 +1,24 @@
 //! What holds of every history, over the definitions alone.
-ghost use Rattle.std.specs.Prelude.{◌≡◌, ◌++◌, List};
+ghost use Rattle.std.specs.Prelude.{◌≡◌, ◌++◌, List, false};
+ghost use Rattle.std.specs.List.{Contains};
 ghost use Rattle.as4_disk.specs.Image.{Image};
 ghost use Rattle.as4_values.specs.declared.mode.Mode.{Mode};
 ghost use Rattle.end_records.specs.Opens.{IsOld, ReadsAs, ReopensAs};
 ghost use Rattle.exchange_model.specs.Alone.{MayHappenTo, end_after};
 ghost use Rattle.exchange_model.specs.End.{End, empty_end};
+ghost use Rattle.exchange_model.specs.Questions.{is_pending};
+ghost use Rattle.exchange_model.specs.declared.sent.Sent.{Sent};
 ghost use Rattle.exchange_model.specs.Staying.{Keeps};
 ghost use Rattle.exchange_model.specs.World.{Happening, Site};
 ghost use Rattle.journal.specs.Store.{picked_leaf};
 ghost use Rattle.office.specs.Calls.{Leads};
 ghost use Rattle.office.specs.Happened.{Happened, IsCutOff, MayLead};
 ghost use Rattle.office.specs.Left.{IsLeft};
-ghost use Rattle.office.specs.Openings.{Opening, LeadsOver};
+ghost use Rattle.office.specs.Openings.{HappenedOver, LeadsOver, Opening};
 ghost use Rattle.office.specs.declared.call.Call.{Call};
 
 use end_records::an_image_opens_to_one_end;
-use exchange_laws::what_came_stays;
+use exchange_laws::{what_came_stays, what_is_settled_stays};
 
 /// What the calls of an office led to is what may happen to an end: each event's step, and each fold.
 pub fn a_history_may_happen()
@@ -65,6 +68,16 @@ pub fn what_came_stays_over_calls()
     what_came_stays();
 }
 
+/// What the calls of all openings led to is what may happen to an end: what each did, what was found done besides behind
+/// its crash, and what the calls behind the last did.
+pub fn openings_may_happen()
+    ensures { (site : Site) (openings : List Opening) (modes : List Mode) (calls : List Call) (start next end : End)
+        → LeadsOver openings start next → Leads modes next calls end
+        → (all : List Happening) × HappenedOver site openings modes calls all × MayLead all start end }
+{
+    an_image_opens_to_one_end();
+}
+
 /// It stays over all openings, and over the calls behind the last.
 pub fn what_came_stays_over_openings()
     ensures { (before : List Happening) (openings : List Opening) (modes : List Mode) (calls : List Call) (next end : End)
@@ -73,4 +86,15 @@ pub fn what_came_stays_over_openings()
 {
     an_image_opens_to_one_end();
     what_came_stays();
+}
+
+/// And what was settled before them stays settled, as it was.
+pub fn what_is_settled_stays_over_openings()
+    ensures { (before : List Happening) (openings : List Opening) (modes : List Mode) (calls : List Call) (next end : End)
+        → MayHappenTo before empty_end → LeadsOver openings (end_after before empty_end) next
+        → Leads modes next calls end
+        → (s : Sent) → Contains (end_after before empty_end).sent s → is_pending s ≡ false → Contains end.sent s }
+{
+    an_image_opens_to_one_end();
+    what_is_settled_stays();
 }

@@ -2,8 +2,7 @@
 ghost use Rattle.std.specs.Prelude.{◌≡◌, ◌≤◌, ◌^◌, IfSome, None, length};
 ghost use mathlib.Core.List.{IsPrefix};
 ghost use Rattle.as4_disk.specs.Image.{Image};
-ghost use Rattle.as4_flow.specs.Faults.{Rose};
-ghost use Rattle.as4_flow.specs.Told.{Told};
+ghost use Rattle.as4_flow.specs.Flow.{Rose, Told};
 ghost use Rattle.end_records.specs.Opens.{KeepsEnd};
 ghost use Rattle.end_tables.specs.Totals.{AreTotals};
 ghost use Rattle.office.specs.Calls.{stop_of};

@@ -1,34 +1,33 @@
 //! How an office is opened.
 ghost use Rattle.std.specs.Prelude.{◌≡◌, ◌⊎◌, ℕ, ◌≤◌, ◌^◌, [], IfErr, IfOk, is_some};
 ghost use Rattle.as4_disk.specs.Runs.{FirstThen, Quiet};
-ghost use Rattle.as4_flow.specs.Faults.{Rose};
-ghost use Rattle.as4_flow.specs.Told.{Told};
+ghost use Rattle.as4_flow.specs.Flow.{Told};
 ghost use Rattle.end_records.specs.Opens.{IsOld, KeepsEnd, ReadsAs, ReopensAs};
 ghost use Rattle.end_records.specs.Unfit.{IsNoJournal};
 ghost use Rattle.exchange_model.specs.End.{End};
 ghost use Rattle.exchange_model.specs.Fold.{IsFoldedSize, resized};
+ghost use Rattle.journal.specs.State.{IsDisk, IsOpeningFault};
 ghost use Rattle.journal.specs.Store.{picked_leaf};
 
 use crate::call::Call;
-use crate::fault::OfficeFault;
 use crate::office::Office;
 use as4_disk::Disk;
 use end_journal::open_end;
 use end_records::no_whole_disk_is_unfit;
-use journal::Frame;
+use journal::{Frame, JournalFault};
 use pass_book::{Keeper, Pass};
 use pmodes::Modes;
 use std::alloc::Global;
 
 impl<'a, D: Disk> Office<'a, D> {
-    ghost use Rattle.office.specs.Opening.{IsOpeningFault};
-
-    /// Opens the journal on this disk, with a history that has no calls yet, and a pass that has all stakes.
+    /// Opens the journal on this disk, with a history that has no calls yet, and a pass that has all stakes. The fault is
+    /// the journal's: `NotJournal` is told of a record that fits no end too, and behind `NoMemory` the journal may have
+    /// settled its selector and its leaf.
     pub fn open(
         alloc: Global,
         disk: D,
         modes: Modes,
-    ) -> Result<(Office<'a, D>, Pass<'a, Call>), (OfficeFault, D)>
+    ) -> Result<(Office<'a, D>, Pass<'a, Call>), (JournalFault, D)>
         ensures first { IfOk result (λ o. (o.0.list ≡ []) × (o.0.modes ≡ modes)
             × (o.1 ≡ record { book = o.0.book; list = []; share = 0; stake = 2 ^ 63 })) }
 
@@ -46,15 +45,14 @@ impl<'a, D: Disk> Office<'a, D> {
             FirstThen D.moment D.left_since disk e.1 (D.may_leave disk) (ReopensAs b))) }
 
         // At the place of `NotJournal` stands no record of the end, and nothing was written.
-        ensures not_journal { IfErr result (λ e. (at : ℕ) → e.0 ≡ OfficeFault.NotJournal at → Told (D.seen disk) (λ b.
+        ensures not_journal { IfErr result (λ e. (at : ℕ) → e.0 ≡ JournalFault.NotJournal at → Told (D.seen disk) (λ b.
             IsNoJournal at (picked_leaf b))) }
-        ensures untouched { IfErr result (λ e. (at : ℕ) → e.0 ≡ OfficeFault.NotJournal at → Told (D.seen disk) (λ _.
+        ensures untouched { IfErr result (λ e. (at : ℕ) → e.0 ≡ JournalFault.NotJournal at → Told (D.seen disk) (λ _.
             Quiet D.moment D.left_since D.seen D.may_leave disk e.1)) }
-        ensures whole { IfErr result (λ e. (at : ℕ) → e.0 ≡ OfficeFault.NotJournal at → Told (D.seen disk) (λ b.
+        ensures whole { IfErr result (λ e. (at : ℕ) → e.0 ≡ JournalFault.NotJournal at → Told (D.seen disk) (λ b.
             (end : End) → ReadsAs b end → ⊥)) }
         ensures faults { IfErr result (λ e. IsOpeningFault e.0) }
-        ensures cause { IfErr result (λ e. (before after : ℕ) → e.0 ≡ OfficeFault.Disk before after
-            → (before ≡ D.fault_count disk) × (after ≡ D.fault_count e.1) × Rose before after) }
+        ensures cause { IfErr result (λ e. IsDisk (D.fault_count disk) (D.fault_count e.1) e.0) }
         ensures tells { IfOk result (λ o. is_some (D.seen o.0.disk) ≡ is_some (D.seen disk)) }
         ensures counted { IfOk result (λ o. D.fault_count disk ≤ D.fault_count o.0.disk) }
         ensures failed_count { IfErr result (λ e. D.fault_count disk ≤ D.fault_count e.1) }
@@ -63,7 +61,7 @@ impl<'a, D: Disk> Office<'a, D> {
             Ok(opened) => opened,
             Err(_) => {
                 drop(modes);
-                return Err((OfficeFault::NoMemory, disk));
+                return Err((JournalFault::NoMemory, disk));
             }
         };
         let small = match Frame::of(alloc, &[0; 11]) {
@@ -72,7 +70,7 @@ impl<'a, D: Disk> Office<'a, D> {
                 drop(modes);
                 drop(keeper);
                 drop(pass);
-                return Err((OfficeFault::NoMemory, disk));
+                return Err((JournalFault::NoMemory, disk));
             }
         };
         match open_end(alloc, disk, modes) {
@@ -92,7 +90,7 @@ impl<'a, D: Disk> Office<'a, D> {
                 drop(keeper);
                 drop(pass);
                 drop(small);
-                Err((OfficeFault::of(fault), disk))
+                Err((fault, disk))
             }
         }
     }

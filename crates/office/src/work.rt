@@ -1,7 +1,7 @@
 //! What is to be done with an event: its record is put on the disk, and then the end changes.
 ghost use Rattle.std.specs.Prelude.{◌≡◌, ◌+◌, ◌≤◌, ◌^◌, IfErr, List, None, is_ok, is_some, length, true};
 ghost use Rattle.as4_effects.specs.declared.effect.Effect.{Effect};
-ghost use Rattle.as4_flow.specs.Faults.{Rose};
+ghost use Rattle.as4_flow.specs.Flow.{Rose};
 ghost use Rattle.end_journal.specs.Frames.{IsFrameOf};
 ghost use Rattle.end_records.specs.Opens.{IsJournalOf};
 ghost use Rattle.end_records.specs.Records.{RecordLeads};

@@ -8,8 +8,9 @@ use as4_disk::{MemoryDisk, Pick};
 use as4_effects::Delivery;
 use as4_values::{Message, Text};
 use exchange_model::{Event, What};
+use journal::JournalFault;
 use made_messages::delivery;
-use office::{Call, Office, OfficeFault};
+use office::{Call, Office};
 use pass_book::Pass;
 use pmodes::Modes;
 use std::alloc::Global;
@@ -44,13 +45,13 @@ pub(crate) type Opened<'a> = (Office<'a, MemoryDisk>, Pass<'a, Call>);
 pub(crate) fn opened<'a>(
     alloc: Global,
     disk: MemoryDisk,
-) -> Result<Opened<'a>, (OfficeFault, MemoryDisk)>
+) -> Result<Opened<'a>, (JournalFault, MemoryDisk)>
     ensures book { IfOk result (λ o. o.1.book ≡ o.0.book) }
     ensures stake { IfOk result (λ o. o.1.stake ≡ 2 ^ 63) }
 {
     match Modes::read(alloc, MODES) {
         Ok(modes) => Office::open(alloc, disk, modes),
-        Err(_) => Err((OfficeFault::NoMemory, disk)),
+        Err(_) => Err((JournalFault::NoMemory, disk)),
     }
 }
 
@@ -68,7 +69,7 @@ impl<'a> Desk<'a> {
     pub(crate) fn open(
         alloc: Global,
         disk: MemoryDisk,
-    ) -> Result<Desk<'a>, (OfficeFault, MemoryDisk)> {
+    ) -> Result<Desk<'a>, (JournalFault, MemoryDisk)> {
         let (office, pass) = opened(alloc, disk)?;
         Ok(Desk {
             alloc,

@@ -1,7 +1,7 @@
 //! Stores that no office opens.
 use crate::desk::Desk;
 use crate::disks::{Three, disk_of};
-use office::OfficeFault;
+use journal::JournalFault;
 use std::alloc::Global;
 
 /// A store, and the place at which it is no journal.
@@ -79,7 +79,7 @@ static ROWS: [Row; 8] = [
 ];
 
 /// Why the store isn't opened.
-fn refusal(alloc: Global, store: Three) -> Option<OfficeFault> {
+fn refusal(alloc: Global, store: Three) -> Option<JournalFault> {
     let disk = disk_of(alloc, store, &[])?;
     match Desk::open(alloc, disk) {
         Ok(desk) => {
@@ -95,7 +95,7 @@ fn refusal(alloc: Global, store: Three) -> Option<OfficeFault> {
 
 fn first_other_row(alloc: Global) -> Option<&'static str> {
     for row in &ROWS {
-        if refusal(alloc, row.store) != Some(OfficeFault::NotJournal { at: row.at }) {
+        if refusal(alloc, row.store) != Some(JournalFault::NotJournal { at: row.at }) {
             return Some(row.what);
         }
     }

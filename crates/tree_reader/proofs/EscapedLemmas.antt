@@ -14,7 +14,8 @@ use Rattle.as4_values.specs.Texts.{is_xml, is_xml_char, IsXml}
 use Rattle.as4_values.proofs.XmlTests.{xml_tested, xml_found}
 use Rattle.as4_envelope.specs.Markup.{escape_of, escaped}
 use Rattle.xml_items.specs.Classes.{is_value_byte, is_text_byte}
-use Rattle.tree_reader.specs.Steps.{◌>>=◌, with_front}
+use Rattle.byte_forms.specs.Cuts.{◌>>=◌}
+use Rattle.tree_reader.specs.Steps.{with_front}
 use Rattle.tree_reader.proofs.TextLemmas.{reference_piece}
 use Rattle.tree_reader.specs.Decoded.{Piece, is_semicolon, entity, numbered, referred, reference_at, is_plain, piece_at, meant_behind, pieces_meant, characters_meant}
 

@@ -2,7 +2,8 @@
 use Rattle.std.proofs.Common.{◌≡◌, ℕ, ◌+◌, ◌<◌, List, [], ◌∷◌, ◌++◌, map, Option, Some, None, length, get_or, take, drop, refl, ap, ◌∙◌, inl, inr}
 use Rattle.std.proofs.lemmas.List.{take_more, drop_more, reverse-append}
 use Rattle.std.specs.Str.{bytes_eq}
-use Rattle.tree_reader.specs.Steps.{◌>>=◌, with_front, gathered}
+use Rattle.byte_forms.specs.Cuts.{◌>>=◌}
+use Rattle.tree_reader.specs.Steps.{with_front, gathered}
 use Rattle.tree_reader.specs.Scopes.{Binding, Begun, found, scope_of}
 use Rattle.tree_reader.specs.declared.scope.Open.{Open}
 use Rattle.tree_reader.specs.Views.{begun_of, stack_of}

@@ -5,7 +5,8 @@ use Rattle.std.proofs.lemmas.Slice.Eq.{bytes_eq-Decides}
 use Rattle.std.specs.Str.{bytes_eq}
 use Rattle.as4_values.specs.Texts.{is_xml}
 use Rattle.xml_items.specs.Items.{Written, Tag, Item, comment, start, finish, run}
-use Rattle.tree_reader.specs.Steps.{◌>>=◌, given, gathered}
+use Rattle.byte_forms.specs.Cuts.{◌>>=◌}
+use Rattle.tree_reader.specs.Steps.{given, gathered}
 use Rattle.tree_reader.specs.Names.{qualified}
 use Rattle.tree_reader.specs.Decoded.{text_meant}
 use Rattle.tree_reader.specs.Scopes.{Binding, Begun, element_of, scope_of, declared_by, element_space, attribute_by, written_differ, resolve}

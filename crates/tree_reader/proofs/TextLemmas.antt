@@ -4,7 +4,8 @@ use Rattle.std.proofs.lemmas.List.{drop-drop}
 use Rattle.std.specs.Borrow.{Bor}
 use Rattle.std.proofs.Math.Numerals.{one-add}
 use Rattle.std.specs.List.{prefix_len}
-use Rattle.tree_reader.specs.Steps.{◌>>=◌, with_front}
+use Rattle.byte_forms.specs.Cuts.{◌>>=◌}
+use Rattle.tree_reader.specs.Steps.{with_front}
 use Rattle.tree_reader.specs.Decoded.{Piece, is_plain, reference_at, piece_at, meant_behind}
 use Rattle.tree_reader.specs.declared.stop.Stop.{Stop}
 use Rattle.tree_reader.specs.declared.stop.Stop.TheVariants as stops

@@ -4,7 +4,8 @@ use Rattle.std.specs.List.{list_all}
 use Rattle.std.specs.Char.{is_digit, encode_utf8}
 use Rattle.std.specs.Str.Parse.{digits_value}
 use Rattle.as4_values.specs.Texts.{is_xml, is_xml_char}
-use Rattle.tree_reader.specs.Steps.{◌>>=◌, given, with_front}
+use Rattle.byte_forms.specs.Cuts.{◌>>=◌}
+use Rattle.tree_reader.specs.Steps.{given, with_front}
 
 -- the five entities that are declared by themselves (section 4.6)
 unfoldable pub entity : List ℕ → Option ℕ

@@ -6,7 +6,8 @@ use Rattle.as4_envelope.specs.declared.tree.Element.{Element}
 use Rattle.as4_envelope.specs.declared.tree.Element.TheViews.{roll-Element}
 use Rattle.as4_envelope.specs.Writable.{names_differ}
 use Rattle.xml_items.specs.Items.{Written}
-use Rattle.tree_reader.specs.Steps.{◌>>=◌, given, gathered}
+use Rattle.byte_forms.specs.Cuts.{◌>>=◌}
+use Rattle.tree_reader.specs.Steps.{given, gathered}
 use Rattle.tree_reader.specs.Names.{is_local_name, qualified}
 use Rattle.tree_reader.specs.Decoded.{value_meant}
 

@@ -1,10 +1,6 @@
 -- Steps that may have no answer, one after another.
 use Rattle.std.specs.Prelude.{List, [], ◌∷◌, ◌++◌, Bool, if◌then◌else◌, Option, Some, None}
-
-infixl 10 ◌>>=◌
-abbrev pub ◌>>=◌ : {A B : Type 0} → Option A → (A → Option B) → Option B
-None >>= f = None
-(Some x) >>= f = f x
+use Rattle.byte_forms.specs.Cuts.{◌>>=◌}
 
 -- x, if the test holds
 abbrev pub given : {A : Type 0} → Bool → Option A → Option A

@@ -21,7 +21,7 @@ use Rattle.message_model.specs.UnitTree.{node, leaf as leaf_tree}
 use Rattle.as4_envelope.specs.Tree.{ebms}
 use Rattle.header_reader.specs.Names.{element_name}
 use Rattle.header_reader.specs.declared.names.AttributeName.{AttributeName}
-use Rattle.header_reader.specs.Gives.{◌>>=◌}
+use Rattle.byte_forms.specs.Cuts.{◌>>=◌}
 use Rattle.header_reader.specs.Values.{trimmed, is_word, read_by, text_of, stamp_of, optional}
 use Rattle.header_reader.specs.declared.names.ElementName.{ElementName}
 

@@ -7,10 +7,12 @@ use Rattle.std.proofs.lemmas.List.Concat.{flat_map-cons}
 use Rattle.as4_values.specs.Texts.{is_blank}
 use Rattle.xml_items.specs.Classes.{is_name_byte, is_quote, is_value_byte, is_text_byte, declares}
 use Rattle.xml_items.specs.Items.{Item, declaration, comment, start, finish, run}
-use Rattle.xml_items.specs.Cutting.{skip, behind, value_in, value_at, attribute_at, attributes_within, attributes_at, tag_end_at, start_at, finish_at, dashes_at, comment_at, declaration_at, markup_at, item_at}
+use Rattle.byte_forms.specs.Cuts.{skip, behind}
+use Rattle.xml_items.specs.Cutting.{value_in, value_at, attribute_at, attributes_within, attributes_at, tag_end_at, start_at, finish_at, dashes_at, comment_at, declaration_at, markup_at, item_at}
 use Rattle.xml_items.specs.Grammar.{IsSome, Stops, WrittenAttribute, print_attribute, IsAttribute, written, WrittenTag, print_tag_end, print_tag, IsTag, WrittenItem, xml_declaration, remark, start_tag, end_tag, text, print_item, IsRemark, IsItem, meaning}
 use Rattle.xml_items.proofs.AttributeLemmas.{length-print_attribute}
-use Rattle.xml_items.proofs.RunLemmas.{pass_head, stops_some, stops_behind, take_again, skip_again, run_again, run_none, behind_takes, behind_again}
+use Rattle.byte_forms.proofs.CutLemmas.{behind_takes, behind_again}
+use Rattle.xml_items.proofs.RunLemmas.{pass_head, stops_some, stops_behind, take_again, skip_again, run_again, run_none}
 use Rattle.xml_items.proofs.TakenLemmas.{print_attribute-append, print_tag-append, three}
 
 -- ---- classes apart

@@ -3,7 +3,7 @@ use Rattle.std.proofs.Common.{◌≡◌, ℕ, zero, suc, ◌<◌, ◌≤◌, Lis
 use Rattle.xml_items.specs.Items.{Written}
 use Rattle.xml_items.specs.Cutting.{attribute_at, attributes_within, attributes_at}
 use Rattle.xml_items.specs.Grammar.{WrittenAttribute, print_attribute, IsAttribute}
-use Rattle.xml_items.proofs.RunLemmas.{cases_option}
+use Rattle.byte_forms.proofs.CutLemmas.{cases_option}
 use Rattle.xml_items.proofs.TakenLemmas.{attribute_takes}
 
 -- no attribute is empty

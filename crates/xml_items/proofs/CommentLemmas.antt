@@ -3,8 +3,9 @@ use Rattle.std.proofs.Common.{◌≡◌, ℕ, zero, suc, ◌+◌, ◌<◌, List,
 use Rattle.std.specs.Prelude.{slice_index}
 use Rattle.std.proofs.lemmas.List.Prefix.{at_from_reads}
 use Rattle.memchr.specs.Find.{OccursAt, FindsNeedle}
-use Rattle.xml_items.specs.Cutting.{behind, dashes_at}
-use Rattle.xml_items.proofs.RunLemmas.{cases_option, behind_takes, behind_again}
+use Rattle.byte_forms.specs.Cuts.{behind}
+use Rattle.xml_items.specs.Cutting.{dashes_at}
+use Rattle.byte_forms.proofs.CutLemmas.{cases_option, behind_takes, behind_again}
 
 abbrev dashes : List ℕ
 dashes = 45 ∷ 45 ∷ []

@@ -8,9 +8,11 @@ use Rattle.std.proofs.lemmas.List.Concat.{flat_map-cons}
 use Rattle.as4_values.specs.Texts.{is_blank}
 use Rattle.xml_items.specs.Classes.{is_name_byte, is_quote, is_value_byte, is_text_byte, declares}
 use Rattle.xml_items.specs.Items.{Written, Item, declaration, comment, start, finish, run}
-use Rattle.xml_items.specs.Cutting.{◌>>=◌, skip, run_at, behind, value_in, value_at, attribute_at, attributes_within, attributes_at, tag_end_at, start_at, finish_at, dashes_at, comment_at, declaration_at, markup_at, item_at}
+use Rattle.byte_forms.specs.Cuts.{◌>>=◌, skip, run_at, behind}
+use Rattle.xml_items.specs.Cutting.{value_in, value_at, attribute_at, attributes_within, attributes_at, tag_end_at, start_at, finish_at, dashes_at, comment_at, declaration_at, markup_at, item_at}
 use Rattle.xml_items.specs.Grammar.{IsSome, WrittenAttribute, print_attribute, IsAttribute, written, WrittenTag, print_tag_end, print_tag, IsTag, xml_declaration, remark, start_tag, end_tag, text, print_item, IsRemark, IsItem, meaning, BeginsItem}
-use Rattle.xml_items.proofs.RunLemmas.{cases_option, bind_some, run_whole, run_passes, run_stops, run_takes, some_run, behind_takes, behind_again}
+use Rattle.byte_forms.proofs.CutLemmas.{cases_option, bind_some, run_whole, run_stops, behind_takes, behind_again}
+use Rattle.xml_items.proofs.RunLemmas.{run_passes, run_takes, some_run}
 
 -- bytes in two parts, of which the second is as well
 onto : (bytes front middle rest : List ℕ) → bytes ≡ front ++ middle → middle ≡ rest → bytes ≡ front ++ rest

@@ -4,27 +4,9 @@ use Rattle.std.specs.Prelude.{ℕ, zero, suc, List, [], ◌∷◌, Bool, true, f
 use Rattle.std.specs.List.{prefix_len, take_while, starts_with}
 use Rattle.std.specs.Option.{option_map}
 use Rattle.as4_values.specs.Texts.{is_blank}
+use Rattle.byte_forms.specs.Cuts.{◌>>=◌, skip, run_at, behind}
 use Rattle.xml_items.specs.Classes.{is_name_byte, is_quote, is_value_byte, is_text_byte, declares}
 use Rattle.xml_items.specs.Items.{Written, Item, declaration, comment, start, finish, run}
-
--- what the second cuts behind the first, where both cut something
-infixl 10 ◌>>=◌
-abbrev pub ◌>>=◌ : {A B : Type 0} → Option A → (A → Option B) → Option B
-None >>= f = None
-(Some x) >>= f = f x
-
--- what stands behind the longest run of bytes of a class
-abbrev pub skip : (ℕ → Bool) → List ℕ → List ℕ
-skip class bytes = drop (prefix_len class bytes) bytes
-
--- such a run of at least one byte, and what stands behind it
-unfoldable pub run_at : (ℕ → Bool) → List ℕ → Option (List ℕ × List ℕ)
-run_at class bytes =
-    if prefix_len class bytes == 0 then None else Some (take_while class bytes, skip class bytes)
-
--- what stands behind a word
-unfoldable pub behind : List ℕ → List ℕ → Option (List ℕ)
-behind word bytes = if starts_with nat_eq bytes word then Some (drop (length word) bytes) else None
 
 -- a value behind its first quote, up to the second, and what stands behind that
 unfoldable pub value_in : ℕ → List ℕ → Option (List ℕ × List ℕ)

@@ -6,8 +6,9 @@ ghost use Rattle.xml_items.specs.Cutting.{value_in, value_at, attribute_at, attr
 ghost use Rattle.xml_items.specs.Raw.{written_of};
 
 use crate::item::RawAttribute;
-use crate::runs::{behind, behind_blanks, name_at, skip_blanks, split_value};
+use crate::runs::{behind_blanks, name_at, skip_blanks, split_value};
 use as4_values::NoMemory;
+use byte_forms::behind;
 
 /// The attributes that stand in front, each behind blanks, and what stands behind them all.
 #[tactic(auto, using(crate::proofs::AttributeLemmas::all_of))]

@@ -5,7 +5,7 @@ ghost use Rattle.xml_items.specs.Cutting.{dashes_at, comment_at};
 ghost use Rattle.xml_items.specs.Raw.{item_of};
 
 use crate::item::RawItem;
-use crate::runs::behind;
+use byte_forms::behind;
 use memchr::memmem;
 
 /// A comment, behind its `<!`, and what stands behind it.

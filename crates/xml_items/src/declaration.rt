@@ -7,8 +7,9 @@ ghost use Rattle.xml_items.specs.Raw.{written_of, item_of};
 
 use crate::attributes::attributes_at;
 use crate::item::{RawAttribute, RawItem};
-use crate::runs::{behind, skip_blanks};
+use crate::runs::skip_blanks;
 use as4_values::NoMemory;
+use byte_forms::behind;
 
 /// An XML declaration, behind its `<?`, and what stands behind it. Its parts are cut as attributes are.
 #[tactic(auto, unfolding(crate::specs::Cutting::declaration_at))]

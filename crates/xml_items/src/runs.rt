@@ -4,7 +4,7 @@ ghost use Rattle.std.specs.List.{prefix_len, take_while};
 ghost use Rattle.std.specs.Option.{option_map};
 ghost use Rattle.as4_values.specs.Texts.{is_blank};
 ghost use Rattle.xml_items.specs.Classes.{is_name_byte, is_value_byte, is_text_byte};
-ghost use Rattle.xml_items.specs.Cutting.{behind, run_at, skip};
+ghost use Rattle.byte_forms.specs.Cuts.{run_at, skip};
 
 use memchr::{memchr, memchr2};
 
@@ -28,7 +28,7 @@ pub fn skip_blanks(bytes: &[u8]) -> &[u8]
 }
 
 /// What stands behind the blanks in front, at least one (XML 1.0, section 2.3: `S`).
-#[tactic(auto, unfolding(crate::specs::Cutting::run_at))]
+#[tactic(auto, unfolding(byte_forms::specs::Cuts::run_at))]
 pub fn behind_blanks(bytes: &[u8]) -> Option<&[u8]>
     ensures { option_map (λ rest. rest.now) result ≡ option_map (λ x. x.1) (run_at is_blank bytes.now) }
 {
@@ -41,7 +41,7 @@ pub fn behind_blanks(bytes: &[u8]) -> Option<&[u8]>
 }
 
 /// A name, and what stands behind it.
-#[tactic(auto, unfolding(crate::specs::Cutting::run_at))]
+#[tactic(auto, unfolding(byte_forms::specs::Cuts::run_at))]
 pub fn name_at(bytes: &[u8]) -> Option<(&[u8], &[u8])>
     ensures { option_map (λ x. (x.0.now, x.1.now)) result ≡ run_at is_name_byte bytes.now }
 {
@@ -66,18 +66,6 @@ pub fn split_text(bytes: &[u8]) -> (&[u8], &[u8])
     ensures back { result.1.now ≡ skip is_text_byte bytes.now }
 {
     bytes.split_at(text_len(bytes))
-}
-
-/// What stands behind a word.
-#[tactic(auto, unfolding(crate::specs::Cutting::behind))]
-pub fn behind<'a>(word: &[u8], bytes: &'a [u8]) -> Option<&'a [u8]>
-    ensures { option_map (λ rest. rest.now) result ≡ behind word.now bytes.now }
-{
-    if !bytes.starts_with(word) {
-        return None;
-    }
-    let (_, rest) = bytes.split_at(word.len());
-    Some(rest)
 }
 
 #[tactic(auto, using(crate::proofs::SearchLemmas::end_of_blanks))]

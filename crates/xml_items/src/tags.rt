@@ -6,8 +6,9 @@ ghost use Rattle.xml_items.specs.Raw.{item_of};
 
 use crate::attributes::attributes_at;
 use crate::item::{RawAttribute, RawItem};
-use crate::runs::{behind, name_at, skip_blanks};
+use crate::runs::{name_at, skip_blanks};
 use as4_values::NoMemory;
+use byte_forms::behind;
 
 /// A start tag, behind its `<`, and what stands behind it.
 #[tactic(auto, unfolding(crate::specs::Cutting::start_at))]

@@ -1,6 +1,6 @@
 use Rattle.std.proofs.Common.{ℕ, ◌++◌, take, arith, length-append}
 use Rattle.std.proofs.lemmas.List.{length-take}
-use Rattle.as4_flow.proofs.ToldLemmas.{before_more}
+use Rattle.as4_flow.proofs.FlowLemmas.{before_more}
 use Rattle.as4_flow.proofs.reading.read_all.Goals as goal
 
 -- a piece that found no memory was read all the same

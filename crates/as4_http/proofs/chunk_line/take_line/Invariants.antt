@@ -1,5 +1,5 @@
 use Rattle.std.proofs.Common.{◌≡◌, ◌+◌, ◌-◌, length}
-use Rattle.as4_flow.specs.Told.{before}
+use Rattle.as4_flow.specs.Flow.{before}
 use Rattle.as4_http.specs.declared.limits.TheConstants.{MAX_CHUNK_LINE}
 use Rattle.as4_http.proofs.chunk_line.take_line.Given as goal
 

@@ -2,7 +2,7 @@ use Rattle.std.proofs.Common.{◌≡◌, ℕ, ◌++◌, ◌∷◌, [], Err, sym,
 use Rattle.std.proofs.lemmas.List.Elements.{All-push}
 use Rattle.std.proofs.lemmas.Result.{on_ok_weaker}
 use Rattle.std.specs.List.{flat_map}
-use Rattle.as4_flow.specs.Told.{before}
+use Rattle.as4_flow.specs.Flow.{before}
 use Rattle.httparse.specs.Grammar.{print_chunk_line}
 use Rattle.as4_http.specs.ChunkLines.{TakesLine}
 use Rattle.as4_http.specs.Chunks.{IsChunk, IsShortChunk, HasNoChunk, IsWholeChunk, IsWholeChunked, print_chunk, joined}

@@ -1,7 +1,7 @@
 use Rattle.std.proofs.Common.{◌≡◌, ◌-◌, ◌≤◌, List, length}
 use Rattle.std.specs.Prelude.{All}
 use Rattle.std.specs.List.{flat_map}
-use Rattle.as4_flow.specs.Told.{before}
+use Rattle.as4_flow.specs.Flow.{before}
 use Rattle.as4_http.specs.Chunks.{Chunk, print_chunk, IsChunk, IsShortChunk, joined}
 use Rattle.as4_http.specs.Limits.{the_limits}
 use Rattle.as4_http.specs.declared.limits.TheConstants.{MAX_BODY}

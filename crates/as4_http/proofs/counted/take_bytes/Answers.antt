@@ -1,6 +1,6 @@
 use Rattle.std.proofs.Common.{List, ℕ, sym, subst, arith}
 use Rattle.std.proofs.lemmas.Result.{on_ok_weaker}
-use Rattle.as4_flow.specs.Told.{before}
+use Rattle.as4_flow.specs.Flow.{before}
 use Rattle.as4_http.specs.Came.{Came}
 use Rattle.as4_http.proofs.CameLemmas.{came_behind}
 use Rattle.as4_http.proofs.counted.take_bytes.Goals as goal

@@ -1,7 +1,7 @@
 use Rattle.std.proofs.Common.{◌≡◌, List, ℕ, ◌+◌, ◌-◌, ◌≤◌, length, take, refl, sym, ◌∙◌, subst, ap, Err, arith}
 use Rattle.std.proofs.lemmas.List.{length-take-le}
 use Rattle.as4_http.specs.Limits.{the_limits}
-use Rattle.as4_flow.specs.Told.{before}
+use Rattle.as4_flow.specs.Flow.{before}
 use Rattle.as4_http.specs.declared.limits.TheConstants.{MAX_TRAILERS}
 use Rattle.as4_http.specs.declared.refusal.HttpRefusal.TheVariants.{Cut}
 use Rattle.as4_http.specs.Refused.{MayBecome, Denies}

@@ -1,5 +1,5 @@
 use Rattle.std.proofs.Common.{◌≡◌, ◌-◌, ◌≤◌, length, take}
-use Rattle.as4_flow.specs.Told.{before}
+use Rattle.as4_flow.specs.Flow.{before}
 use Rattle.as4_http.specs.Trailers.{HasNoLf}
 use Rattle.as4_http.proofs.trailers.hold_line.Given as goal
 

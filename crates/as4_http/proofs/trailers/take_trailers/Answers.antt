@@ -1,7 +1,7 @@
 use Rattle.std.proofs.Common.{◌≡◌, ℕ, ◌+◌, Bool, Err, Option, refl, ◌≤◌, List, ◌++◌, ◌∷◌, [], length, take, true, false, sym, ◌∙◌, ap, subst, arith}
 use Rattle.std.specs.List.{flat_map}
 use Rattle.std.proofs.lemmas.List.Elements.{All-push}
-use Rattle.as4_flow.specs.Told.{before}
+use Rattle.as4_flow.specs.Flow.{before}
 use Rattle.httparse.specs.Grammar.{print_field, IsField}
 use Rattle.as4_http.specs.Limits.{Limits}
 use Rattle.as4_http.specs.Passed.{GoesOver, ReadsTrailers, IsLongTrailers}

@@ -1,5 +1,5 @@
 use Rattle.std.proofs.Common.{Ok, Err, Some}
-use Rattle.as4_message.specs.Views.{received_value}
+use Rattle.as4_message.specs.Meaning.{received_value}
 use Rattle.as4_tool.proofs.AnswerLemmas.{answered}
 use Rattle.as4_tool.proofs.answers.answer_file.Goals as goal
 

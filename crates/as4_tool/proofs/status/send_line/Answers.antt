@@ -1,6 +1,6 @@
 use Rattle.std.proofs.Common.{◌≡◌, ◌++◌, codes, ◌∙◌, subst}
 use Rattle.std.specs.Fmt.{decimal}
-use Rattle.as4_flow.specs.Told.{TakesFront, behind}
+use Rattle.as4_flow.specs.Flow.{TakesFront, appended}
 use Rattle.as4_tool.proofs.TellLemmas.{tells_front, tells_next, tells_sent}
 use Rattle.as4_tool.proofs.status.send_line.Goals as goal
 
@@ -29,7 +29,7 @@ returns-clause-told g c =
     tells_next (codes "line ") (decimal c.args.number ++ codes "\n") _ taken later _ _ _
     c.in_ok-send_all.ensures.ok c.in_ok-send_all.ensures.counted
     (tells_next (decimal c.args.number) (codes "\n") taken mid later _ _ _
-    (subst (λ text. mid ≡ behind taken text) printed c.in_ok-send_all-2.ensures.ok)
+    (subst (λ text. mid ≡ appended taken text) printed c.in_ok-send_all-2.ensures.ok)
     c.in_ok-send_all-2.ensures.counted
     (tells_sent c.send_all-3.result (codes "\n") mid later _ _
     c.send_all-3.ensures.ok c.send_all-3.ensures.err c.send_all-3.ensures.front))

@@ -1,5 +1,5 @@
 use Rattle.std.proofs.Common.{◌≡◌, ℕ, List, ap, ◌∙◌, refl, subst}
-use Rattle.as4_flow.specs.Told.{TakesFront, behind}
+use Rattle.as4_flow.specs.Flow.{TakesFront, appended}
 use Rattle.drill.specs.Transcript.{end_lines}
 use Rattle.drill.proofs.GeneratedLemmas.{generated_once}
 use Rattle.drill.proofs.generated.write_ends.Goals as goal
@@ -11,7 +11,7 @@ returns-in-Ok-send_all-clause-ends g c seed count is =
         c.args.state.now,
         is,
         generated_once c.a_drill_delivers_once.ensures seed count c.args.state.now is,
-        c.in-Ok-send_all.ensures.ok ∙ ap (behind (g.K.Sink.taken c.args.sink.now)) text,
+        c.in-Ok-send_all.ensures.ok ∙ ap (appended (g.K.Sink.taken c.args.sink.now)) text,
       ),
       (refl, c.in-Ok-send_all.ensures.quiet),
     )

@@ -1,5 +1,5 @@
 use Rattle.std.proofs.Common.{◌≡◌, refl}
-use Rattle.as4_flow.specs.Told.{before}
+use Rattle.as4_flow.specs.Flow.{before}
 use Rattle.drill_script.specs.LineText.{line_text}
 use Rattle.drill.proofs.NextLemmas.{unended_holds, too_long_holds, unread_told}
 use Rattle.drill.proofs.next.next_line.Goals as goal

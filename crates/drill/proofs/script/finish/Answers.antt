@@ -1,6 +1,5 @@
 use Rattle.std.proofs.Common.{◌≡◌, ℕ, List, ap, ◌∙◌, subst}
-use Rattle.as4_flow.specs.Flow.{flow}
-use Rattle.as4_flow.specs.Told.{TakesFront, behind}
+use Rattle.as4_flow.specs.Flow.{flow, TakesFront, appended}
 use Rattle.drill.specs.Transcript.{end_lines}
 use Rattle.drill.proofs.EndLemmas.{ends_read, ends_unfinished, ends_without_memory}
 use Rattle.drill.proofs.script.finish.Goals as goal
@@ -10,7 +9,7 @@ returns-in-Ok-send_all-clause-ends g c start held count left reads s none =
     let text : c.bytes.result.now ≡ end_lines c.args.state.now.world = cc (c.in-Ok.ensures, c.bytes.ensures) in
     ends_read c.a_drill_delivers_once.ensures c.args.state.now held count start (flow left (g.K.Sink.taken c.args.sink.now) reads (g.K.Sink.faults c.args.sink.now))
     (g.K.Sink.taken c.send_all.new.sink) (g.K.Sink.faults c.send_all.new.sink) s none
-    (c.in-Ok-send_all.ensures.ok ∙ ap (behind (g.K.Sink.taken c.args.sink.now)) text) c.in-Ok-send_all.ensures.quiet
+    (c.in-Ok-send_all.ensures.ok ∙ ap (appended (g.K.Sink.taken c.args.sink.now)) text) c.in-Ok-send_all.ensures.quiet
 
 pub returns-in-Ok-clause-ends : goal.returns-in-Ok-clause-ends
 returns-in-Ok-clause-ends g c start held count left reads s none =

@@ -1,6 +1,5 @@
 use Rattle.std.proofs.Common.{◌≡◌, ℕ, ◌<◌, List, ap, ◌∙◌, subst, arith}
-use Rattle.as4_flow.specs.Flow.{flow}
-use Rattle.as4_flow.specs.Told.{TakesFront, behind}
+use Rattle.as4_flow.specs.Flow.{flow, TakesFront, appended}
 use Rattle.drill.specs.Transcript.{lines_limit}
 use Rattle.drill.proofs.EndLemmas.{Turn, so_far_played, ends_full, ends_too_many, ends_unwritten, ends_without_memory, ends_wrong}
 use Rattle.drill_script.specs.Lacking.{parted}
@@ -16,7 +15,7 @@ returns-in-Ok-send_all-clause-so_far g c start held left reads s =
     so_far_played c.args.line.now c.in-Ok.text c.args.state.now c.play.new.self held c.args.played start
     (flow left (g.K.Sink.taken c.args.sink.now) reads (g.K.Sink.faults c.args.sink.now))
     (g.K.Sink.taken c.send_all.new.sink) (g.K.Sink.faults c.send_all.new.sink) s turn few
-    (c.in-Ok-send_all.ensures.ok ∙ ap (behind (g.K.Sink.taken c.args.sink.now)) text)
+    (c.in-Ok-send_all.ensures.ok ∙ ap (appended (g.K.Sink.taken c.args.sink.now)) text)
     c.in-Ok-send_all.ensures.quiet
 
 pub returns-in-Ok-clause-so_far : goal.returns-in-Ok-clause-so_far

@@ -1,6 +1,5 @@
 use Rattle.std.proofs.Common.{◌≡◌, List, ℕ, [], Option, refl, subst}
-use Rattle.as4_flow.specs.Flow.{flow}
-use Rattle.as4_flow.specs.Told.{Told}
+use Rattle.as4_flow.specs.Flow.{flow, Told}
 use Rattle.drill.specs.Next.{HoldsNoLine}
 use Rattle.drill_script.specs.Lacking.{parted}
 use Rattle.drill_script.specs.LineText.{line_text}

@@ -1,6 +1,6 @@
 use Rattle.std.proofs.Common.{◌≡◌, ℕ, ◌+◌, ◌≤◌, ◌++◌, List, Option, length, take, sym, ◌∙◌, ap, arith}
-use Rattle.as4_flow.specs.Told.{before}
-use Rattle.as4_flow.proofs.ToldLemmas.{before_append}
+use Rattle.as4_flow.specs.Flow.{before}
+use Rattle.as4_flow.proofs.FlowLemmas.{before_append}
 use Rattle.drill_script.proofs.FrontLemmas.{resized_front, read_behind}
 use Rattle.drill_script.proofs.pieces.read_piece.Goals as goal
 

@@ -1,5 +1,5 @@
 use Rattle.std.proofs.Common.{◌≡◌, arith}
-use Rattle.as4_flow.specs.Faults.{Rose}
+use Rattle.as4_flow.specs.Flow.{Rose}
 use Rattle.end_journal.proofs.fault.since.Goals as goal
 
 pub returns-in-Disk-clause-cause : goal.returns-in-Disk-clause-cause

@@ -1,6 +1,6 @@
 use Rattle.std.proofs.Common.{◌≡◌, ℕ, ◌-◌, ◌≤◌, ◌^◌, List, []}
 use Rattle.as4_disk.specs.Runs.{LeavesOnly, Quiet}
-use Rattle.as4_flow.specs.Told.{Told}
+use Rattle.as4_flow.specs.Flow.{Told}
 use Rattle.journal.specs.State.{HasRead}
 use Rattle.journal.specs.Store.{Reopens}
 use Rattle.end_journal.specs.Reading.{HasReplayed}

@@ -1,6 +1,6 @@
 use Rattle.std.proofs.Common.{List, ℕ, ◌-◌, ◌^◌}
 use Rattle.std.specs.Prelude.{IsNone}
-use Rattle.as4_flow.specs.Told.{Told}
+use Rattle.as4_flow.specs.Flow.{Told}
 use Rattle.journal.specs.State.{HasRead}
 use Rattle.journal_tests.proofs.ready.open_all.Given as goal
 

@@ -1,5 +1,5 @@
 use Rattle.std.proofs.Common.{◌≡◌, ◌⊎◌, ◌+◌, ◌-◌, ◌≤◌, length, take}
-use Rattle.as4_flow.specs.Told.{before}
+use Rattle.as4_flow.specs.Flow.{before}
 use Rattle.drill_script.specs.Lacking.{Lacks}
 use Rattle.drill_script.specs.LineText.{line_limit}
 use Rattle.drill_script.specs.Lines.{BeginsLong, ahead_limit}

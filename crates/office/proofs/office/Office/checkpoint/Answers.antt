@@ -1,7 +1,7 @@
 use Rattle.std.proofs.Common.{inl, inr, ◌<◌, ◌^◌, ◌∙◌, List, None, Some, Err, length, refl, sym, ap, subst, arith}
 use Rattle.std.proofs.lemmas.Grind.{common_steps}
 use Rattle.as4_disk.proofs.RunLemmas.{at_end}
-use Rattle.as4_flow.specs.Faults.{Rose}
+use Rattle.as4_flow.specs.Flow.{Rose}
 use Rattle.as4_values.specs.declared.mode.Mode.{Mode}
 use Rattle.end_records.specs.Opens.{OpensFolded}
 use Rattle.msh_core.specs.Machine.{Machine}

@@ -22,14 +22,6 @@ invariant_of-office g c =
       ap length c.in-Ok-of.ensures,
     )
 
-pub returns-in-Err-open_end-clause-not_journal : goal.returns-in-Err-open_end-clause-not_journal
-returns-in-Err-open_end-clause-not_journal g c at is =
-    c.in-Err-open_end.ensures.not_journal at (c.of-in-Err-open_end.ensures.only at is)
-
-pub returns-in-Err-open_end-clause-untouched : goal.returns-in-Err-open_end-clause-untouched
-returns-in-Err-open_end-clause-untouched g c at is =
-    c.in-Err-open_end.ensures.untouched at (c.of-in-Err-open_end.ensures.only at is)
-
 pub returns-in-Ok-open_end-clause-safe : goal.returns-in-Ok-open_end-clause-safe
 returns-in-Ok-open_end-clause-safe g c =
     kept_opens g.D.Disk.seen g.D.Disk.may_leave c.in-Ok-open_end.core.end c.in-Ok-open_end.journal c.in-Ok-open_end.ensures.kept
@@ -37,4 +29,4 @@ returns-in-Ok-open_end-clause-safe g c =
 pub returns-in-Err-open_end-clause-whole : goal.returns-in-Err-open_end-clause-whole
 returns-in-Err-open_end-clause-whole g c at is image told end reads =
     c.no_whole_disk_is_unfit.ensures.read image end at reads
-    (c.in-Err-open_end.ensures.not_journal at (c.of-in-Err-open_end.ensures.only at is) image told)
+    (c.in-Err-open_end.ensures.not_journal at is image told)

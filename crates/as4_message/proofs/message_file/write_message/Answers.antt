@@ -1,6 +1,6 @@
 use Rattle.std.proofs.Common.{sym, ◌∙◌}
 use Rattle.as4_message.proofs.WireLemmas.{package_is_wire}
-use Rattle.as4_message.proofs.write.write_message.Goals as goal
+use Rattle.as4_message.proofs.message_file.write_message.Goals as goal
 
 pub returns-in_ok-root-in-User : goal.returns-in_ok-root-in-User
 returns-in_ok-root-in-User c =
