@@ -8,8 +8,8 @@ use Rattle.as4_values.specs.declared.header.PartInfo.{PartInfo}
 use Rattle.as4_effects.specs.Pairing.{cid_in, named_by, are_paired}
 use Rattle.mime_fields.specs.Fields.{PartValue}
 use Rattle.byte_forms.proofs.CutLemmas.{cases_option}
-use Rattle.as4_message.specs.Attached.{AttachedValue, is_inside, is_outside, all_attached, paired, attach, not_supported, external, inconsistent}
-use Rattle.as4_message.specs.Meaning.{attached_value}
+use Rattle.as4_message.specs.Attached.{AttachedValue, is_inside, is_outside, all_attached, paired, attach, attached_value}
+use Rattle.as4_message.specs.declared.error_codes.TheConstants.{EXTERNAL, INCONSISTENT, NOT_SUPPORTED}
 use Rattle.as4_message.specs.declared.attachment.Attachment.{Attachment}
 
 right_of : (a b : Bool) → (a || b) ≡ false → b ≡ false
@@ -35,11 +35,11 @@ outside_is (info ∷ infos) none =
     ]
 
 -- the answers of the first two rows, and of the others
-pub attach_inside : (infos : List PartInfo) (parts : List PartValue) → list_any is_inside infos ≡ true → attach infos parts ≡ Err not_supported
+pub attach_inside : (infos : List PartInfo) (parts : List PartValue) → list_any is_inside infos ≡ true → attach infos parts ≡ Err NOT_SUPPORTED
 unfolding attach
 attach_inside infos parts inside = rw inside refl
 
-pub attach_outside : (infos : List PartInfo) (parts : List PartValue) → list_any is_inside infos ≡ false → None ≡ named_by infos → attach infos parts ≡ Err external
+pub attach_outside : (infos : List PartInfo) (parts : List PartValue) → list_any is_inside infos ≡ false → None ≡ named_by infos → attach infos parts ≡ Err EXTERNAL
 unfolding attach
 attach_outside infos parts none unnamed = rw (none, outside_is infos none, ← unnamed) refl
 
@@ -53,5 +53,5 @@ ids_are parts = map-map (λ part. part.cid) attached_value parts
 pub paired_so : (names : List (List ℕ)) (parts : List Attachment) (found : Option (List AttachedValue)) → Some (map attached_value parts) ≡ found → are_paired (Some names) (map (λ part. part.cid) parts) ≡ true → Ok (map attached_value parts) ≡ paired (Some names) found
 paired_so names parts found is paired_is = rw (← is, ids_are parts, paired_is) refl
 
-pub not_paired_so : (names : List (List ℕ)) (parts : List Attachment) (found : Option (List AttachedValue)) → Some (map attached_value parts) ≡ found → are_paired (Some names) (map (λ part. part.cid) parts) ≡ false → Err inconsistent ≡ paired (Some names) found
+pub not_paired_so : (names : List (List ℕ)) (parts : List Attachment) (found : Option (List AttachedValue)) → Some (map attached_value parts) ≡ found → are_paired (Some names) (map (λ part. part.cid) parts) ≡ false → Err INCONSISTENT ≡ paired (Some names) found
 not_paired_so names parts found is other = rw (← is, ids_are parts, other) refl

@@ -6,12 +6,18 @@ use Rattle.as4_values.specs.declared.header.PartInfo.{PartInfo}
 use Rattle.as4_effects.specs.Pairing.{cid_in, named_by, are_paired}
 use Rattle.byte_forms.specs.Cuts.{◌>>=◌}
 use Rattle.mime_fields.specs.Fields.{PartValue}
+use Rattle.as4_message.specs.declared.attachment.Attachment.{Attachment}
+use Rattle.as4_message.specs.declared.error_codes.TheConstants.{EXTERNAL, INCONSISTENT, NOT_SUPPORTED}
 
 -- a part that has a Content-ID
 pub record AttachedValue : Type 0 where
   pub cid : List ℕ
   pub media : List ℕ
   pub content : List ℕ
+
+-- what is lent, without where it lies in memory
+abbrev pub attached_value : Attachment → AttachedValue
+attached_value part = record { cid = part.cid; media = part.media; content = part.content.now }
 
 abbrev pub attached : PartValue → Option AttachedValue
 attached part = option_map (λ cid. record { cid = cid; media = part.media; content = part.content }) part.id
@@ -35,24 +41,14 @@ is_outside info = elim info.href [
   | Some href ↦ is_none (cid_in href)
 ]
 
--- the errors: FeatureNotSupported, ExternalPayloadError, MimeInconsistency
-abbrev pub not_supported : ℕ
-not_supported = 8
-
-abbrev pub external : ℕ
-external = 11
-
-abbrev pub inconsistent : ℕ
-inconsistent = 7
-
 -- the parts, of which each is named once, each by its own Content-ID
 abbrev pub paired : Option (List (List ℕ)) → Option (List AttachedValue) → Result (List AttachedValue) ℕ
-paired names None = Err inconsistent
-paired names (Some parts) = if are_paired names (map (λ part. part.cid) parts) then Ok parts else Err inconsistent
+paired names None = Err INCONSISTENT
+paired names (Some parts) = if are_paired names (map (λ part. part.cid) parts) then Ok parts else Err INCONSISTENT
 
 -- the parts that the part infos refer to, or the first error
 unfoldable pub attach : List PartInfo → List PartValue → Result (List AttachedValue) ℕ
 attach infos parts =
-    if list_any is_inside infos then Err not_supported
-    else if list_any is_outside infos then Err external
+    if list_any is_inside infos then Err NOT_SUPPORTED
+    else if list_any is_outside infos then Err EXTERNAL
     else paired (named_by infos) (all_attached parts)

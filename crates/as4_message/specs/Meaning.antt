@@ -18,8 +18,8 @@ use Rattle.mime_fields.specs.Fields.{PartValue}
 use Rattle.mime_package.specs.Reading.{PackageValue, package_of}
 use Rattle.mime_package.specs.declared.read.MimeRefusal.{MimeRefusal}
 use Rattle.mime_package.specs.declared.read.MimeRefusal.TheVariants as mime_refusal
-use Rattle.as4_message.specs.Attached.{AttachedValue, attach, not_supported, inconsistent}
-use Rattle.as4_message.specs.declared.attachment.Attachment.{Attachment}
+use Rattle.as4_message.specs.Attached.{AttachedValue, attach, attached_value}
+use Rattle.as4_message.specs.declared.error_codes.TheConstants.{INCONSISTENT, INVALID_HEADER, NOT_SUPPORTED}
 use Rattle.as4_message.specs.declared.received.Received.{Received}
 use Rattle.as4_message.specs.declared.received.Received.TheVariants as lent
 use Rattle.as4_message.specs.declared.received.Refusal.{Refusal}
@@ -33,9 +33,6 @@ pub data ReceivedValue : Type 0 where
   pair : Pair → ReceivedValue
 
 -- what is lent, without where it lies in memory
-abbrev pub attached_value : Attachment → AttachedValue
-attached_value part = record { cid = part.cid; media = part.media; content = part.content.now }
-
 abbrev pub received_value : Received → ReceivedValue
 received_value (lent.User header parts) = user header (map attached_value parts.items)
 received_value (lent.Signal s) = signal s
@@ -46,21 +43,18 @@ refused code about = Err (record { code = code; about = about })
 
 -- what is no package: MimeInconsistency, or FeatureNotSupported where a part is encoded for transfer
 abbrev pub package_code : MimeRefusal → ℕ
-package_code mime_refusal.BadType = inconsistent
-package_code mime_refusal.NoBoundary = inconsistent
-package_code (mime_refusal.BadPart index) = inconsistent
-package_code mime_refusal.NoRoot = inconsistent
-package_code (mime_refusal.Encoding index) = not_supported
-package_code mime_refusal.NoMemory = inconsistent
+package_code mime_refusal.BadType = INCONSISTENT
+package_code mime_refusal.NoBoundary = INCONSISTENT
+package_code (mime_refusal.BadPart index) = INCONSISTENT
+package_code mime_refusal.NoRoot = INCONSISTENT
+package_code (mime_refusal.Encoding index) = NOT_SUPPORTED
+package_code mime_refusal.NoMemory = INCONSISTENT
 
 -- what is no envelope of a unit: InvalidHeader, or FeatureNotSupported
-abbrev pub invalid_header : ℕ
-invalid_header = 9
-
 abbrev pub envelope_code : HeaderRefusal → ℕ
-envelope_code header_refusal.Invalid = invalid_header
-envelope_code header_refusal.Unsupported = not_supported
-envelope_code header_refusal.NoMemory = invalid_header
+envelope_code header_refusal.Invalid = INVALID_HEADER
+envelope_code header_refusal.Unsupported = NOT_SUPPORTED
+envelope_code header_refusal.NoMemory = INVALID_HEADER
 
 abbrev pub unit_or_code : Result MessageUnit HeaderRefusal → Result MessageUnit ℕ
 unit_or_code (Ok u) = Ok u
@@ -69,7 +63,7 @@ unit_or_code (Err refusal) = Err (envelope_code refusal)
 -- what the root means: the unit of its tree, or the code by which it is refused
 abbrev pub RootMeans : List ℕ → Result MessageUnit ℕ → Type 0
 RootMeans root meant =
-    ((meant ≡ Err invalid_header) × ((tree : Element) → ¬ (IsDocument root tree)))
+    ((meant ≡ Err INVALID_HEADER) × ((tree : Element) → ¬ (IsDocument root tree)))
     ⊎ ((tree : Element) × IsDocument root tree × (meant ≡ unit_or_code (unit_of tree)))
 
 -- a header with the parts that it refers to; a signal or a pair has no parts
@@ -79,7 +73,7 @@ user_with header (Err code) = refused code (Some header.id)
 
 abbrev pub alone : List PartValue → List ℕ → ReceivedValue → Result ReceivedValue Refusal
 alone [] id received = Ok received
-alone (part ∷ parts) id received = refused inconsistent (Some id)
+alone (part ∷ parts) id received = refused INCONSISTENT (Some id)
 
 abbrev pub unit_with : List PartValue → MessageUnit → Result ReceivedValue Refusal
 unit_with parts (unit.User header) = user_with header (attach header.parts parts)

@@ -4,23 +4,14 @@ ghost use Rattle.std.specs.List.{list_any};
 ghost use Rattle.std.specs.Result.{result_map_both};
 ghost use Rattle.as4_effects.specs.Pairing.{cid_in, named_by, are_paired};
 ghost use Rattle.mime_fields.specs.Lent.{part_value};
-ghost use Rattle.as4_message.specs.Attached.{is_inside, is_outside, attached, all_attached, paired, attach};
-ghost use Rattle.as4_message.specs.Meaning.{attached_value};
+ghost use Rattle.as4_message.specs.Attached.{is_inside, is_outside, attached, all_attached, paired, attach, attached_value};
 
 use crate::attachment::Attachment;
+use crate::error_codes::{EXTERNAL, INCONSISTENT, NOT_SUPPORTED};
 use as4_effects::{all_differ, are_among, cid_in};
 use as4_values::{NoMemory, Octets, PartInfo, PlainData};
 use mime_fields::Part;
 use std::alloc::Global;
-
-/// The code of what isn't supported: FeatureNotSupported (ebMS 3.0 Core, section 6.7.1).
-pub(crate) const NOT_SUPPORTED: u16 = 8;
-
-/// The code of a payload outside of the package: ExternalPayloadError.
-const EXTERNAL: u16 = 11;
-
-/// The code of what is no package: MimeInconsistency.
-pub(crate) const INCONSISTENT: u16 = 7;
 
 /// The parts that the part infos refer to, or the code of the error by which they are refused.
 pub(crate) fn attach<'a>(

@@ -3,6 +3,7 @@
 
 mod attach;
 mod attachment;
+mod error_codes;
 mod laws;
 mod line;
 mod message_file;
@@ -16,4 +17,4 @@ pub use line::{Line, check_line};
 pub use message_file::{split_file, write_message, write_message_file};
 pub use package_writer::Wire;
 pub use read::read_message;
-pub use received::{MessageRefusal, Received, Refusal, lend_message, refusal_signal};
+pub use received::{MessageRefusal, Received, Refusal, lend_message};

@@ -2,7 +2,8 @@
 ghost use Rattle.std.specs.Prelude.{◌≡◌, Err, IfOk, IsSome, map};
 ghost use Rattle.as4_codes.specs.ErrorCodes.{error_row};
 ghost use Rattle.as4_message.specs.declared.received.Refusal.{Refusal as RefusalValue};
-ghost use Rattle.as4_message.specs.Meaning.{AnswersBy, Copies, Means, IsMessage, payload_value, attached_value, received_value};
+ghost use Rattle.as4_message.specs.Attached.{attached_value};
+ghost use Rattle.as4_message.specs.Meaning.{AnswersBy, Copies, Means, IsMessage, payload_value, received_value};
 
 use crate::attachment::Attachment;
 use crate::received::{MessageRefusal, Received, lend_message};

@@ -1,20 +1,19 @@
 //! Messages as they come, lent from the bytes that carry them, and the refusals of what is no message.
-ghost use Rattle.std.specs.Prelude.{◌≡◌, ◌≤◌, Ok, Err, None, Some, IfOk, IsSome, map};
+ghost use Rattle.std.specs.Prelude.{◌≡◌, Ok, Err, None, Some, IsSome, map};
 ghost use Rattle.std.specs.Result.{result_map_both};
 ghost use Rattle.as4_codes.specs.ErrorCodes.{error_row};
-ghost use Rattle.as4_codes.specs.Signals.{IsErrorSignalOf};
 ghost use Rattle.as4_message.specs.declared.received.Refusal.{Refusal as RefusalValue};
 ghost use Rattle.mime_fields.specs.Lent.{part_value};
 ghost use Rattle.mime_package.specs.Lent.{package_value};
-ghost use Rattle.as4_message.specs.Attached.{attach};
+ghost use Rattle.as4_message.specs.Attached.{attach, attached_value};
 ghost use Rattle.as4_message.specs.Meaning as meaning;
-ghost use Rattle.as4_message.specs.Meaning.{PackageMeans, Means, package_code, unit_with, root_with, alone, user_with, attached_value, received_value, AnswersBy, Refuses};
+ghost use Rattle.as4_message.specs.Meaning.{PackageMeans, Means, package_code, unit_with, root_with, alone, user_with, received_value, AnswersBy, Refuses};
 
-use crate::attach::{INCONSISTENT, NOT_SUPPORTED, attach};
+use crate::attach::attach;
 use crate::attachment::Attachment;
+use crate::error_codes::{INCONSISTENT, NOT_SUPPORTED};
 use crate::root::read_root;
-use as4_codes::error_signal;
-use as4_values::{MAX_MOMENT, MessageId, NoMemory, Pair, PlainData, Signal, Unit, UserHeader};
+use as4_values::{MessageId, NoMemory, Pair, PlainData, Signal, Unit, UserHeader};
 use mime_fields::Part;
 use mime_package::{MimeRefusal, read_parts};
 use std::alloc::Global;
@@ -206,20 +205,4 @@ fn pair_with<'a>(
         return Err(refusal);
     }
     Ok(Received::Pair(pair))
-}
-
-/// The error signal of a refusal (ebMS 3.0 Core, section 6.2), made at the moment `stamp`, in milliseconds since
-/// 1970-01-01T00:00:00Z, and named by the nonce.
-pub fn refusal_signal(
-    alloc: Global,
-    refusal: &Refusal,
-    stamp: u64,
-    nonce: u128,
-) -> Result<Signal, NoMemory>
-    // The table of error codes has the code.
-    requires known { IsSome (error_row refusal.now.code) }
-    requires moment { stamp ≤ MAX_MOMENT }
-    ensures { IfOk result (λ signal. IsErrorSignalOf refusal.now.code refusal.now.about stamp nonce signal) }
-{
-    error_signal(alloc, refusal.code, refusal.about.as_ref(), stamp, nonce)
 }

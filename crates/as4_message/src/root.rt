@@ -2,14 +2,11 @@
 ghost use Rattle.std.specs.Prelude.{IfOk};
 ghost use Rattle.as4_message.specs.Meaning.{RootMeans};
 
-use crate::attach::NOT_SUPPORTED;
+use crate::error_codes::{INVALID_HEADER, NOT_SUPPORTED};
 use as4_values::{NoMemory, Unit};
 use header_reader::{HeaderRefusal, read_unit};
 use std::alloc::Global;
 use tree_reader::{TreeRefusal, read_tree};
-
-/// The code of what is no envelope of a unit: InvalidHeader (ebMS 3.0 Core, section 6.7.1).
-const INVALID_HEADER: u16 = 9;
 
 /// Reads the unit of an envelope, or answers the code of the error by which it is refused.
 pub(crate) fn read_root(alloc: Global, root: &[u8]) -> Result<Result<Unit, u16>, NoMemory>

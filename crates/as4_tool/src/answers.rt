@@ -6,10 +6,9 @@ ghost use Rattle.message_model.specs.Wire.{IsFile};
 ghost use Rattle.as4_message.specs.Meaning.{received_value, AnswersBy};
 ghost use Rattle.as4_tool.specs.Answer.{FileMeans, IsReply, IsAnswer, IsSignal, IsSignalFile, IsFileLine};
 
-use as4_codes::receipt;
+use as4_codes::{error_signal, receipt};
 use as4_message::{
-    Line, MessageRefusal, Received, check_line, lend_message, refusal_signal, split_file,
-    write_message_file,
+    Line, MessageRefusal, Received, check_line, lend_message, split_file, write_message_file,
 };
 use as4_values::{MAX_MOMENT, Message, NoMemory, Octets, Signal};
 use std::alloc::Global;
@@ -33,7 +32,7 @@ pub fn answer_file(
             file_of(alloc, reply?)
         }
         Err(MessageRefusal::Refused(refusal)) => {
-            let reply = refusal_signal(alloc, &refusal, stamp, nonce);
+            let reply = error_signal(alloc, refusal.code, refusal.about.as_ref(), stamp, nonce);
             drop(refusal);
             file_of(alloc, Some(reply?))
         }

@@ -55,7 +55,6 @@ impl<D: Disk> Journal<D> {
         match add_record(&mut self.disk, self.is_second, gate, frame) {
             Ok(()) => {
                 self.gate = gate + need;
-                self.ahead = None;
                 Ok(gate)
             }
             Err(DiskFailed) => {

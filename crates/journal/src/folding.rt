@@ -110,7 +110,6 @@ impl<D: Disk> Journal<D> {
                 self.is_second = !self.is_second;
                 self.version = Version::Two;
                 self.gate = gate;
-                self.ahead = None;
                 self.fold = None;
                 Ok(())
             }

@@ -1,7 +1,6 @@
 use Rattle.std.proofs.Common.{◌≡◌, ◌++◌, map, option_map, drop}
 use Rattle.mime_fields.specs.Lent.{part_value}
-use Rattle.as4_message.specs.Attached.{all_attached}
-use Rattle.as4_message.specs.Meaning.{attached_value}
+use Rattle.as4_message.specs.Attached.{all_attached, attached_value}
 use Rattle.as4_message.proofs.attach.all_attached.Given as goal
 
 -- those so far stand before the others

@@ -1,5 +1,6 @@
 use Rattle.std.proofs.Common.{◌≡◌, map, take}
-use Rattle.as4_message.specs.Meaning.{payload_value, attached_value}
+use Rattle.as4_message.specs.Attached.{attached_value}
+use Rattle.as4_message.specs.Meaning.{payload_value}
 use Rattle.as4_message.proofs.read.payloads_of.Given as goal
 
 abbrev pub invariant-loop-part : goal.invariant-loop-part

@@ -45,4 +45,5 @@ returns-in-Ok-clause-settled g c bodies has =
       settled = subst P back added.1;
       place = ap (λ (n : ℕ). c.args.self.now.gate + (n + 9)) len ∙ subst R back place;
       within = subst Q back small;
+      ahead = has.ahead;
     }

@@ -33,6 +33,7 @@ returns-in-Ok-clause-added g c bodies folded has =
       settled = kept.0;
       place = has.place;
       within = has.within;
+      ahead = has.ahead;
       other = λ b told. kept.1 b told ∙ ap (λ (l : List ℕ). overwritten c.unwrap-gate.result l (front_of Two folded)) c.head.ensures ∙ extended c.unwrap-gate.result (record_of Two body) (front_of Two folded) gate ∙ sym (front_more Two folded body);
       fold_place = ap (λ (n : ℕ). Some n) place;
       fold_within = omega (arith, room, gate, length-front_more Two folded body);

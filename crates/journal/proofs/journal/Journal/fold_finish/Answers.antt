@@ -23,6 +23,7 @@ returns-in-Ok-clause-folded g c bodies folded has =
       settled = c.in-Ok.ensures.picked leaf (front_of Two folded) gate has.settled has.other;
       place = gate;
       within = has.fold_within;
+      ahead = has.ahead;
     }
 
 pub returns-in-Ok-clause-any_moment : goal.returns-in-Ok-clause-any_moment

@@ -18,6 +18,7 @@ returns-in-Ok-clause-open g c bodies has =
       settled = kept.0;
       place = has.place;
       within = has.within;
+      ahead = has.ahead;
       other = kept.1;
       fold_place = ap (λ (n : ℕ). Some n) len;
       fold_within = omega (arith, length-front Two []);
