@@ -88,10 +88,8 @@ fn overwrite_items(items: &mut Vec<u8>, at: usize, bytes: &[u8]) -> Result<(), A
     ensures err { OnErr result (items.new.items ≡ items.old.items) }
 {
     let at = at.min(items.len());
-    let end = at + bytes.len();
-    if items.len() < end {
-        items.resize(end, 0)?;
-    }
-    items[at..end].copy_from_slice(bytes);
+    let (over, behind) = bytes.split_at(bytes.len().min(items.len() - at));
+    items.extend_from_slice(behind)?;
+    items[at..at + over.len()].copy_from_slice(over);
     Ok(())
 }
