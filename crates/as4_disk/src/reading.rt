@@ -50,6 +50,7 @@ pub fn read_some<D: Disk>(
 
     ensures quiet { Quiet D.moment D.left_since D.seen D.may_leave disk.old disk.new }
     ensures cause { IsErrOf result ReadFault.Disk → Rose (D.fault_count disk.old) (D.fault_count disk.new) }
+    ensures calm { ¬ IsErrOf result ReadFault.Disk → D.fault_count disk.new ≡ D.fault_count disk.old }
     ensures counted { D.fault_count disk.old ≤ D.fault_count disk.new }
 {
     let len = disk.len(part)?;

@@ -1,9 +1,7 @@
--- Runs of device calls behind one another, and what their counts say.
-use Rattle.std.proofs.Common.{◌≡◌, inl, inr, ℕ, ◌≤◌, Option, Some, None, is_some, refl, arith}
+-- Runs of device calls behind one another.
+use Rattle.std.proofs.Common.{◌≡◌, inl, inr, ℕ, Option, Some, None, is_some, refl}
 use Rattle.as4_disk.specs.Runs.{FirstThen, LeavesOnly, Quiet}
 use Rattle.as4_disk.proofs.RunLemmas.{no_call, then, weaken}
-use Rattle.journal.specs.declared.fault.JournalFault.{JournalFault}
-use Rattle.end_journal.specs.Causes.{IsDiskSince}
 
 module _ {D X : Type 0} (moment : D → ℕ) (left_since : D → ℕ → X → Type 0) where
   -- a run of the first kind in front of one of both
@@ -33,10 +31,3 @@ quiet_none moment left_since seen may_leave only_now disk =
 pub told_before : {X : Type 0} (old new : Option X) (image : X) → is_some new ≡ is_some old → new ≡ Some image → (was : X) × (old ≡ Some was)
 told_before (Some was) new image same told = (was, λ i. Some was)
 told_before None new image same told = absurd cc
-
--- a count of a call, in one that began earlier
-pub since_earlier : (start before now : ℕ) (fault : JournalFault) → start ≤ before → IsDiskSince before now fault → IsDiskSince start now fault
-since_earlier start before now fault later is x y same =
-    let found = is x y same in
-    let from : start ≤ x = omega (arith, found.0) in
-    (from, found.1, found.2)

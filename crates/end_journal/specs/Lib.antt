@@ -1,4 +1,3 @@
 pub mod Frames
-pub mod Causes
 pub mod Reading
 pub mod Adding

@@ -1,5 +1,5 @@
 //! How a record of effects is made and put behind the others.
-ghost use Rattle.std.specs.Prelude.{◌≡◌, ℕ, ◌+◌, ◌≤◌, ◌^◌, IfErr, IfOk, OnOk, is_ok, is_some, length};
+ghost use Rattle.std.specs.Prelude.{◌≡◌, ℕ, ◌+◌, ◌≤◌, ◌^◌, [], IfErr, IfOk, IsOk, OnOk, is_ok, is_some, length};
 ghost use Rattle.as4_disk.specs.Image.{Image};
 ghost use Rattle.as4_disk.specs.Runs.{LeavesOnly, MakesAll};
 ghost use Rattle.as4_effects.specs.Effects.{effects_body, effects_limit};
@@ -23,7 +23,8 @@ use std::alloc::Global;
 pub fn frame_of(alloc: Global, effects: &Seq<Effect>) -> Result<Option<Frame>, NoMemory>
     requires counted { length effects.now ≤ effects_limit }
     requires short { length (effects_body effects.now) ≤ 2 ^ 30 }
-    ensures { IfOk result (IsFrameOf effects.now) }
+    ensures frame { IfOk result (IsFrameOf effects.now) }
+    ensures none { effects.now ≡ [] → IsOk result }
 {
     if effects.items().is_empty() {
         return Ok(None);
@@ -49,6 +50,7 @@ pub fn add_record<D: Disk>(journal: &mut Journal<D>, frame: &Frame) -> Result<()
     ensures faults { IfErr result IsDiskFault }
     ensures cause { IfErr result
         (IsDisk (D.fault_count journal.old.disk) (D.fault_count journal.new.disk)) }
+    ensures fine { OnOk result (D.fault_count journal.new.disk ≡ D.fault_count journal.old.disk) }
     ensures tells { is_some (D.seen journal.new.disk) ≡ is_some (D.seen journal.old.disk) }
     ensures counted { D.fault_count journal.old.disk ≤ D.fault_count journal.new.disk }
 {

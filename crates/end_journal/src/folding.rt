@@ -7,18 +7,16 @@ ghost use Rattle.as4_disk.specs.Runs.{FirstThen, LeavesOnly};
 ghost use Rattle.as4_effects.specs.declared.effect.Effect.{Effect as EffectValue};
 ghost use Rattle.as4_flow.specs.Flow.{Told};
 ghost use Rattle.end_journal.specs.Adding.{AddsPart, HasAdded};
-ghost use Rattle.end_journal.specs.Causes.{IsDiskSince};
 ghost use Rattle.end_records.specs.Opens.{IsAt, IsJournalOf};
 ghost use Rattle.end_records.specs.Records.{alone};
 ghost use Rattle.event_code.specs.Spelled.{IsSpelledEffect};
 ghost use Rattle.exchange_model.specs.Apply.{record_len};
 ghost use Rattle.exchange_model.specs.End.{End};
 ghost use Rattle.exchange_model.specs.Fold.{IsFolded, IsFoldedSize, resized};
-ghost use Rattle.journal.specs.State.{HasFold, HasRecords, IsDisk, IsReadFault};
+ghost use Rattle.journal.specs.State.{HasFold, HasRecords, IsCalm, IsDisk, IsReadFault};
 ghost use Rattle.journal.specs.Store.{InVersion, OpensSettled};
 
 use crate::adding::frame_of;
-use crate::fault::since;
 use as4_disk::Disk;
 use as4_effects::Effect;
 use as4_values::{NoMemory, Seq};
@@ -55,17 +53,14 @@ pub fn fold_end<D: Disk>(
     ensures faults { IfErr result IsReadFault }
     ensures cause { IfErr result
         (IsDisk (D.fault_count journal.old.disk) (D.fault_count journal.new.disk)) }
+    ensures calm { IfErr result (IsCalm (D.fault_count journal.old.disk) (D.fault_count journal.new.disk)) }
+    ensures fine { OnOk result (D.fault_count journal.new.disk ≡ D.fault_count journal.old.disk) }
     ensures tells { is_some (D.seen journal.new.disk) ≡ is_some (D.seen journal.old.disk) }
     ensures counted { D.fault_count journal.old.disk ≤ D.fault_count journal.new.disk }
 {
-    let before = journal.faults();
-    match write_fold(alloc, journal, core) {
-        Ok(()) => {
-            core.set_folded();
-            Ok(())
-        }
-        Err(fault) => Err(since(before, fault)),
-    }
+    write_fold(alloc, journal, core)?;
+    core.set_folded();
+    Ok(())
 }
 
 /// Puts the records of the end's fold in the place of all.
@@ -89,7 +84,9 @@ fn write_fold<D: Disk>(
         (λ (c : Image). InVersion journal.old.version (OpensSettled bodies) c ⊎ IsAt c (resized size core.now.end)) }
     ensures faults { IfErr result IsReadFault }
     ensures cause { IfErr result
-        (IsDiskSince (D.fault_count journal.old.disk) (D.fault_count journal.new.disk)) }
+        (IsDisk (D.fault_count journal.old.disk) (D.fault_count journal.new.disk)) }
+    ensures calm { IfErr result (IsCalm (D.fault_count journal.old.disk) (D.fault_count journal.new.disk)) }
+    ensures fine { OnOk result (D.fault_count journal.new.disk ≡ D.fault_count journal.old.disk) }
     ensures tells { is_some (D.seen journal.new.disk) ≡ is_some (D.seen journal.old.disk) }
     ensures counted { D.fault_count journal.old.disk ≤ D.fault_count journal.new.disk }
 {
@@ -130,7 +127,9 @@ fn add_parts<D: Disk>(
         (InVersion journal.old.version (OpensSettled bodies)) }
     ensures faults { IfErr result IsReadFault }
     ensures cause { IfErr result
-        (IsDiskSince (D.fault_count journal.old.disk) (D.fault_count journal.new.disk)) }
+        (IsDisk (D.fault_count journal.old.disk) (D.fault_count journal.new.disk)) }
+    ensures calm { IfErr result (IsCalm (D.fault_count journal.old.disk) (D.fault_count journal.new.disk)) }
+    ensures fine { OnOk result (D.fault_count journal.new.disk ≡ D.fault_count journal.old.disk) }
     ensures tells { is_some (D.seen journal.new.disk) ≡ is_some (D.seen journal.old.disk) }
     ensures counted { D.fault_count journal.old.disk ≤ D.fault_count journal.new.disk }
 {
@@ -165,6 +164,8 @@ fn add_part<D: Disk>(
     ensures faults { IfErr result IsReadFault }
     ensures cause { IfErr result
         (IsDisk (D.fault_count journal.old.disk) (D.fault_count journal.new.disk)) }
+    ensures calm { IfErr result (IsCalm (D.fault_count journal.old.disk) (D.fault_count journal.new.disk)) }
+    ensures fine { OnOk result (D.fault_count journal.new.disk ≡ D.fault_count journal.old.disk) }
     ensures tells { is_some (D.seen journal.new.disk) ≡ is_some (D.seen journal.old.disk) }
     ensures counted { D.fault_count journal.old.disk ≤ D.fault_count journal.new.disk }
 {

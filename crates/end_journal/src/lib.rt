@@ -6,7 +6,6 @@
 #![tactic(auto)]
 
 mod adding;
-mod fault;
 mod folding;
 mod opening;
 mod reading;

@@ -2,17 +2,15 @@
 ghost use Rattle.std.specs.Prelude.{◌≡◌, ℕ, ◌≤◌, List, [], IfErr, IfOk, IsNone, OnOk, is_some};
 ghost use Rattle.as4_disk.specs.Runs.{FirstThen, LeavesOnly, Quiet};
 ghost use Rattle.as4_flow.specs.Flow.{Told};
-ghost use Rattle.end_journal.specs.Causes.{IsDiskSince};
 ghost use Rattle.end_records.specs.Opens.{IsJournalOf, IsOld, ReadsAs, ReopensAs};
 ghost use Rattle.end_records.specs.Unfit.{IsNoJournal};
 ghost use Rattle.exchange_model.specs.End.{End, empty_end};
 ghost use Rattle.exchange_model.specs.Fold.{IsFoldedSize, resized};
 ghost use Rattle.journal.specs.Leaf.{IsNew};
-ghost use Rattle.journal.specs.State.{HasRead, IsDisk, IsOpeningFault};
+ghost use Rattle.journal.specs.State.{HasRead, IsCalm, IsDisk, IsOpeningFault};
 ghost use Rattle.journal.specs.Store.{picked_leaf};
 ghost use Rattle.journal.specs.declared.version.Version.TheVariants.{One, Two};
 
-use crate::fault::since;
 use crate::folding::fold_end;
 use crate::reading::read_all;
 use as4_disk::Disk;
@@ -54,11 +52,12 @@ pub fn open_end<D: Disk>(
         → Told (D.seen disk) (λ _. Quiet D.moment D.left_since D.seen D.may_leave disk e.1)) }
     ensures faults { IfErr result (λ e. IsOpeningFault e.0) }
     ensures cause { IfErr result (λ e. IsDisk (D.fault_count disk) (D.fault_count e.1) e.0) }
+    ensures calm { IfErr result (λ e. IsCalm (D.fault_count disk) (D.fault_count e.1) e.0) }
+    ensures fine { IfOk result (λ opened. D.fault_count opened.0.disk ≡ D.fault_count disk) }
     ensures tells { IfOk result (λ opened. is_some (D.seen opened.0.disk) ≡ is_some (D.seen disk)) }
     ensures counted { IfOk result (λ opened. D.fault_count disk ≤ D.fault_count opened.0.disk) }
     ensures failed_count { IfErr result (λ e. D.fault_count disk ≤ D.fault_count e.1) }
 {
-    let before = disk.faults();
     let mut journal = match Journal::open(alloc, disk) {
         Ok(journal) => journal,
         Err(failed) => {
@@ -71,7 +70,7 @@ pub fn open_end<D: Disk>(
         Ok(()) => Ok((journal, core)),
         Err(fault) => {
             drop(core);
-            Err((since(before, fault), journal.into_disk()))
+            Err((fault, journal.into_disk()))
         }
     }
 }
@@ -100,7 +99,9 @@ fn bring_up<D: Disk>(
         → Quiet D.moment D.left_since D.seen D.may_leave journal.old.disk journal.new.disk) }
     ensures faults { IfErr result IsOpeningFault }
     ensures cause { IfErr result
-        (IsDiskSince (D.fault_count journal.old.disk) (D.fault_count journal.new.disk)) }
+        (IsDisk (D.fault_count journal.old.disk) (D.fault_count journal.new.disk)) }
+    ensures calm { IfErr result (IsCalm (D.fault_count journal.old.disk) (D.fault_count journal.new.disk)) }
+    ensures fine { OnOk result (D.fault_count journal.new.disk ≡ D.fault_count journal.old.disk) }
     ensures tells { is_some (D.seen journal.new.disk) ≡ is_some (D.seen journal.old.disk) }
     ensures counted { D.fault_count journal.old.disk ≤ D.fault_count journal.new.disk }
 {

@@ -2,13 +2,12 @@
 ghost use Rattle.std.specs.Prelude.{◌≡◌, ℕ, ◌+◌, ◌≤◌, ◌^◌, List, [], IfErr, IfOk, OnOk, is_some, length, true, false};
 ghost use Rattle.as4_disk.specs.Runs.{LeavesOnly, Quiet};
 ghost use Rattle.as4_flow.specs.Flow.{Told};
-ghost use Rattle.end_journal.specs.Causes.{IsDiskSince};
 ghost use Rattle.end_journal.specs.Reading.{EndsReading, HasReplayedAll, ReadsOn};
 ghost use Rattle.end_records.specs.Records.{RecordLeads, RecordsLead};
 ghost use Rattle.end_records.specs.Unfit.{IsNoJournal};
 ghost use Rattle.exchange_model.specs.End.{End, empty_end};
 ghost use Rattle.journal.specs.Leaf.{front_of};
-ghost use Rattle.journal.specs.State.{HasRead, IsDisk, IsOpeningFault};
+ghost use Rattle.journal.specs.State.{HasRead, IsCalm, IsDisk, IsOpeningFault};
 ghost use Rattle.journal.specs.Store.{Reopens, picked_leaf};
 
 use as4_disk::Disk;
@@ -37,7 +36,9 @@ pub(crate) fn read_all<D: Disk>(
         → Quiet D.moment D.left_since D.seen D.may_leave journal.old.disk journal.new.disk) }
     ensures faults { IfErr result IsOpeningFault }
     ensures cause { IfErr result
-        (IsDiskSince (D.fault_count journal.old.disk) (D.fault_count journal.new.disk)) }
+        (IsDisk (D.fault_count journal.old.disk) (D.fault_count journal.new.disk)) }
+    ensures calm { IfErr result (IsCalm (D.fault_count journal.old.disk) (D.fault_count journal.new.disk)) }
+    ensures fine { OnOk result (D.fault_count journal.new.disk ≡ D.fault_count journal.old.disk) }
     ensures tells { is_some (D.seen journal.new.disk) ≡ is_some (D.seen journal.old.disk) }
     ensures counted { D.fault_count journal.old.disk ≤ D.fault_count journal.new.disk }
 {
@@ -72,6 +73,8 @@ fn replay_next<D: Disk>(
     ensures faults { IfErr result IsOpeningFault }
     ensures cause { IfErr result
         (IsDisk (D.fault_count journal.old.disk) (D.fault_count journal.new.disk)) }
+    ensures calm { IfErr result (IsCalm (D.fault_count journal.old.disk) (D.fault_count journal.new.disk)) }
+    ensures fine { OnOk result (D.fault_count journal.new.disk ≡ D.fault_count journal.old.disk) }
     ensures tells { is_some (D.seen journal.new.disk) ≡ is_some (D.seen journal.old.disk) }
     ensures counted { D.fault_count journal.old.disk ≤ D.fault_count journal.new.disk }
 {

@@ -14,6 +14,13 @@ use Rattle.journal.specs.declared.fault.JournalFault.TheVariants.{Disk, NotJourn
 abbrev pub IsDisk : ℕ → ℕ → JournalFault → Type 0
 IsDisk before after fault = (x y : ℕ) → fault ≡ Disk x y → (x ≡ before) × (y ≡ after) × Rose before after
 
+-- no call on the disk failed, unless the fault is that one did
+abbrev pub IsCalm : ℕ → ℕ → JournalFault → Type 0
+IsCalm before after (Disk x y) = Unit {0}
+IsCalm before after (NotJournal at) = after ≡ before
+IsCalm before after NoMemory = after ≡ before
+IsCalm before after (Full size need) = after ≡ before
+
 -- it is anything but that the journal is full
 abbrev pub IsOpeningFault : JournalFault → Type 0
 IsOpeningFault (NotJournal at) = Unit {0}

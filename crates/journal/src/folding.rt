@@ -30,6 +30,7 @@ impl<D: Disk> Journal<D> {
         ensures cause { IfErr result
             (λ e. IsDisk (D.fault_count self.old.disk) (D.fault_count self.new.disk) e) }
         ensures tells { is_some (D.seen self.new.disk) ≡ is_some (D.seen self.old.disk) }
+        ensures fine { OnOk result (D.fault_count self.new.disk ≡ D.fault_count self.old.disk) }
         ensures counted { D.fault_count self.old.disk ≤ D.fault_count self.new.disk }
     {
         let before = self.disk.faults();
@@ -64,6 +65,7 @@ impl<D: Disk> Journal<D> {
         ensures cause { IfErr result
             (λ e. IsDisk (D.fault_count self.old.disk) (D.fault_count self.new.disk) e) }
         ensures tells { is_some (D.seen self.new.disk) ≡ is_some (D.seen self.old.disk) }
+        ensures fine { OnOk result (D.fault_count self.new.disk ≡ D.fault_count self.old.disk) }
         ensures counted { D.fault_count self.old.disk ≤ D.fault_count self.new.disk }
     {
         let gate = self.fold.unwrap();
@@ -101,6 +103,7 @@ impl<D: Disk> Journal<D> {
         ensures cause { IfErr result
             (λ e. IsDisk (D.fault_count self.old.disk) (D.fault_count self.new.disk) e) }
         ensures tells { is_some (D.seen self.new.disk) ≡ is_some (D.seen self.old.disk) }
+        ensures fine { OnOk result (D.fault_count self.new.disk ≡ D.fault_count self.old.disk) }
         ensures counted { D.fault_count self.old.disk ≤ D.fault_count self.new.disk }
     {
         let gate = self.fold.unwrap();

@@ -35,7 +35,7 @@ pub struct Journal<D> {
 impl<D: Disk> Journal<D> {
     ghost use Rattle.journal.specs.Leaf.{number_of, IsBroken, IsNew};
     ghost use Rattle.journal.specs.Store.{KeepsLeaf, picked_leaf};
-    ghost use Rattle.journal.specs.State.{HasRead, IsDisk, IsOpeningFault};
+    ghost use Rattle.journal.specs.State.{HasRead, IsCalm, IsDisk, IsOpeningFault};
 
     /// Opens a journal: settles the selector and the picked leaf, and makes a leaf of at most 9 bytes a new one of
     /// version 2. The records are still to be read.
@@ -66,6 +66,8 @@ impl<D: Disk> Journal<D> {
         ensures faults { IfErr result (λ e. IsOpeningFault e.0) }
         ensures cause { IfErr result (λ e. IsDisk (D.fault_count disk) (D.fault_count e.1) e.0) }
         ensures tells { IfOk result (λ j. is_some (D.seen j.disk) ≡ is_some (D.seen disk)) }
+        ensures calm { IfErr result (λ e. IsCalm (D.fault_count disk) (D.fault_count e.1) e.0) }
+        ensures fine { IfOk result (λ j. D.fault_count j.disk ≡ D.fault_count disk) }
         ensures counted { IfOk result (λ j. D.fault_count disk ≤ D.fault_count j.disk) }
         ensures failed_count { IfErr result (λ e. D.fault_count disk ≤ D.fault_count e.1) }
     {

@@ -40,6 +40,7 @@ pub(crate) fn pass<D: Disk>(
         → Told (D.seen disk.old) (λ b. LeavesOnly D.moment D.left_since disk.old disk.new (Reopens b)) }
     ensures tells { is_some (D.seen disk.new) ≡ is_some (D.seen disk.old) }
     ensures cause { IsErrOf result ReadFault.Disk → Rose (D.fault_count disk.old) (D.fault_count disk.new) }
+    ensures calm { ¬ IsErrOf result ReadFault.Disk → D.fault_count disk.new ≡ D.fault_count disk.old }
     ensures counted { D.fault_count disk.old ≤ D.fault_count disk.new }
 {
     match read_next(alloc, disk, leaf_part(is_second), version, gate, ahead)? {

@@ -40,6 +40,7 @@ pub(crate) fn read_next<D: Disk>(
 
     ensures quiet { Quiet D.moment D.left_since D.seen D.may_leave disk.old disk.new }
     ensures cause { IsErrOf result ReadFault.Disk → Rose (D.fault_count disk.old) (D.fault_count disk.new) }
+    ensures calm { ¬ IsErrOf result ReadFault.Disk → D.fault_count disk.new ≡ D.fault_count disk.old }
     ensures counted { D.fault_count disk.old ≤ D.fault_count disk.new }
 {
     let size = disk.len(part)?;
@@ -103,6 +104,7 @@ fn read_there<D: Disk>(
 
     ensures quiet { Quiet D.moment D.left_since D.seen D.may_leave disk.old disk.new }
     ensures cause { IsErrOf result ReadFault.Disk → Rose (D.fault_count disk.old) (D.fault_count disk.new) }
+    ensures calm { ¬ IsErrOf result ReadFault.Disk → D.fault_count disk.new ≡ D.fault_count disk.old }
     ensures counted { D.fault_count disk.old ≤ D.fault_count disk.new }
 {
     let mut bytes = vec![in alloc; 0; count as usize]?;

@@ -34,6 +34,7 @@ pub(crate) fn start<D: Disk>(
         FirstThen D.moment D.left_since disk.old disk.new (D.may_leave disk.old) (KeepsLeaf b)) }
     ensures tells { is_some (D.seen disk.new) ≡ is_some (D.seen disk.old) }
     ensures cause { IsErrOf result ReadFault.Disk → Rose (D.fault_count disk.old) (D.fault_count disk.new) }
+    ensures calm { ¬ IsErrOf result ReadFault.Disk → D.fault_count disk.new ≡ D.fault_count disk.old }
     ensures counted { D.fault_count disk.old ≤ D.fault_count disk.new }
 {
     let is_second = settle(alloc, disk)?;
@@ -51,6 +52,7 @@ fn settle<D: Disk>(alloc: Global, disk: &mut D) -> Result<bool, ReadFault>
 
     ensures quiet { Quiet D.moment D.left_since D.seen D.may_leave disk.old disk.new }
     ensures cause { IsErrOf result ReadFault.Disk → Rose (D.fault_count disk.old) (D.fault_count disk.new) }
+    ensures calm { ¬ IsErrOf result ReadFault.Disk → D.fault_count disk.new ≡ D.fault_count disk.old }
     ensures counted { D.fault_count disk.old ≤ D.fault_count disk.new }
 {
     disk.sync(Part::Selector)?;
@@ -65,6 +67,7 @@ fn read_selector<D: Disk>(alloc: Global, disk: &mut D) -> Result<bool, ReadFault
 
     ensures quiet { Quiet D.moment D.left_since D.seen D.may_leave disk.old disk.new }
     ensures cause { IsErrOf result ReadFault.Disk → Rose (D.fault_count disk.old) (D.fault_count disk.new) }
+    ensures calm { ¬ IsErrOf result ReadFault.Disk → D.fault_count disk.new ≡ D.fault_count disk.old }
     ensures counted { D.fault_count disk.old ≤ D.fault_count disk.new }
 {
     let Some(bytes) = read_some(alloc, disk, Part::Selector, 0, 1)? else {
@@ -106,6 +109,7 @@ fn known<D: Disk>(
         → LeavesOnly D.moment D.left_since disk.old disk.new (KeepsLeaf b)) }
     ensures tells { is_some (D.seen disk.new) ≡ is_some (D.seen disk.old) }
     ensures cause { IsErrOf result ReadFault.Disk → Rose (D.fault_count disk.old) (D.fault_count disk.new) }
+    ensures calm { ¬ IsErrOf result ReadFault.Disk → D.fault_count disk.new ≡ D.fault_count disk.old }
     ensures counted { D.fault_count disk.old ≤ D.fault_count disk.new }
 {
     let Some(bytes) = read_some(alloc, disk, leaf_part(is_second), 0, 10)? else {

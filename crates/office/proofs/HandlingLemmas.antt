@@ -23,9 +23,9 @@ office journal end modes rooms book list = record { disk = journal.disk; end = e
 
 pub keeps : {D : Type 0} {seen : D → Option Image} {may_leave : D → Image → Type 0} {fault_count : D → ℕ} {old : OfficeState D} {after : Journal D} {next : End} {later : List Mode} {others : Rooms} {books : Book} {halt : Option Halt} {more shown : List Call} {share : ℕ} {pass passed : PassState Call}
     → IsInOrder seen may_leave fault_count after next later halt more → later ≡ old.modes → books ≡ old.book → passed ≡ record pass { list = shown; share = share }
-    → ((start : End) → Leads old.modes start old.list old.end → Leads old.modes start more next) → is_some (seen after.disk) ≡ is_some (seen old.disk) → fault_count old.disk ≤ fault_count after.disk
+    → ((start : End) → Leads old.modes start old.list old.end → Leads old.modes start more next) → is_some (seen after.disk) ≡ is_some (seen old.disk) → (halt ≡ None → fault_count after.disk ≡ fault_count old.disk) → fault_count old.disk ≤ fault_count after.disk
     → Keeps seen may_leave fault_count old (office after next later others books more) pass passed
-keeps order modes_same book_same passes legal tells counted = record {
+keeps order modes_same book_same passes legal tells calm counted = record {
   modes = modes_same;
   book = book_same;
   pass_book = ap (λ (p : PassState Call). p.book) passes;
@@ -34,6 +34,7 @@ keeps order modes_same book_same passes legal tells counted = record {
   safe = order_keeps order;
   left = order.left;
   tells = tells;
+  calm = λ none. calm (order.halted ∙ none);
   counted = counted;
 }
 
@@ -43,7 +44,7 @@ pub keeps_roomy : {D : Type 0} {seen : D → Option Image} {may_leave : D → Im
 keeps_roomy {D} {seen} {may_leave} {fault_count} {journal} {end} {next} {modes} {later} {rooms} {others} {book} {halt} {list} order same_end same_modes =
     let P : End → Type 0 = λ e. IsInOrder seen may_leave fault_count journal e modes halt list in
     let Q : List Mode → Type 0 = λ m. IsInOrder seen may_leave fault_count journal next m halt list in
-    keeps (subst Q (sym same_modes) (subst P (sym same_end) order)) same_modes refl refl (λ start leads. subst (λ (e : End). Leads modes start list e) (sym same_end) leads) refl (omega arith)
+    keeps (subst Q (sym same_modes) (subst P (sym same_end) order)) same_modes refl refl (λ start leads. subst (λ (e : End). Leads modes start list e) (sym same_end) leads) refl (λ none. refl) (omega arith)
 
 pub finds_worn : {D : Type 0} {old : OfficeState D} {pass passed : PassState Call} → length old.list ≡ 2 ^ 63 → IsPrefix pass.list old.list → passed ≡ record pass { list = old.list } → FindsItWorn old old pass passed
 finds_worn full seen_by whole = record { full = full; seen = seen_by; list = refl; end = refl; disk = refl; pass = whole }

@@ -75,6 +75,7 @@ module _ {D : Type 0} (seen : D → Option Image) (may_leave : D → Image → T
       safe = is.keeps.safe;
       left = is.keeps.left;
       tells = is.keeps.tells;
+      calm = is.keeps.calm;
       counted = is.keeps.counted;
     };
   }

@@ -4,6 +4,7 @@ use Rattle.as4_disk.specs.Image.{Image}
 use Rattle.as4_disk.specs.Runs.{LeavesOnly}
 use Rattle.as4_flow.specs.Flow.{Told}
 use Rattle.end_records.specs.Opens.{OpensFolded}
+use Rattle.exchange_model.specs.End.{End}
 use Rattle.exchange_model.specs.Fold.{IsFoldedSize, resized}
 use Rattle.office.specs.Calls.{stop_of}
 use Rattle.office.specs.State.{OfficeState}
@@ -13,6 +14,10 @@ use Rattle.office.specs.declared.call.Call.TheVariants.{Folded}
 use Rattle.office.specs.declared.fault.OfficeFault.{OfficeFault}
 use Rattle.office.specs.declared.fault.OfficeFault.TheVariants.{Disk, NoMemory, Stopped, Worn}
 use Rattle.pass_book.specs.States.{PassState}
+
+-- the fold of this end is shorter than its journal
+abbrev pub CanShorten : End → Type 0
+CanShorten end = (size : ℕ) × IsFoldedSize end size × (size < end.size)
 
 module _ {D : Type 0} (old new : OfficeState D) (pass_old pass_new : PassState Call) where
   -- the journal's fold is shorter, and takes its place
@@ -36,7 +41,7 @@ module _ {D : Type 0} (old new : OfficeState D) (pass_old pass_new : PassState C
   Shortening fault_count (Err (Disk before after)) = Stops old new pass_old pass_new fault_count None before after
   Shortening fault_count (Err (Stopped before after)) = StandsStill old new pass_old pass_new before after × EntersNothing old new pass_old pass_new × (length old.list < 2 ^ 63)
   Shortening fault_count (Err Worn) = FindsItWorn old new pass_old pass_new
-  Shortening fault_count (Err NoMemory) = (stop_of old.list ≡ None) × EntersNothing old new pass_old pass_new
+  Shortening fault_count (Err NoMemory) = (stop_of old.list ≡ None) × (length old.list < 2 ^ 63) × CanShorten old.end × EntersNothing old new pass_old pass_new
 
 -- What a checkpoint does. While it is made a crash leaves the end, with its journal folded or as it was.
 pub record Checkpoints {D : Type 0} (seen : D → Option Image) (may_leave : D → Image → Type 0) (moment : D → ℕ) (left_since : D → ℕ → Image → Type 0) (fault_count : D → ℕ) (old new : OfficeState D) (pass_old pass_new : PassState Call) (result : Result ℕ OfficeFault) : Type 0 where

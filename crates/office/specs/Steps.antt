@@ -75,6 +75,8 @@ pub record Keeps {D : Type 0} (seen : D → Option Image) (may_leave : D → Ima
   pub safe : stop_of new.list ≡ None → KeepsEnd seen may_leave new.disk new.end
   pub left : Told (seen new.disk) (λ _. (c : Image) → may_leave new.disk c → IsLeft new.modes new.end new.list c)
   pub tells : is_some (seen new.disk) ≡ is_some (seen old.disk)
+  -- and without one no call on the disk failed
+  pub calm : stop_of new.list ≡ None → fault_count new.disk ≡ fault_count old.disk
   pub counted : fault_count old.disk ≤ fault_count new.disk
 
 module _ {D : Type 0} (seen : D → Option Image) (may_leave : D → Image → Type 0) (moment : D → ℕ) (left_since : D → ℕ → Image → Type 0) (fault_count : D → ℕ) (makes : Change → D → D → Bool → Type 0) (old new : OfficeState D) (pass_old pass_new : PassState Call) where

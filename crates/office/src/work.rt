@@ -1,5 +1,5 @@
 //! What is to be done with an event: its record is put on the disk, and then the end changes.
-ghost use Rattle.std.specs.Prelude.{◌≡◌, ◌+◌, ◌≤◌, ◌^◌, IfErr, List, None, is_ok, is_some, length, true};
+ghost use Rattle.std.specs.Prelude.{◌≡◌, ◌+◌, ◌≤◌, ◌^◌, IfErr, OnOk, List, None, is_ok, is_some, length, true};
 ghost use Rattle.as4_effects.specs.declared.effect.Effect.{Effect};
 ghost use Rattle.as4_flow.specs.Flow.{Rose};
 ghost use Rattle.end_journal.specs.Frames.{IsFrameOf};
@@ -48,6 +48,7 @@ impl Work {
         ensures cause { IfErr result (λ halt. (halt.before ≡ D.fault_count journal.old.disk)
             × (halt.after ≡ D.fault_count journal.new.disk) × Rose halt.before halt.after) }
         ensures tells { is_some (D.seen journal.new.disk) ≡ is_some (D.seen journal.old.disk) }
+        ensures fine { OnOk result (D.fault_count journal.new.disk ≡ D.fault_count journal.old.disk) }
         ensures counted { D.fault_count journal.old.disk ≤ D.fault_count journal.new.disk }
     {
         match self {
@@ -83,6 +84,7 @@ fn write_large<D: Disk>(journal: &mut Journal<D>, frame: &Option<Frame>) -> Resu
     ensures cause { IfErr result (λ halt. (halt.before ≡ D.fault_count journal.old.disk)
         × (halt.after ≡ D.fault_count journal.new.disk) × Rose halt.before halt.after) }
     ensures tells { is_some (D.seen journal.new.disk) ≡ is_some (D.seen journal.old.disk) }
+    ensures fine { OnOk result (D.fault_count journal.new.disk ≡ D.fault_count journal.old.disk) }
     ensures counted { D.fault_count journal.old.disk ≤ D.fault_count journal.new.disk }
 {
     match frame {
@@ -106,6 +108,7 @@ fn write_small<D: Disk>(
     ensures cause { IfErr result (λ halt. (halt.before ≡ D.fault_count journal.old.disk)
         × (halt.after ≡ D.fault_count journal.new.disk) × Rose halt.before halt.after) }
     ensures tells { is_some (D.seen journal.new.disk) ≡ is_some (D.seen journal.old.disk) }
+    ensures fine { OnOk result (D.fault_count journal.new.disk ≡ D.fault_count journal.old.disk) }
     ensures counted { D.fault_count journal.old.disk ≤ D.fault_count journal.new.disk }
 {
     match plan {
@@ -130,6 +133,7 @@ fn write_frame<D: Disk>(journal: &mut Journal<D>, frame: &Frame) -> Result<(), H
     ensures cause { IfErr result (λ halt. (halt.before ≡ D.fault_count journal.old.disk)
         × (halt.after ≡ D.fault_count journal.new.disk) × Rose halt.before halt.after) }
     ensures tells { is_some (D.seen journal.new.disk) ≡ is_some (D.seen journal.old.disk) }
+    ensures fine { OnOk result (D.fault_count journal.new.disk ≡ D.fault_count journal.old.disk) }
     ensures counted { D.fault_count journal.old.disk ≤ D.fault_count journal.new.disk }
 {
     a_record_is_put::<D>();

@@ -1,4 +1,4 @@
-use Rattle.std.proofs.Common.{◌≡◌, ℕ, ◌-◌, ◌<◌, ◌≤◌, ◌^◌, List, [], is_some, take}
+use Rattle.std.proofs.Common.{◌≡◌, ℕ, ◌-◌, ◌<◌, ◌^◌, List, [], is_some, take}
 use Rattle.as4_disk.specs.Runs.{LeavesOnly}
 use Rattle.as4_effects.specs.declared.effect.Effect.{Effect}
 use Rattle.exchange_model.specs.Fold.{IsFolded}
@@ -14,7 +14,7 @@ invariant-parts g l = record {
   few : l.part < 2 ^ 32;
   run : (bodies : List (List ℕ)) → HasFold g.D.Disk.seen g.D.Disk.may_leave l.fn.journal bodies [] → LeavesOnly g.D.Disk.moment g.D.Disk.left_since l.fn.journal.disk l.journal.disk (InVersion l.fn.journal.version (OpensSettled bodies));
   tells : is_some (g.D.Disk.seen l.journal.disk) ≡ is_some (g.D.Disk.seen l.fn.journal.disk);
-  counted : g.D.Disk.fault_count l.fn.journal.disk ≤ g.D.Disk.fault_count l.journal.disk;
+  counted : g.D.Disk.fault_count l.journal.disk ≡ g.D.Disk.fault_count l.fn.journal.disk;
 }
 
 abbrev pub decreases-parts : goal.decreases-parts

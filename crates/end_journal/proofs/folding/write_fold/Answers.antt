@@ -1,10 +1,10 @@
-use Rattle.std.proofs.Common.{◌≡◌, inl, map, refl, sym, ap, subst, ◌∙◌}
+use Rattle.std.proofs.Common.{◌≡◌, ℕ, ◌+◌, inl, is_some, map, refl, sym, ap, subst, ◌∙◌}
 use Rattle.exchange_model.specs.Fold.{folded_size}
+use Rattle.journal.specs.State.{IsCalm, IsDisk}
 use Rattle.journal.specs.declared.journal.Journal.{Journal}
 use Rattle.end_records.specs.Records.{alone}
-use Rattle.end_journal.specs.Causes.{IsDiskSince}
 use Rattle.end_journal.proofs.FoldingLemmas.{dropped_run, finished_run, folded_journal}
-use Rattle.end_journal.proofs.RunLemmas.{since_earlier, told_before}
+use Rattle.end_journal.proofs.RunLemmas.{told_before}
 use Rattle.end_journal.proofs.folding.write_fold.Goals as goal
 
 pub returns-in_err-fold_start-clause-any_moment : goal.returns-in_err-fold_start-clause-any_moment
@@ -60,9 +60,40 @@ returns-in-Err-clause-any_moment g c bodies size has folded =
 pub returns-in-Err-clause-cause : goal.returns-in-Err-clause-cause
 returns-in-Err-clause-cause g c =
     let count = g.D.Disk.fault_count in
-    let old = c.args.journal.now.disk in
     let added = c.add_parts.new.journal in
     let dropped = c.fold_drop.new.self in
     let same : dropped.disk ≡ added.disk = ap (λ (j : Journal g.row.D.Denot). j.disk) {x = dropped} {y = record added { fold = dropped.fold; fold_in_range = dropped.fold_in_range }} c.fold_drop.ensures.same in
-    let P : g.row.D.Denot → Type 0 = λ d. IsDiskSince (count old) (count d) c.in-Err.fault in
-    subst P (sym same) (since_earlier (count old) (count c.fold_start.new.self.disk) (count added.disk) c.in-Err.fault c.fold_start.ensures.counted c.in-Err.ensures.cause)
+    let P : ℕ → Type 0 = λ n. IsDisk n (count added.disk) c.in-Err.fault in
+    let Q : g.row.D.Denot → Type 0 = λ d. IsDisk (count c.args.journal.now.disk) (count d) c.in-Err.fault in
+    subst Q (sym same) (subst P c.in_ok-fold_start.ensures.fine c.in-Err.ensures.cause)
+
+pub returns-in-Err-clause-calm : goal.returns-in-Err-clause-calm
+returns-in-Err-clause-calm g c =
+    let count = g.D.Disk.fault_count in
+    let added = c.add_parts.new.journal in
+    let dropped = c.fold_drop.new.self in
+    let same : dropped.disk ≡ added.disk = ap (λ (j : Journal g.row.D.Denot). j.disk) {x = dropped} {y = record added { fold = dropped.fold; fold_in_range = dropped.fold_in_range }} c.fold_drop.ensures.same in
+    let P : ℕ → Type 0 = λ n. IsCalm n (count added.disk) c.in-Err.fault in
+    let Q : g.row.D.Denot → Type 0 = λ d. IsCalm (count c.args.journal.now.disk) (count d) c.in-Err.fault in
+    subst Q (sym same) (subst P c.in_ok-fold_start.ensures.fine c.in-Err.ensures.calm)
+
+-- the fold was dropped, and the journal's records are as they were
+pub returns-in-Err-clause-starved : goal.returns-in-Err-clause-starved
+returns-in-Err-clause-starved g c starved end is =
+    let seen = g.D.Disk.seen in
+    let added = c.add_parts.new.journal in
+    let dropped = c.fold_drop.new.self in
+    let same : dropped ≡ record added { fold = dropped.fold; fold_in_range = dropped.fold_in_range } = c.fold_drop.ensures.same in
+    let parts = c.in-Err.ensures.starved starved in
+    let gate : dropped.gate ≡ c.args.journal.now.gate = ap (λ (j : Journal g.row.D.Denot). j.gate) same ∙ parts.0 ∙ c.fold_start.ensures.same.0 in
+    let tells : is_some (seen dropped.disk) ≡ is_some (seen c.args.journal.now.disk) = ap (λ (j : Journal g.row.D.Denot). is_some (seen j.disk)) same ∙ c.add_parts.ensures.tells ∙ c.fold_start.ensures.tells in
+    record {
+      version = ap (λ (j : Journal g.row.D.Denot). j.version) same ∙ parts.1 ∙ c.fold_start.ensures.same.1 ∙ is.version;
+      no_fold = c.fold_drop.ensures.closed;
+      size = is.size ∙ ap (λ (n : ℕ). n + 1) (sym gate);
+      records = λ b told.
+          let was = told_before (seen c.args.journal.now.disk) (seen dropped.disk) b tells told in
+          let had = is.records was.0 was.1 in
+          let fold = parts.2 had.0 (c.in_ok-fold_start.ensures.open had.0 had.1) in
+          (had.0, c.fold_drop.ensures.records had.0 fold.0 fold.1, had.2);
+    }

@@ -1,13 +1,13 @@
-use Rattle.std.proofs.Common.{◌≤◌, ℕ, sym, subst, arith}
+use Rattle.std.proofs.Common.{ℕ, sym, subst, arith}
 use Rattle.as4_disk.specs.Runs.{FirstThen, Quiet}
 use Rattle.as4_disk.proofs.RunLemmas.{quiet_then}
-use Rattle.journal.specs.State.{IsDisk}
+use Rattle.journal.specs.State.{IsCalm, IsDisk}
 use Rattle.journal.specs.Store.{picked_leaf}
 use Rattle.end_records.specs.Opens.{ReopensAs}
 use Rattle.end_records.specs.Unfit.{IsNoJournal}
 use Rattle.end_records.proofs.UnfitLemmas.{broken_no_journal}
 use Rattle.end_journal.proofs.OpeningLemmas.{no_journal_kept, opened_end, opening_run, settling_run}
-use Rattle.end_journal.proofs.RunLemmas.{since_earlier, told_before}
+use Rattle.end_journal.proofs.RunLemmas.{told_before}
 use Rattle.end_journal.proofs.opening.open_end.Goals as goal
 
 pub returns-in-Err-clause-failed_moment : goal.returns-in-Err-clause-failed_moment
@@ -64,7 +64,7 @@ returns-in-Err-bring_up-clause-not_journal g c at is b told =
     let opened = c.in-Ok.ensures.read b told in
     let read = opened.0 in
     let d = read.settled.image in
-    no_journal_kept at b d (opened.1 d read.settled.told) (c.in-Err-bring_up.ensures.not_journal at (c.since.ensures.not_journal at is) read d read.settled.told)
+    no_journal_kept at b d (opened.1 d read.settled.told) (c.in-Err-bring_up.ensures.not_journal at is read d read.settled.told)
 
 pub returns-in-Err-bring_up-clause-untouched : goal.returns-in-Err-bring_up-clause-untouched
 returns-in-Err-bring_up-clause-untouched g c at is b told =
@@ -73,16 +73,22 @@ returns-in-Err-bring_up-clause-untouched g c at is b told =
     subst P (sym c.into_disk.ensures)
     (quiet_then g.D.Disk.moment g.D.Disk.left_since g.D.Disk.seen g.D.Disk.may_leave c.args.disk c.in-Ok.journal.disk c.bring_up.new.journal.disk
     (c.in-Ok.ensures.quiet b told (λ new. omega (arith, new, wrong.0)))
-    (c.in-Err-bring_up.ensures.untouched at (c.since.ensures.not_journal at is)))
+    (c.in-Err-bring_up.ensures.untouched at is))
 
 pub returns-in-Err-bring_up-clause-cause : goal.returns-in-Err-bring_up-clause-cause
 returns-in-Err-bring_up-clause-cause g c =
     let count = g.D.Disk.fault_count in
-    let mid = count c.in-Ok.journal.disk in
     let now = count c.bring_up.new.journal.disk in
-    let before = c.faults-before.result in
-    let early : before ≤ mid = omega (arith, c.faults-before.ensures, c.in-Ok.ensures.counted) in
-    let is : IsDisk before now c.since.result = c.since.ensures.cause now (since_earlier before mid now c.in-Err-bring_up.fault early c.in-Err-bring_up.ensures.cause) in
-    let P : ℕ → Type 0 = λ n. IsDisk n now c.since.result in
-    let Q : g.row.D.Denot → Type 0 = λ d. IsDisk (count c.args.disk) (count d) c.since.result in
-    subst Q (sym c.into_disk.ensures) (subst P c.faults-before.ensures is)
+    let fault = c.in-Err-bring_up.fault in
+    let P : ℕ → Type 0 = λ n. IsDisk n now fault in
+    let Q : g.row.D.Denot → Type 0 = λ d. IsDisk (count c.args.disk) (count d) fault in
+    subst Q (sym c.into_disk.ensures) (subst P c.in-Ok.ensures.fine c.in-Err-bring_up.ensures.cause)
+
+pub returns-in-Err-bring_up-clause-calm : goal.returns-in-Err-bring_up-clause-calm
+returns-in-Err-bring_up-clause-calm g c =
+    let count = g.D.Disk.fault_count in
+    let now = count c.bring_up.new.journal.disk in
+    let fault = c.in-Err-bring_up.fault in
+    let P : ℕ → Type 0 = λ n. IsCalm n now fault in
+    let Q : g.row.D.Denot → Type 0 = λ d. IsCalm (count c.args.disk) (count d) fault in
+    subst Q (sym c.into_disk.ensures) (subst P c.in-Ok.ensures.fine c.in-Err-bring_up.ensures.calm)

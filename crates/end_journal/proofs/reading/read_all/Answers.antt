@@ -1,4 +1,4 @@
-use Rattle.std.proofs.Common.{[], ◌∷◌, ◌++◌, refl, sym, subst, ◌∙◌, arith}
+use Rattle.std.proofs.Common.{[], ◌∷◌, ◌++◌, refl, sym, subst, ◌∙◌}
 use Rattle.std.proofs.lemmas.Result.{err_from_is_err_and}
 use Rattle.as4_disk.proofs.RunLemmas.{quiet_then}
 use Rattle.exchange_model.specs.End.{End}
@@ -16,7 +16,7 @@ records-init g c =
       modes = refl;
       run = λ has b told. still_run g.D.Disk.moment g.D.Disk.left_since g.D.Disk.seen g.D.Disk.may_leave g.met.D.Disk.only_now first b has told;
       quiet = quiet_none g.D.Disk.moment g.D.Disk.left_since g.D.Disk.seen g.D.Disk.may_leave g.met.D.Disk.only_now first.disk;
-      counted = omega arith;
+      counted = refl;
     }
 
 pub returns-in_err-replay_next-clause-any_moment : goal.returns-in_err-replay_next-clause-any_moment
@@ -54,5 +54,5 @@ records-preserved g c =
       modes = c.replay_next.ensures.modes ∙ so_far.modes;
       run = run_on g.D.Disk.moment g.D.Disk.left_since g.D.Disk.seen g.D.Disk.may_leave c.args.journal.now c.records.journal c.replay_next.new.journal c.records.core.end bodies so_far.replayed.1 so_far.run c.replay_next.ensures.any_moment;
       quiet = quiet_then g.D.Disk.moment g.D.Disk.left_since g.D.Disk.seen g.D.Disk.may_leave c.args.journal.now.disk c.records.journal.disk c.replay_next.new.journal.disk so_far.quiet (c.in_ok-replay_next.ensures.quiet c.if-branch.true);
-      counted = omega (arith, so_far.counted, c.replay_next.ensures.counted);
+      counted = c.in_ok-replay_next.ensures.fine ∙ so_far.counted;
     }

@@ -1,4 +1,4 @@
-use Rattle.std.proofs.Common.{◌≡◌, ℕ, ◌-◌, ◌≤◌, ◌^◌, List, []}
+use Rattle.std.proofs.Common.{◌≡◌, ℕ, ◌-◌, ◌^◌, List, []}
 use Rattle.as4_disk.specs.Runs.{LeavesOnly, Quiet}
 use Rattle.as4_flow.specs.Flow.{Told}
 use Rattle.journal.specs.State.{HasRead}
@@ -13,7 +13,7 @@ invariant-records g l = record {
   modes : l.core.modes ≡ l.fn.core.modes;
   run : HasRead g.D.Disk.seen g.D.Disk.may_leave l.fn.journal [] → Told (g.D.Disk.seen l.fn.journal.disk) (λ b. LeavesOnly g.D.Disk.moment g.D.Disk.left_since l.fn.journal.disk l.journal.disk (Reopens b));
   quiet : Quiet g.D.Disk.moment g.D.Disk.left_since g.D.Disk.seen g.D.Disk.may_leave l.fn.journal.disk l.journal.disk;
-  counted : g.D.Disk.fault_count l.fn.journal.disk ≤ g.D.Disk.fault_count l.journal.disk;
+  counted : g.D.Disk.fault_count l.journal.disk ≡ g.D.Disk.fault_count l.fn.journal.disk;
 }
 
 abbrev pub decreases-records : goal.decreases-records

@@ -4,6 +4,7 @@ use Rattle.as4_disk.proofs.RunLemmas.{at_end}
 use Rattle.as4_flow.specs.Flow.{Rose}
 use Rattle.as4_values.specs.declared.mode.Mode.{Mode}
 use Rattle.end_records.specs.Opens.{OpensFolded}
+use Rattle.journal.specs.State.{IsCalm}
 use Rattle.msh_core.specs.Machine.{Machine}
 use Rattle.office.specs.State.{IsInOrder}
 use Rattle.office.specs.declared.call.Halt.{Halt}
@@ -23,7 +24,7 @@ returns-then-len g c =
     rw (← c.self.view_is, c.show.ensures.same) (record {
       answer = finds_worn (omega (arith, c.len.ensures.value, c.if-len.true)) c.show.ensures.begins c.show.ensures.whole;
       any_moment = λ going image told. still_folded g.met.D.Disk.only_now (order.kept (order.halted ∙ going)) image told;
-      keeps = keeps order refl refl c.show.ensures.whole (λ start leads. leads) refl (omega arith);
+      keeps = keeps order refl refl c.show.ensures.whole (λ start leads. leads) refl (λ none. refl) (omega arith);
     })
 
 -- the disk failed before
@@ -39,7 +40,7 @@ returns-in-Some g c =
         omega (arith, c.len.ensures.value, c.len.ensures.limit, c.if-len.false),
       );
       any_moment = λ going. absurd (not_both o.halt halt c.in-Some.is (order.halted ∙ going));
-      keeps = keeps order refl refl refl (λ start leads. leads) refl (omega arith);
+      keeps = keeps order refl refl refl (λ start leads. leads) refl (λ none. refl) (omega arith);
     })
 
 -- nothing is done, since the fold isn't shorter
@@ -59,7 +60,7 @@ returns-then-size-present g c =
         }),
       );
       any_moment = λ going image told. still_folded g.met.D.Disk.only_now (order.kept (order.halted ∙ going)) image told;
-      keeps = keeps order refl refl refl (λ start leads. leads) refl (omega arith);
+      keeps = keeps order refl refl refl (λ start leads. leads) refl (λ none. refl) (omega arith);
     })
 
 -- the journal is folded
@@ -105,7 +106,7 @@ returns-in-Ok g c =
           let had = (order.kept c.in_default.is).records image told in
           fold_run had.2 size.1 (order.kept c.in_default.is).version (c.fold_end.ensures.any_moment had.0 size.0 had.1 size.1);
       keeps = keeps (invariant_of-self-in-Ok g c).0 c.fold_end.ensures.modes c.enter-call.ensures.book c.enter-call.ensures.pass
-          (folded_leads o.core.modes o.keeper.list more c.folded_size-size.result o.core.end core.end going c.enter-call.ensures.list folded shorter ends) c.fold_end.ensures.tells c.fold_end.ensures.counted;
+          (folded_leads o.core.modes o.keeper.list more c.folded_size-size.result o.core.end core.end going c.enter-call.ensures.list folded shorter ends) c.fold_end.ensures.tells (λ none. c.in-Ok.ensures.fine) c.fold_end.ensures.counted;
     })
 
 -- there was no memory
@@ -124,14 +125,24 @@ returns-in-Err-NoMemory g c =
     let order = c.self.invariant.0 in
     let after = c.fold_end.new.journal in
     let size = c.folded_size-size.ensures.size in
+    let less : c.folded_size-size.result < c.size-present.result = grind (arith, common_steps) in
+    let short : c.folded_size-size.result < 2 ^ 32 = omega (arith, less, c.size-present.ensures, (order.kept c.in_default.is).size, o.journal.in_range) in
+    let folded = folded_size_is o.core.end c.folded_size-size.result size short in
+    let shorter : c.folded_size-size.result < o.core.end.size = omega (arith, less, c.size-present.ensures) in
+    let calm = subst (IsCalm (g.D.Disk.fault_count o.journal.disk) (g.D.Disk.fault_count after.disk)) c.in-Err-NoMemory.field-0-is c.in-Err-NoMemory.ensures.calm in
     let now = order_stays order after c.in_default.is
     (c.in-Err-NoMemory.ensures.starved (ap (λ e. Err e) c.in-Err-NoMemory.field-0-is) o.core.end (order.kept c.in_default.is)) in
     rw (← c.self.view_is, c.in-Err-NoMemory.ensures.same) (record {
-      answer = (sym order.halted ∙ c.in_default.is, record { list = refl; end = refl; pass = refl });
+      answer = (
+        sym order.halted ∙ c.in_default.is,
+        omega (arith, c.len.ensures.value, c.len.ensures.limit, c.if-len.false),
+        (c.folded_size-size.result, folded, shorter),
+        record { list = refl; end = refl; pass = refl },
+      );
       any_moment = λ goes image told.
           let had = (order.kept c.in_default.is).records image told in
           fold_run had.2 size.1 (order.kept c.in_default.is).version (c.fold_end.ensures.any_moment had.0 size.0 had.1 size.1);
-      keeps = keeps now refl refl refl (λ start leads. leads) c.fold_end.ensures.tells c.fold_end.ensures.counted;
+      keeps = keeps now refl refl refl (λ start leads. leads) c.fold_end.ensures.tells (λ none. calm) c.fold_end.ensures.counted;
     })
 
 -- the disk failed
@@ -180,5 +191,5 @@ returns-in-Err-Disk g c =
           let had = (order.kept c.in_default.is).records image told in
           fold_run had.2 size.1 (order.kept c.in_default.is).version (c.fold_end.ensures.any_moment had.0 size.0 had.1 size.1);
       keeps = keeps (subst P c.in-Err-Disk.ensures.same (invariant_of-self-in-Err-Disk g c).0) refl c.enter_stop.ensures.book c.enter_stop.ensures.pass
-          (stop_leads o.core.modes o.keeper.list more None halt o.core.end going c.enter_stop.ensures.list rose) c.fold_end.ensures.tells c.fold_end.ensures.counted;
+          (stop_leads o.core.modes o.keeper.list more None halt o.core.end going c.enter_stop.ensures.list rose) c.fold_end.ensures.tells (λ none. absurd (not_both (Some halt) halt refl none)) c.fold_end.ensures.counted;
     })

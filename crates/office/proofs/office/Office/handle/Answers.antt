@@ -24,7 +24,7 @@ returns-then-len-clause-handles g c =
     rw (← c.self.view_is, c.show.ensures.same) (record {
       answer = finds_worn (omega (arith, c.len.ensures.value, c.if-len.true)) c.show.ensures.begins c.show.ensures.whole;
       any_moment = λ going image told. still_run g.met.D.Disk.only_now (order.kept (order.halted ∙ going)) o.core.modes c.args.event image told;
-      keeps = keeps order refl refl c.show.ensures.whole (λ start leads. leads) refl (omega arith);
+      keeps = keeps order refl refl c.show.ensures.whole (λ start leads. leads) refl (λ none. refl) (omega arith);
     })
 
 -- the disk failed before
@@ -49,7 +49,7 @@ returns-in-Some-clause-handles g c =
       );
       any_moment = λ going. absurd (not_both o.halt halt c.in-Some.is (order.halted ∙ going));
       keeps = keeps now refl c.enter_refused.ensures.book c.enter_refused.ensures.pass
-          (refused_leads o.core.modes o.keeper.list more c.args.event halt o.core.end (sym order.halted ∙ c.in-Some.is) c.enter_refused.ensures.list) refl (omega arith);
+          (refused_leads o.core.modes o.keeper.list more c.args.event halt o.core.end (sym order.halted ∙ c.in-Some.is) c.enter_refused.ensures.list) refl (λ none. refl) (omega arith);
     })
 
 -- what is to be done, in terms of what the office keeps inside
@@ -105,7 +105,7 @@ returns-in-Ok-clause-handles g c =
       };
       any_moment = λ goes image told. step_run ready.1 (records.any_moment image told);
       keeps = keeps (invariant_of-self-in-Ok g c).0 c.commit-reply.ensures.modes c.enter_done.ensures.book c.enter_done.ensures.pass
-          (done_leads o.core.modes o.keeper.list more c.args.event _ ready.0 o.core.end next going c.enter_done.ensures.list ready.1 made.1 made.0) c.write.ensures.tells c.write.ensures.counted;
+          (done_leads o.core.modes o.keeper.list more c.args.event _ ready.0 o.core.end next going c.enter_done.ensures.list ready.1 made.1 made.0) c.write.ensures.tells (λ none. c.in-Ok.ensures.fine) c.write.ensures.counted;
     })
 
 -- the disk failed
@@ -153,5 +153,5 @@ returns-in-Err-clause-handles g c =
       };
       any_moment = λ goes image told. step_run ready.1 (records.any_moment image told);
       keeps = keeps (invariant_of-self-in-Err g c).0 refl c.enter_stop.ensures.book c.enter_stop.ensures.pass
-          (stop_leads o.core.modes o.keeper.list more (Some c.args.event) c.in-Err.halt o.core.end going c.enter_stop.ensures.list cause.2) c.write.ensures.tells c.write.ensures.counted;
+          (stop_leads o.core.modes o.keeper.list more (Some c.args.event) c.in-Err.halt o.core.end going c.enter_stop.ensures.list cause.2) c.write.ensures.tells (λ none. absurd (not_both (Some c.in-Err.halt) c.in-Err.halt refl none)) c.write.ensures.counted;
     })
