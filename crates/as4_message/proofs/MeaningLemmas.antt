@@ -18,7 +18,8 @@ use Rattle.mime_package.specs.Reading.{PackageValue, package_of}
 use Rattle.mime_package.specs.declared.read.MimeRefusal.{MimeRefusal}
 use Rattle.mime_package.specs.declared.read.MimeRefusal.TheVariants as mime
 use Rattle.as4_message.specs.Attached.{AttachedValue, is_inside, is_outside, all_attached, attach, paired}
-use Rattle.as4_message.specs.Meaning.{ReceivedValue, signal, pair, RootMeans, PackageMeans, Means, package_code, unit_or_code, user_with, alone, unit_with, root_with, AnswersBy, received_value}
+use Rattle.as4_message.specs.Meaning.{ReceivedValue, signal, pair, RootMeans, PackageMeans, Means, refused, package_code, unit_or_code, user_with, alone, unit_with, root_with, AnswersBy, received_value}
+use Rattle.as4_message.specs.declared.error_codes.TheConstants.{INVALID_HEADER}
 use Rattle.as4_message.specs.declared.received.Received.{Received}
 use Rattle.as4_message.specs.declared.received.Refusal.{Refusal}
 use Rattle.as4_message.specs.declared.received.MessageRefusal.{MessageRefusal}
@@ -38,6 +39,17 @@ one_of_package (Ok whole) one other first second =
 
 pub one_meaning_of : (media body : List ℕ) (one other : Result ReceivedValue Refusal) → Means media body one → Means media body other → one ≡ other
 one_meaning_of media body one other first second = one_of_package (package_of media body) one other first second
+
+some_root : (root : List ℕ) → ((meant : Result MessageUnit ℕ) → RootMeans root meant → ⊥) → ⊥
+some_root root none =
+    none (Err INVALID_HEADER) (inl (refl, λ tree spelled. none (unit_or_code (unit_of tree)) (inr (tree, spelled, refl))))
+
+some_of_package : (read : Result PackageValue MimeRefusal) → ((meant : Result ReceivedValue Refusal) → PackageMeans read meant → ⊥) → ⊥
+some_of_package (Err refusal) none = none (refused (package_code refusal) None) refl
+some_of_package (Ok whole) none = some_root whole.root (λ root means. none (root_with whole.parts root) (root, means, refl))
+
+pub some_meaning : (media body : List ℕ) → ((meant : Result ReceivedValue Refusal) → Means media body meant → ⊥) → ⊥
+some_meaning media body none = some_of_package (package_of media body) none
 
 -- the table of errors has each code by which something is refused
 

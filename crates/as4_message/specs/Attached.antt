@@ -27,14 +27,14 @@ unfoldable pub all_attached : List PartValue → Option (List AttachedValue)
 all_attached [] = Some []
 all_attached (part ∷ parts) = attached part >>= λ first. option_map (λ others. first ∷ others) (all_attached parts)
 
--- a part info refers to nothing, or to something in the envelope itself
+-- a part info has no reference, which means the SOAP body (section 5.2.2.13), or one to something in the envelope itself
 abbrev pub is_inside : PartInfo → Bool
 is_inside info = elim info.href [
   | None ↦ true
   | Some href ↦ starts_with nat_eq href (codes "#")
 ]
 
--- it refers to something that isn't in the package
+-- it refers to something that no part of a package can be
 abbrev pub is_outside : PartInfo → Bool
 is_outside info = elim info.href [
   | None ↦ false

@@ -40,6 +40,6 @@ abbrev pub line_of : Result ReceivedValue Refusal → List ℕ
 line_of (Ok received) = received_words received ++ codes "\n"
 line_of (Err refusal) = refusal_words refusal ++ codes "\n"
 
--- the line of a message and the word on whether it is one, of what a media text and a body mean
+-- the line of a message and the word on whether it is refused, of what a media text and a body mean
 abbrev pub IsLine : (Result ReceivedValue Refusal → Type 0) → List ℕ → Bool → Type 0
 IsLine means line refused = (meant : Result ReceivedValue Refusal) × means meant × (line ≡ line_of meant) × (refused ≡ is_err meant)

@@ -1,5 +1,5 @@
 //! The parts of a package that a header refers to (ebMS 3.0 Core, section 5.2.2.13; RFC 2392).
-ghost use Rattle.std.specs.Prelude.{◌≡◌, IfOk, Some, map, option_map, option_and_then};
+ghost use Rattle.std.specs.Prelude.{◌≡◌, Ok, Err, true, IfOk, Some, map, option_map, option_and_then};
 ghost use Rattle.std.specs.List.{list_any};
 ghost use Rattle.std.specs.Result.{result_map_both};
 ghost use Rattle.as4_effects.specs.Pairing.{cid_in, named_by, are_paired};
@@ -19,8 +19,9 @@ pub(crate) fn attach<'a>(
     infos: &[PartInfo],
     parts: &[Part<'a>],
 ) -> Result<Result<Vec<Attachment<'a>>, u16>, NoMemory>
-    ensures { IfOk result (λ found. result_map_both (λ list. map attached_value list.items) (λ code. code) found
+    ensures parts { IfOk result (λ found. result_map_both (λ list. map attached_value list.items) (λ code. code) found
         ≡ attach infos.now (map part_value parts.now)) }
+    ensures inside { list_any is_inside infos.now ≡ true → result ≡ Ok (Err NOT_SUPPORTED) }
 {
     if any_inside(infos) {
         return Ok(Err(NOT_SUPPORTED));

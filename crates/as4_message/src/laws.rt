@@ -7,3 +7,8 @@ ghost use Rattle.as4_message.specs.declared.received.Refusal.{Refusal};
 pub fn one_meaning()
     ensures { (media body : List ℕ) (one other : Result ReceivedValue Refusal) → Means media body one → Means media body other → one ≡ other }
 {}
+
+/// And none mean nothing: each is a message, or is refused by a code.
+pub fn each_has_a_meaning()
+    ensures { (media body : List ℕ) → ¬ ((meant : Result ReceivedValue Refusal) → ¬ Means media body meant) }
+{}

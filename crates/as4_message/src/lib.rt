@@ -12,7 +12,7 @@ mod received;
 mod root;
 
 pub use attachment::Attachment;
-pub use laws::one_meaning;
+pub use laws::{each_has_a_meaning, one_meaning};
 pub use line::{Line, check_line};
 pub use message_file::{split_file, write_message, write_message_file};
 pub use package_writer::Wire;

@@ -1,5 +1,5 @@
 //! Messages as they come, lent from the bytes that carry them, and the refusals of what is no message.
-ghost use Rattle.std.specs.Prelude.{◌≡◌, Ok, Err, None, Some, IsSome, map};
+ghost use Rattle.std.specs.Prelude.{◌≡◌, ◌≢◌, ℕ, Ok, Err, None, Some, IsSome, map};
 ghost use Rattle.std.specs.Result.{result_map_both};
 ghost use Rattle.as4_codes.specs.ErrorCodes.{error_row};
 ghost use Rattle.as4_message.specs.declared.received.Refusal.{Refusal as RefusalValue};
@@ -34,7 +34,7 @@ pub enum Received<'a> {
 pub struct Refusal {
     /// The number of the code, such as 7 for `EBMS:0007`.
     pub code: u16,
-    /// The identifier of the message, where it could be read.
+    /// The identifier of the message, where its header was read.
     pub about: Option<MessageId>,
 }
 
@@ -75,6 +75,8 @@ fn lend<'a>(alloc: Global, media: &[u8], body: &'a [u8]) -> Result<Received<'a>,
 /// The refusal of what is no package.
 fn no_package(refusal: MimeRefusal) -> MessageRefusal
     ensures code { Refuses (package_code refusal) None result }
+    ensures told { refusal ≢ MimeRefusal.NoMemory →
+        result ≡ MessageRefusal.Refused (record { code = package_code refusal; about = None }) }
     ensures memory { refusal ≡ MimeRefusal.NoMemory → result ≡ MessageRefusal.NoMemory }
 {
     match refusal {
@@ -88,7 +90,7 @@ fn no_package(refusal: MimeRefusal) -> MessageRefusal
 }
 
 fn refused(code: u16, about: Option<MessageId>) -> MessageRefusal
-    ensures { Refuses code about result }
+    ensures { result ≡ MessageRefusal.Refused (record { code = code; about = about }) }
 {
     MessageRefusal::Refused(Refusal { code, about })
 }
@@ -111,7 +113,9 @@ fn with_read<'a>(
     read: Result<Unit, u16>,
     parts: &[Part<'a>],
 ) -> Result<Received<'a>, MessageRefusal>
-    ensures { AnswersBy received_value result (λ answer. answer ≡ root_with (map part_value parts.now) read) }
+    ensures meaning { AnswersBy received_value result (λ answer. answer ≡ root_with (map part_value parts.now) read) }
+    ensures told { (code : ℕ) → read ≡ Err code →
+        result ≡ Err (MessageRefusal.Refused (record { code = code; about = None })) }
 {
     match read {
         Ok(unit) => with_parts(alloc, unit, parts),

@@ -1,5 +1,6 @@
 //! The unit that the root of a package means: an envelope's.
-ghost use Rattle.std.specs.Prelude.{IfOk};
+ghost use Rattle.std.specs.Prelude.{◌≡◌, ◌<◌, Ok, Err, IfOk, length};
+ghost use Rattle.tree_reader.specs.Documents.{limit};
 ghost use Rattle.as4_message.specs.Meaning.{RootMeans};
 
 use crate::error_codes::{INVALID_HEADER, NOT_SUPPORTED};
@@ -10,7 +11,8 @@ use tree_reader::{TreeRefusal, read_tree};
 
 /// Reads the unit of an envelope, or answers the code of the error by which it is refused.
 pub(crate) fn read_root(alloc: Global, root: &[u8]) -> Result<Result<Unit, u16>, NoMemory>
-    ensures { IfOk result (RootMeans root.now) }
+    ensures meaning { IfOk result (RootMeans root.now) }
+    ensures too_long { limit < length root.now → result ≡ Ok (Err INVALID_HEADER) }
 {
     let tree = match read_tree(alloc, root) {
         Ok(tree) => tree,

@@ -48,8 +48,9 @@ fn receipt_of(
     received: &Received<'_>,
 ) -> Result<Option<Signal>, NoMemory>
     requires { stamp ≤ MAX_MOMENT }
-    ensures { IfOk result (λ reply. MatchOption reply (IsSignal (Ok (received_value received.now)))
+    ensures reply { IfOk result (λ reply. MatchOption reply (IsSignal (Ok (received_value received.now)))
         (IsReply stamp nonce (Ok (received_value received.now)))) }
+    ensures none { IsSignal (Ok (received_value received.now)) → result ≡ Ok None }
 {
     match received {
         Received::User(header, _) => Ok(Some(receipt(alloc, header, stamp, nonce)?)),
@@ -59,7 +60,8 @@ fn receipt_of(
 
 // The message file of a signal, where there is one.
 fn file_of(alloc: Global, reply: Option<Signal>) -> Result<Option<Octets>, NoMemory>
-    ensures { IfOk result (λ file. MatchOption file (reply ≡ None) (λ bytes. (signal : SignalValue) × (reply ≡ Some signal) × IsFile (Message.Signal signal) bytes)) }
+    ensures none { reply ≡ None → result ≡ Ok None }
+    ensures file { IfOk result (λ file. MatchOption file (reply ≡ None) (λ bytes. (signal : SignalValue) × (reply ≡ Some signal) × IsFile (Message.Signal signal) bytes)) }
 {
     let Some(signal) = reply else {
         return Ok(None);

@@ -25,7 +25,7 @@ A message file has at most 67174400 bytes. The line of check is one of
   receipt ID             a receipt of this message
   errors COUNT           so many errors
   pair ID CHANNEL        a receipt of this message with a pull request for this channel
-  refused EBMS:CODE ID   no message: by the error of this code, with the identifier where it could be read
+  refused EBMS:CODE ID   no message: by the error of this code, with the identifier where its header was read
 
 The lines of a script, each ended by LF, with one space between words. END is a or b; NAME and MODE are 1 to 32 of a to
 z and 0 to 9; PACKAGE and NUMBER count from 0:

@@ -13,7 +13,7 @@ ghost use Rattle.header_reader.specs.Made.{pair_from};
 use crate::elements::{Readable, is_named};
 use crate::made::may_be_pair;
 use crate::names::ElementName;
-use crate::refusal::HeaderRefusal;
+use crate::refusal::{HeaderRefusal, with};
 use crate::values::trimmed;
 use as4_envelope::{Attribute, Element, SOAP};
 use as4_values::{Pair, Signal, Unit, UserHeader};
@@ -207,7 +207,7 @@ fn read_two(alloc: Global, first: &Element, second: &Element) -> Result<Unit, He
         return Err(HeaderRefusal::Unsupported);
     }
     let first = Signal::read(alloc, first)?;
-    let second = Signal::read(alloc, second)?;
+    let (first, second) = with(first, Signal::read(alloc, second))?;
     both_of(first, second).ok_or(HeaderRefusal::Unsupported)
 }
 

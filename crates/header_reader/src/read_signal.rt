@@ -10,7 +10,7 @@ use crate::elements::{
 use crate::made::signal_from;
 use crate::names::{AttributeName, ElementName};
 use crate::parts::{PullRequest, Receipt};
-use crate::refusal::HeaderRefusal;
+use crate::refusal::{HeaderRefusal, with};
 use crate::values::Value;
 use as4_envelope::Element;
 use as4_values::{ErrorItem, Seq, Severity, Signal, SignalBody, Text};
@@ -147,8 +147,8 @@ impl Readable for SignalBody {
     #[tactic(auto, unfolding(crate::specs::Signals::body_of))]
     fn read(alloc: Global, element: &Element) -> Result<SignalBody, HeaderRefusal> {
         let pull = optional_child(alloc, element, ElementName::PullRequest)?;
-        let receipt = optional_child(alloc, element, ElementName::Receipt)?;
-        let items = children(alloc, element, ElementName::Error)?;
+        let parts = with(pull, optional_child(alloc, element, ElementName::Receipt))?;
+        let ((pull, receipt), items) = with(parts, children(alloc, element, ElementName::Error))?;
         body_from(pull, receipt, items).ok_or(HeaderRefusal::Invalid)
     }
 }

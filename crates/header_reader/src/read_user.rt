@@ -13,7 +13,7 @@ use crate::elements::{
 use crate::made::{header_from, part_from, side_from};
 use crate::names::{AttributeName, ElementName};
 use crate::parts::{CollaborationInfo, MessageInfo, PartyInfo};
-use crate::refusal::HeaderRefusal;
+use crate::refusal::{HeaderRefusal, with};
 use crate::values::read_optional;
 use as4_envelope::Element;
 use as4_values::{
@@ -179,11 +179,20 @@ impl Readable for CollaborationInfo {
             element,
             ElementName::AgreementRef,
         )?;
+        let info = with(
+            agreement.unwrap_or(None),
+            child(alloc, element, ElementName::Service),
+        )?;
+        let info = with(info, child(alloc, element, ElementName::Action))?;
+        let (((agreement, service), action), conversation) = with(
+            info,
+            child(alloc, element, ElementName::ConversationId),
+        )?;
         Ok(CollaborationInfo {
-            agreement: agreement.unwrap_or(None),
-            service: child(alloc, element, ElementName::Service)?,
-            action: child(alloc, element, ElementName::Action)?,
-            conversation: child(alloc, element, ElementName::ConversationId)?,
+            agreement,
+            service,
+            action,
+            conversation,
         })
     }
 }

@@ -1,4 +1,5 @@
 ghost use Rattle.std.specs.Prelude.{◌≡◌};
+ghost use Rattle.std.specs.Result.{result_map_both};
 ghost use Rattle.header_reader.specs.declared.refusal.HeaderRefusal.TheVariants.{NoMemory};
 
 use std::alloc::{AllocError, AllocFailed};
@@ -13,6 +14,22 @@ pub enum HeaderRefusal {
     Unsupported,
     /// Memory ran out.
     NoMemory,
+}
+
+/// A value, with the one that is read behind it.
+pub(crate) fn with<A: Drop, B>(
+    first: A,
+    second: Result<B, HeaderRefusal>,
+) -> Result<(A, B), HeaderRefusal>
+    ensures { result ≡ result_map_both (λ value. (first, value)) (λ refusal. refusal) second }
+{
+    match second {
+        Ok(second) => Ok((first, second)),
+        Err(refusal) => {
+            drop(first);
+            Err(refusal)
+        }
+    }
 }
 
 impl From<AllocError> for HeaderRefusal {

@@ -16,15 +16,19 @@ const RECEIPT: &str =
 const ERROR: &str =
     "Content-Type: application/soap+xml; charset=UTF-8\r\n\r\n<S:Envelope xmlns:S=\"http://www.w3.org/2003/05/soap-envelope\" xmlns:eb=\"http://docs.oasis-open.org/ebxml-msg/ebms/v3.0/ns/core/200704/\"><S:Header><eb:Messaging S:mustUnderstand=\"true\"><eb:SignalMessage><eb:MessageInfo><eb:Timestamp>1970-01-01T00:00:00.000Z</eb:Timestamp><eb:MessageId>s.00000000-0000-0000-0000-000000000001@as4</eb:MessageId></eb:MessageInfo><eb:Error errorCode=\"EBMS:0007\" severity=\"failure\" category=\"Unpackaging\" shortDescription=\"MimeInconsistency\"></eb:Error></eb:SignalMessage></eb:Messaging></S:Header><S:Body></S:Body></S:Envelope>";
 
+/// The file of a receipt of the message with a pull request.
+const PAIR: &str =
+    "Content-Type: application/soap+xml\r\n\r\n<S:Envelope xmlns:S=\"http://www.w3.org/2003/05/soap-envelope\" xmlns:eb=\"http://docs.oasis-open.org/ebxml-msg/ebms/v3.0/ns/core/200704/\"><S:Header><eb:Messaging S:mustUnderstand=\"true\"><eb:SignalMessage><eb:MessageInfo><eb:Timestamp>2025-01-02T03:04:05.006Z</eb:Timestamp><eb:MessageId>s1@b</eb:MessageId><eb:RefToMessageId>m1@a</eb:RefToMessageId></eb:MessageInfo><eb:Receipt></eb:Receipt></eb:SignalMessage><eb:SignalMessage><eb:MessageInfo><eb:Timestamp>2025-01-02T03:04:05.006Z</eb:Timestamp><eb:MessageId>s2@b</eb:MessageId></eb:MessageInfo><eb:PullRequest mpc=\"urn:ch\"></eb:PullRequest></eb:SignalMessage></eb:Messaging></S:Header><S:Body></S:Body></S:Envelope>";
+
 /// Whether this input is answered so, at the moment 0 with the nonce 1.
 fn is_answered(alloc: Global, file: &[u8], wanted: Wanted) -> bool {
     ends(alloc, "answer 0 1", file, NOTHING_FAILS, wanted)
 }
 
-/// Whether an input of so many bytes ends so.
-fn is_answered_by_length(alloc: Global, len: usize, wanted: Wanted) -> bool {
+/// Whether these words, with an input of so many bytes, end so.
+fn ends_by_length(alloc: Global, line: &str, len: usize, wanted: Wanted) -> bool {
     match vec![in alloc; 0; len] {
-        Ok(file) => is_answered(alloc, &file, wanted),
+        Ok(file) => ends(alloc, line, &file, NOTHING_FAILS, wanted),
         Err(_) => false,
     }
 }
@@ -32,8 +36,21 @@ fn is_answered_by_length(alloc: Global, len: usize, wanted: Wanted) -> bool {
 #[test]
 fn an_input_has_a_longest_length(rt: HostRuntime) {
     let alloc = rt.alloc();
-    assert!(rt; is_answered_by_length(alloc, LIMIT, (0, ERROR.as_bytes(), b"")));
-    assert!(rt; is_answered_by_length(alloc, LIMIT + 1, (11, b"", b"input too long\n")));
+    let too_long: Wanted = (11, b"", b"input too long\n");
+    assert!(rt; ends_by_length(alloc, "answer 0 1", LIMIT, (0, ERROR.as_bytes(), b"")));
+    assert!(rt; ends_by_length(alloc, "answer 0 1", LIMIT + 1, too_long));
+    assert!(rt; ends_by_length(alloc, "check", LIMIT + 1, too_long));
+}
+
+#[test]
+fn a_pair_has_no_answer(rt: HostRuntime) {
+    assert!(rt;
+        is_answered(
+            rt.alloc(),
+            PAIR.as_bytes(),
+            (7, b"", b"not a user message\n")
+        )
+    );
 }
 
 #[test]
@@ -55,10 +72,11 @@ fn a_message_without_its_last_byte_is_answered_by_an_error(rt: HostRuntime) {
 }
 
 /// The inputs of a check, its statuses and its lines.
-const CHECKS: [(&str, u8, &str); 4] = [
+const CHECKS: [(&str, u8, &str); 5] = [
     (FILE, 0, "user m1@a\n"),
     (RECEIPT, 0, "receipt m1@a\n"),
     (ERROR, 0, "errors 1\n"),
+    (PAIR, 0, "pair m1@a urn:ch\n"),
     ("", 1, "refused EBMS:0007\n"),
 ];
 

@@ -9,10 +9,11 @@ const PULL: &str =
     "Content-Type: application/soap+xml\r\n\r\n<S:Envelope xmlns:S=\"http://www.w3.org/2003/05/soap-envelope\" xmlns:eb=\"http://docs.oasis-open.org/ebxml-msg/ebms/v3.0/ns/core/200704/\"><S:Header><eb:Messaging S:mustUnderstand=\"true\"><eb:SignalMessage><eb:MessageInfo><eb:Timestamp>2025-01-02T03:04:05.006Z</eb:Timestamp><eb:MessageId>s2@b</eb:MessageId></eb:MessageInfo><eb:PullRequest mpc=\"urn:ch\"></eb:PullRequest></eb:SignalMessage></eb:Messaging></S:Header><S:Body></S:Body></S:Envelope>";
 
 /// Words, what fails, and the status and the line with which they end.
-const FAULTS: [(&str, Failing, u8, &str); 10] = [
+const FAULTS: [(&str, Failing, u8, &str); 11] = [
     ("answer 0 1", READ_FAILS, 3, "read fault\n"),
     ("check", READ_FAILS, 3, "read fault\n"),
     ("drill", READ_FAILS, 3, "read fault\n"),
+    ("check", WRITE_FAILS, 4, "write fault\n"),
     ("--help", WRITE_FAILS, 4, "write fault\n"),
     ("--version", WRITE_FAILS, 4, "write fault\n"),
     ("drill --generate 0 0", WRITE_FAILS, 4, "write fault\n"),
