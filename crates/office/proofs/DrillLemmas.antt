@@ -38,6 +38,7 @@ module _ (journal : Journal DiskState) (call : ℕ) where
             };
             place = found.1.place;
             within = found.1.within;
+            ahead = found.1.ahead;
           },
           found.2,
         );
