@@ -24,12 +24,12 @@ mod work;
 
 pub use call::{Call, Halt};
 pub use fault::OfficeFault;
+pub use journal::JournalFault;
 pub use laws::{
     a_cut_off_opening_leaves_the_same, a_history_may_happen, a_stop_leaves_what_may_happen,
     openings_may_happen, reopened_histories_join, what_came_stays_over_calls,
     what_came_stays_over_openings, what_is_settled_stays_over_openings,
 };
-pub use journal::JournalFault;
 pub use msh_core::Totals;
 pub use office::Office;
 pub use ready::Ready;
