@@ -11,5 +11,5 @@ returns-in_ok-reply-in-Ok c =
 pub returns-in_ok-reply-in-Err-Refused : goal.returns-in_ok-reply-in-Err-Refused
 returns-in_ok-reply-in-Err-Refused c =
     answered c.args.stamp c.args.nonce c.args.file.now (Err c.in-Err-Refused.refusal) (Some c.in_ok-reply-in-Err-Refused.field-0) c.file_of-in-Err-Refused.result
-    (rw (← c.split_file.ensures) (rw c.in-Err-Refused.field-0-is at c.in-Err-Refused.ensures.meaning)) c.in_ok-reply-in-Err-Refused.ensures
+    (rw (← c.split_file.ensures) (rw c.in-Err-Refused.field-0-is at c.in-Err-Refused.ensures.meaning)) (rw c.as_ref.ensures.value at c.in_ok-reply-in-Err-Refused.ensures)
     c.file_of-in-Err-Refused.ensures.file
