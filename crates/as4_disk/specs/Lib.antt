@@ -1,6 +1,7 @@
 pub mod Bytes
 pub mod ByteLaws
 pub mod Runs
+pub mod Faults
 pub mod Image
 pub mod Files
 pub mod Changes

@@ -1,7 +1,6 @@
 -- What a device call does to the images of a crash, and what a run of calls does, for any type of image. A disk has a
 -- moment, and for each moment the images that a crash might have left from it on.
-use Rattle.std.specs.Prelude.{◌≡◌, ◌⊎◌, ℕ, ◌≤◌, Bool, true, false, List, [], ◌∷◌, Option, Some, Result, OnErr, OnOk}
-use Rattle.as4_flow.specs.Flow.{Rose}
+use Rattle.std.specs.Prelude.{◌≡◌, ◌⊎◌, ℕ, ◌≤◌, Bool, true, false, List, [], ◌∷◌, Option, Some}
 
 -- where both are told, the step leads from one to the other
 abbrev pub Goes : {X : Type 0} → (X → X → Type 0) → Option X → Option X → Type 0
@@ -20,12 +19,6 @@ pub record Elapses {X : Type 0} (before now : ℕ) (past since : ℕ → X → T
   pub later : before ≤ now
   pub nothing_else : (t : ℕ) (c : X) → t ≤ before → since t c → past t c ⊎ may_leave c
   pub keeps : (t : ℕ) (c : X) → t ≤ before → past t c → since t c
-
--- the count of faults has risen where the call failed, and is as it was where it didn't
-pub record HasCause {T E : Type 0} (before now : ℕ) (result : Result T E) : Type 0 where
-  pub later : before ≤ now
-  pub failed : OnErr result (Rose before now)
-  pub fine : OnOk result (now ≡ before)
 
 -- a crash at any moment from old to new leaves an image that has P
 pub record LeavesOnly {D X : Type 0} (moment : D → ℕ) (left_since : D → ℕ → X → Type 0) (old new : D) (P : X → Type 0) : Type 0 where

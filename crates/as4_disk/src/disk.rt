@@ -10,7 +10,8 @@
 ghost use Rattle.std.specs.Prelude.{◌≡◌, ℕ, ◌+◌, ◌≤◌, Bool, Option, length, take, drop, is_ok, is_some, IfOk, OnOk};
 ghost use Rattle.as4_flow.specs.Flow.{Told};
 ghost use Rattle.as4_disk.specs.Bytes.{IsOverwritten, Torn, IsCut, TornCut};
-ghost use Rattle.as4_disk.specs.Runs.{Goes, Follows, Within, Elapses, HasCause};
+ghost use Rattle.as4_disk.specs.Faults.{HasCause};
+ghost use Rattle.as4_disk.specs.Runs.{Goes, Follows, Within, Elapses};
 ghost use Rattle.as4_disk.specs.Image.{Image, On, IsOnly};
 ghost use Rattle.as4_disk.specs.declared.change.Change.{Change};
 ghost use Rattle.as4_disk.specs.declared.change.Change.TheVariants.{Wrote, WasCut, Synced};

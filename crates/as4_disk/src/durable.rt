@@ -2,7 +2,8 @@
 ghost use Rattle.std.specs.Prelude.{◌≡◌, ◌≤◌, [], ◌∷◌, length, is_ok, is_some, OnOk};
 ghost use Rattle.as4_flow.specs.Flow.{Told};
 ghost use Rattle.as4_disk.specs.Bytes.{IsOverwritten, Torn};
-ghost use Rattle.as4_disk.specs.Runs.{Goes, Follows, LeavesOnly, HasCause, MakesAll};
+ghost use Rattle.as4_disk.specs.Faults.{HasCause};
+ghost use Rattle.as4_disk.specs.Runs.{Goes, Follows, LeavesOnly, MakesAll};
 ghost use Rattle.as4_disk.specs.Image.{On, IsOnly, TornFrom};
 ghost use Rattle.as4_disk.specs.declared.change.Change.TheVariants.{Synced, Wrote};
 

@@ -1,7 +1,7 @@
 //! A disk on three files of the system. It tells nothing of content; what it keeps is a count of the faults.
-ghost use Rattle.std.specs.Prelude.{◌≡◌, ℕ, None, true, false, if◌then◌else◌, is_ok, IfOk, IsErr, OnErr, OnOk};
+ghost use Rattle.std.specs.Prelude.{◌≡◌, None, true, false, if◌then◌else◌, is_ok, IfOk, IsErr, OnErr, OnOk};
 ghost use Rattle.as4_flow.specs.Flow.{one_more};
-ghost use Rattle.as4_disk.specs.Runs.{HasCause};
+ghost use Rattle.as4_disk.specs.Faults.{HasCause};
 
 use crate::{Disk, DiskFailed, Part};
 use std::fs::{File, OpenOptions};

@@ -2,10 +2,11 @@
 //!
 //! It keeps what it had at first and each change since, so that all its images can be named; of what it reads it has
 //! one copy, which is written in place.
-ghost use Rattle.std.specs.Prelude.{◌≡◌, ◌⊎◌, ℕ, Bool, false, Some, None, ◌+◌, ◌≤◌, ◌++◌, [], ◌∷◌, List, length, take, drop, is_ok, is_some, IsSome, unwrap_or, IfOk, OnOk, OnErr, IsOk};
-ghost use Rattle.as4_flow.specs.Flow.{Told, one_more};
+ghost use Rattle.std.specs.Prelude.{◌≡◌, ℕ, Bool, false, Some, None, ◌+◌, ◌≤◌, ◌++◌, [], List, length, take, drop, is_ok, is_some, IsSome, unwrap_or, IfOk, OnOk, OnErr, IsOk};
+ghost use Rattle.as4_flow.specs.Flow.{Told};
 ghost use Rattle.as4_disk.specs.Bytes.{IsOverwritten, Torn, IsCut, TornCut};
-ghost use Rattle.as4_disk.specs.Runs.{Goes, Follows, Within, Elapses, HasCause, MakesAll};
+ghost use Rattle.as4_disk.specs.Faults.{HasCause};
+ghost use Rattle.as4_disk.specs.Runs.{Goes, Follows, Within, Elapses, MakesAll};
 ghost use Rattle.as4_disk.specs.Image.{Image, On, IsOnly};
 ghost use Rattle.as4_disk.specs.Files.{image_of};
 ghost use Rattle.as4_disk.specs.Changes.{LeftSince};

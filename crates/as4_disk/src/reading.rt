@@ -1,6 +1,7 @@
 //! A read of bytes that a part may not have.
-ghost use Rattle.std.specs.Prelude.{◌≡◌, ◌+◌, ◌<◌, ◌≤◌, length, take, drop, IfOk, IfSome, IfNone, OnErr, IsErrOf};
-ghost use Rattle.as4_flow.specs.Flow.{Told, Rose};
+ghost use Rattle.std.specs.Prelude.{◌≡◌, ◌+◌, ◌<◌, ◌≤◌, length, take, drop, IfOk, IfSome, IfNone};
+ghost use Rattle.as4_flow.specs.Flow.{Told};
+ghost use Rattle.as4_disk.specs.Faults.{HasReadCause};
 ghost use Rattle.as4_disk.specs.Runs.{Quiet};
 
 use crate::{Disk, DiskFailed, Part};
@@ -49,9 +50,7 @@ pub fn read_some<D: Disk>(
     ensures len { IfOk result (λ found. IfSome found (λ bytes. length bytes.items ≡ count)) }
 
     ensures quiet { Quiet D.moment D.left_since D.seen D.may_leave disk.old disk.new }
-    ensures cause { IsErrOf result ReadFault.Disk → Rose (D.fault_count disk.old) (D.fault_count disk.new) }
-    ensures calm { ¬ IsErrOf result ReadFault.Disk → D.fault_count disk.new ≡ D.fault_count disk.old }
-    ensures counted { D.fault_count disk.old ≤ D.fault_count disk.new }
+    ensures cause { HasReadCause (D.fault_count disk.old) (D.fault_count disk.new) result }
 {
     let len = disk.len(part)?;
     let end = match at.checked_add(count) {

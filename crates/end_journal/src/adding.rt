@@ -1,5 +1,5 @@
 //! How a record of effects is made and put behind the others.
-ghost use Rattle.std.specs.Prelude.{◌≡◌, ℕ, ◌+◌, ◌≤◌, ◌^◌, [], IfErr, IfOk, IsOk, OnOk, is_ok, is_some, length};
+ghost use Rattle.std.specs.Prelude.{◌≡◌, ◌+◌, ◌≤◌, ◌^◌, [], IfErr, IfOk, IsOk, OnOk, is_ok, is_some, length};
 ghost use Rattle.as4_disk.specs.Image.{Image};
 ghost use Rattle.as4_disk.specs.Runs.{LeavesOnly, MakesAll};
 ghost use Rattle.as4_effects.specs.Effects.{effects_body, effects_limit};
@@ -9,13 +9,13 @@ ghost use Rattle.end_records.specs.Opens.{IsAtOneOf, IsJournalOf};
 ghost use Rattle.end_records.specs.Records.{RecordLeads};
 ghost use Rattle.exchange_model.specs.End.{End};
 ghost use Rattle.journal.specs.Calls.{record_calls};
-ghost use Rattle.journal.specs.State.{IsDisk, IsDiskFault};
+ghost use Rattle.journal.specs.Faults.{IsDiskFault, TellsCause};
 ghost use Rattle.journal.specs.Store.{leaf_of};
 
 use as4_disk::Disk;
 use as4_effects::Effect;
 use as4_values::{NoMemory, Seq};
-use event_code::write_body;
+use event_code::{body_len, push_body};
 use journal::{Frame, Journal, JournalFault};
 use std::alloc::Global;
 
@@ -29,10 +29,9 @@ pub fn frame_of(alloc: Global, effects: &Seq<Effect>) -> Result<Option<Frame>, N
     if effects.items().is_empty() {
         return Ok(None);
     }
-    let body = write_body(alloc, effects)?;
-    let frame = Frame::of(alloc, body.bytes());
-    drop(body);
-    Ok(Some(frame?))
+    let mut bytes = Frame::begin(alloc, body_len(effects) as usize)?;
+    push_body(&mut bytes, effects)?;
+    Ok(Some(Frame::end(bytes)?))
 }
 
 /// Puts the record behind the others. At `Ok` it is on the disk; in the call a crash leaves the records with it or
@@ -48,11 +47,8 @@ pub fn add_record<D: Disk>(journal: &mut Journal<D>, frame: &Frame) -> Result<()
     ensures calls { MakesAll D.makes (record_calls (leaf_of journal.old.is_second) journal.old.gate frame.now)
         journal.old.disk journal.new.disk (is_ok result) }
     ensures faults { IfErr result IsDiskFault }
-    ensures cause { IfErr result
-        (IsDisk (D.fault_count journal.old.disk) (D.fault_count journal.new.disk)) }
-    ensures fine { OnOk result (D.fault_count journal.new.disk ≡ D.fault_count journal.old.disk) }
+    ensures cause { TellsCause (D.fault_count journal.old.disk) (D.fault_count journal.new.disk) result }
     ensures tells { is_some (D.seen journal.new.disk) ≡ is_some (D.seen journal.old.disk) }
-    ensures counted { D.fault_count journal.old.disk ≤ D.fault_count journal.new.disk }
 {
     journal.append(frame)?;
     Ok(())

@@ -1,6 +1,6 @@
 //! How the journal of an end is folded: the effects that give the end back from the empty end, each in a record of its
 //! own, take the place of all records.
-ghost use Rattle.std.specs.Prelude.{◌≡◌, ◌⊎◌, ℕ, ◌+◌, ◌<◌, ◌≤◌, ◌^◌, List, [], ◌∷◌, None, Some, IfErr, IfOk, IsErrOf, IsNone, IsSomeAnd, OnErr, OnOk, is_some, true, false};
+ghost use Rattle.std.specs.Prelude.{◌≡◌, ◌⊎◌, ℕ, ◌+◌, ◌<◌, ◌^◌, List, [], ◌∷◌, None, Some, IfErr, IfOk, IsErrOf, IsNone, IsSomeAnd, OnErr, OnOk, is_some, true, false};
 ghost use Rattle.std.specs.List.{slice_get};
 ghost use Rattle.as4_disk.specs.Image.{Image};
 ghost use Rattle.as4_disk.specs.Runs.{FirstThen, LeavesOnly};
@@ -13,7 +13,8 @@ ghost use Rattle.event_code.specs.Spelled.{IsSpelledEffect};
 ghost use Rattle.exchange_model.specs.Apply.{record_len};
 ghost use Rattle.exchange_model.specs.End.{End};
 ghost use Rattle.exchange_model.specs.Fold.{IsFolded, IsFoldedSize, resized};
-ghost use Rattle.journal.specs.State.{HasFold, HasRecords, IsCalm, IsDisk, IsReadFault};
+ghost use Rattle.journal.specs.Faults.{IsReadFault, TellsCause};
+ghost use Rattle.journal.specs.State.{HasFold, HasRecords};
 ghost use Rattle.journal.specs.Store.{InVersion, OpensSettled};
 
 use crate::adding::frame_of;
@@ -51,12 +52,8 @@ pub fn fold_end<D: Disk>(
         (InVersion journal.old.version (OpensSettled bodies))
         (λ (c : Image). InVersion journal.old.version (OpensSettled bodies) c ⊎ IsAt c (resized size core.old.end)) }
     ensures faults { IfErr result IsReadFault }
-    ensures cause { IfErr result
-        (IsDisk (D.fault_count journal.old.disk) (D.fault_count journal.new.disk)) }
-    ensures calm { IfErr result (IsCalm (D.fault_count journal.old.disk) (D.fault_count journal.new.disk)) }
-    ensures fine { OnOk result (D.fault_count journal.new.disk ≡ D.fault_count journal.old.disk) }
+    ensures cause { TellsCause (D.fault_count journal.old.disk) (D.fault_count journal.new.disk) result }
     ensures tells { is_some (D.seen journal.new.disk) ≡ is_some (D.seen journal.old.disk) }
-    ensures counted { D.fault_count journal.old.disk ≤ D.fault_count journal.new.disk }
 {
     write_fold(alloc, journal, core)?;
     core.set_folded();
@@ -83,12 +80,8 @@ fn write_fold<D: Disk>(
         (InVersion journal.old.version (OpensSettled bodies))
         (λ (c : Image). InVersion journal.old.version (OpensSettled bodies) c ⊎ IsAt c (resized size core.now.end)) }
     ensures faults { IfErr result IsReadFault }
-    ensures cause { IfErr result
-        (IsDisk (D.fault_count journal.old.disk) (D.fault_count journal.new.disk)) }
-    ensures calm { IfErr result (IsCalm (D.fault_count journal.old.disk) (D.fault_count journal.new.disk)) }
-    ensures fine { OnOk result (D.fault_count journal.new.disk ≡ D.fault_count journal.old.disk) }
+    ensures cause { TellsCause (D.fault_count journal.old.disk) (D.fault_count journal.new.disk) result }
     ensures tells { is_some (D.seen journal.new.disk) ≡ is_some (D.seen journal.old.disk) }
-    ensures counted { D.fault_count journal.old.disk ≤ D.fault_count journal.new.disk }
 {
     // So the end has a fold, which leads to it.
     let _ = core.folded_size();
@@ -126,12 +119,8 @@ fn add_parts<D: Disk>(
         → LeavesOnly D.moment D.left_since journal.old.disk journal.new.disk
         (InVersion journal.old.version (OpensSettled bodies)) }
     ensures faults { IfErr result IsReadFault }
-    ensures cause { IfErr result
-        (IsDisk (D.fault_count journal.old.disk) (D.fault_count journal.new.disk)) }
-    ensures calm { IfErr result (IsCalm (D.fault_count journal.old.disk) (D.fault_count journal.new.disk)) }
-    ensures fine { OnOk result (D.fault_count journal.new.disk ≡ D.fault_count journal.old.disk) }
+    ensures cause { TellsCause (D.fault_count journal.old.disk) (D.fault_count journal.new.disk) result }
     ensures tells { is_some (D.seen journal.new.disk) ≡ is_some (D.seen journal.old.disk) }
-    ensures counted { D.fault_count journal.old.disk ≤ D.fault_count journal.new.disk }
 {
     let mut part = 0;
     'parts: while add_part(alloc, journal, core, part)? {
@@ -162,12 +151,8 @@ fn add_part<D: Disk>(
         → LeavesOnly D.moment D.left_since journal.old.disk journal.new.disk
         (InVersion journal.old.version (OpensSettled bodies)) }
     ensures faults { IfErr result IsReadFault }
-    ensures cause { IfErr result
-        (IsDisk (D.fault_count journal.old.disk) (D.fault_count journal.new.disk)) }
-    ensures calm { IfErr result (IsCalm (D.fault_count journal.old.disk) (D.fault_count journal.new.disk)) }
-    ensures fine { OnOk result (D.fault_count journal.new.disk ≡ D.fault_count journal.old.disk) }
+    ensures cause { TellsCause (D.fault_count journal.old.disk) (D.fault_count journal.new.disk) result }
     ensures tells { is_some (D.seen journal.new.disk) ≡ is_some (D.seen journal.old.disk) }
-    ensures counted { D.fault_count journal.old.disk ≤ D.fault_count journal.new.disk }
 {
     let effect = match core.folded(part) {
         Ok(Some(effect)) => effect,

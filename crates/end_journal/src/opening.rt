@@ -1,5 +1,5 @@
 //! How the journal of an end is opened.
-ghost use Rattle.std.specs.Prelude.{◌≡◌, ℕ, ◌≤◌, List, [], IfErr, IfOk, IsNone, OnOk, is_some};
+ghost use Rattle.std.specs.Prelude.{◌≡◌, ℕ, [], IfErr, IfOk, IsNone, OnOk, is_some};
 ghost use Rattle.as4_disk.specs.Runs.{FirstThen, LeavesOnly, Quiet};
 ghost use Rattle.as4_flow.specs.Flow.{Told};
 ghost use Rattle.end_records.specs.Opens.{IsJournalOf, IsOld, ReadsAs, ReopensAs};
@@ -7,7 +7,8 @@ ghost use Rattle.end_records.specs.Unfit.{IsNoJournal};
 ghost use Rattle.exchange_model.specs.End.{End, empty_end};
 ghost use Rattle.exchange_model.specs.Fold.{IsFoldedSize, resized};
 ghost use Rattle.journal.specs.Leaf.{IsNew};
-ghost use Rattle.journal.specs.State.{HasRead, IsCalm, IsDisk, IsOpeningFault};
+ghost use Rattle.journal.specs.Faults.{IsCause, IsOpeningFault, TellsCause};
+ghost use Rattle.journal.specs.State.{HasRead};
 ghost use Rattle.journal.specs.Store.{picked_leaf};
 ghost use Rattle.journal.specs.declared.version.Version.TheVariants.{One, Two};
 
@@ -51,12 +52,9 @@ pub fn open_end<D: Disk>(
     ensures untouched { IfErr result (λ e. (at : ℕ) → e.0 ≡ JournalFault.NotJournal at
         → Told (D.seen disk) (λ _. Quiet D.moment D.left_since D.seen D.may_leave disk e.1)) }
     ensures faults { IfErr result (λ e. IsOpeningFault e.0) }
-    ensures cause { IfErr result (λ e. IsDisk (D.fault_count disk) (D.fault_count e.1) e.0) }
-    ensures calm { IfErr result (λ e. IsCalm (D.fault_count disk) (D.fault_count e.1) e.0) }
+    ensures cause { IfErr result (λ e. IsCause (D.fault_count disk) (D.fault_count e.1) e.0) }
     ensures fine { IfOk result (λ opened. D.fault_count opened.0.disk ≡ D.fault_count disk) }
     ensures tells { IfOk result (λ opened. is_some (D.seen opened.0.disk) ≡ is_some (D.seen disk)) }
-    ensures counted { IfOk result (λ opened. D.fault_count disk ≤ D.fault_count opened.0.disk) }
-    ensures failed_count { IfErr result (λ e. D.fault_count disk ≤ D.fault_count e.1) }
 {
     let mut journal = match Journal::open(alloc, disk) {
         Ok(journal) => journal,
@@ -98,12 +96,8 @@ fn bring_up<D: Disk>(
     ensures untouched { IfErr result (λ e. (at : ℕ) → e ≡ JournalFault.NotJournal at
         → Quiet D.moment D.left_since D.seen D.may_leave journal.old.disk journal.new.disk) }
     ensures faults { IfErr result IsOpeningFault }
-    ensures cause { IfErr result
-        (IsDisk (D.fault_count journal.old.disk) (D.fault_count journal.new.disk)) }
-    ensures calm { IfErr result (IsCalm (D.fault_count journal.old.disk) (D.fault_count journal.new.disk)) }
-    ensures fine { OnOk result (D.fault_count journal.new.disk ≡ D.fault_count journal.old.disk) }
+    ensures cause { TellsCause (D.fault_count journal.old.disk) (D.fault_count journal.new.disk) result }
     ensures tells { is_some (D.seen journal.new.disk) ≡ is_some (D.seen journal.old.disk) }
-    ensures counted { D.fault_count journal.old.disk ≤ D.fault_count journal.new.disk }
 {
     read_all(alloc, journal, core)?;
     if journal.version() == WRITTEN_VERSION {

@@ -7,7 +7,8 @@ ghost use Rattle.end_records.specs.Records.{RecordLeads, RecordsLead};
 ghost use Rattle.end_records.specs.Unfit.{IsNoJournal};
 ghost use Rattle.exchange_model.specs.End.{End, empty_end};
 ghost use Rattle.journal.specs.Leaf.{front_of};
-ghost use Rattle.journal.specs.State.{HasRead, IsCalm, IsDisk, IsOpeningFault};
+ghost use Rattle.journal.specs.Faults.{IsOpeningFault, TellsCause};
+ghost use Rattle.journal.specs.State.{HasRead};
 ghost use Rattle.journal.specs.Store.{Reopens, picked_leaf};
 
 use as4_disk::Disk;
@@ -35,12 +36,8 @@ pub(crate) fn read_all<D: Disk>(
     ensures untouched { IfErr result (λ e. (at : ℕ) → e ≡ JournalFault.NotJournal at
         → Quiet D.moment D.left_since D.seen D.may_leave journal.old.disk journal.new.disk) }
     ensures faults { IfErr result IsOpeningFault }
-    ensures cause { IfErr result
-        (IsDisk (D.fault_count journal.old.disk) (D.fault_count journal.new.disk)) }
-    ensures calm { IfErr result (IsCalm (D.fault_count journal.old.disk) (D.fault_count journal.new.disk)) }
-    ensures fine { OnOk result (D.fault_count journal.new.disk ≡ D.fault_count journal.old.disk) }
+    ensures cause { TellsCause (D.fault_count journal.old.disk) (D.fault_count journal.new.disk) result }
     ensures tells { is_some (D.seen journal.new.disk) ≡ is_some (D.seen journal.old.disk) }
-    ensures counted { D.fault_count journal.old.disk ≤ D.fault_count journal.new.disk }
 {
     'records: while replay_next(alloc, journal, core)? {}
     Ok(())
@@ -71,12 +68,8 @@ fn replay_next<D: Disk>(
     ensures untouched { IfErr result (λ e. (at : ℕ) → e ≡ JournalFault.NotJournal at
         → Quiet D.moment D.left_since D.seen D.may_leave journal.old.disk journal.new.disk) }
     ensures faults { IfErr result IsOpeningFault }
-    ensures cause { IfErr result
-        (IsDisk (D.fault_count journal.old.disk) (D.fault_count journal.new.disk)) }
-    ensures calm { IfErr result (IsCalm (D.fault_count journal.old.disk) (D.fault_count journal.new.disk)) }
-    ensures fine { OnOk result (D.fault_count journal.new.disk ≡ D.fault_count journal.old.disk) }
+    ensures cause { TellsCause (D.fault_count journal.old.disk) (D.fault_count journal.new.disk) result }
     ensures tells { is_some (D.seen journal.new.disk) ≡ is_some (D.seen journal.old.disk) }
-    ensures counted { D.fault_count journal.old.disk ≤ D.fault_count journal.new.disk }
 {
     let Some((gate, body)) = journal.next_record(alloc)? else {
         return Ok(false);

@@ -1,6 +1,6 @@
 //! The body of a record: the count of its effects and then each of them.
 
-ghost use Rattle.std.specs.Prelude.{◌≡◌, ◌≤◌, ◌+◌, ◌*◌, [], ◌∷◌, length, IfOk};
+ghost use Rattle.std.specs.Prelude.{◌≡◌, ◌≤◌, ◌+◌, ◌*◌, [], ◌∷◌, ◌++◌, length, OnOk};
 ghost use Rattle.std.specs.List.{sum_by};
 ghost use Rattle.as4_effects.specs.Bodies.{number_body};
 ghost use Rattle.as4_effects.specs.Effects.{submission_body, standing_body, effect_body, effects_body, carried_limit, most_bytes_of, effects_limit};
@@ -12,8 +12,7 @@ ghost use Rattle.as4_effects.specs.declared.effect.Effect.TheVariants.{Ticked, C
 use crate::spelled::Spelled;
 use crate::written::{Written, push_all, push_number};
 use as4_effects::{Carried, Effect, Mark, Measured};
-use as4_values::{MAX_MOMENT, NoMemory, Octets, Seq};
-use std::alloc::Global;
+use as4_values::{MAX_MOMENT, NoMemory, Seq};
 
 /// How many bytes an effect has.
 #[tactic(auto, using(crate::proofs::BodyLemmas::counted_exactly, crate::proofs::BodyLemmas::counted_within, crate::proofs::BodyLemmas::refused_length, as4_effects::proofs::LengthLemmas::number_length), unfolding(as4_effects::specs::Effects::effect_body))]
@@ -96,19 +95,16 @@ fn body_of_number(kind: u8, number: u64) -> [u8; 11]
     [0, 1, kind, a, b, c, d, e, f, g, h]
 }
 
-/// Writes the body of these effects.
+/// Writes the body of these effects behind what is there. Where memory ran out, some of it stands there.
 #[tactic(auto, unfolding(as4_effects::specs::Effects::effects_body))]
-pub fn write_body(alloc: Global, effects: &Seq<Effect>) -> Result<Octets, NoMemory>
+pub fn push_body(out: &mut Vec<u8>, effects: &Seq<Effect>) -> Result<(), NoMemory>
     requires some { 1 ≤ length effects.now }
     requires counted { length effects.now ≤ effects_limit }
-    requires limited { length (effects_body effects.now) ≤ 1073741824 }
-    ensures body { IfOk result (λ body. body ≡ effects_body effects.now) }
+    ensures body { OnOk result (out.new.items ≡ out.old.items ++ effects_body effects.now) }
     // So these bytes are read as these effects and no others.
     ensures spelled { AreSpelled effects.now }
 {
     effects.show();
-    let mut out = Vec::with_capacity(alloc, body_len(effects) as usize)?;
-    push_number(&mut out, 2, effects.items().len() as u64)?;
-    push_all(&mut out, effects.items())?;
-    Ok(Octets::of(out))
+    push_number(out, 2, effects.items().len() as u64)?;
+    push_all(out, effects.items())
 }

@@ -15,6 +15,6 @@ mod spelled;
 mod whole;
 mod written;
 
-pub use body::{body_len, confirm_body, tick_body, write_body};
+pub use body::{body_len, confirm_body, push_body, tick_body};
 pub use record::{one_body, read_body};
 pub use refusal::BodyRefusal;

@@ -10,7 +10,7 @@ use as4_values::{
     Agreement, Code, MessageId, Octets, PartInfo, Party, Payload, PlainData, Property, Route, Seq,
     Service, Side, Text, UserHeader, read_stamp,
 };
-use event_code::{BodyRefusal, body_len, confirm_body, read_body, tick_body, write_body};
+use event_code::{BodyRefusal, body_len, confirm_body, push_body, read_body, tick_body};
 use std::alloc::Global;
 use std::process::Abort;
 
@@ -243,8 +243,9 @@ fn is_written(rt: &(impl Abort + AllocGlobal), effects: &Seq<Effect>, bytes: &[u
     assert!(rt; 0 < count && count <= 3);
     let len = body_len(effects);
     assert!(rt; len <= 1000);
-    let body = write_body(rt.alloc(), effects).expect(rt, "memory");
-    body.bytes() == bytes && len == bytes.len() as u64
+    let mut body = Vec::new(rt.alloc());
+    push_body(&mut body, effects).expect(rt, "memory");
+    body.as_slice() == bytes && len == bytes.len() as u64
 }
 
 /// Whether the bytes are read as the effects, and written as they stood.

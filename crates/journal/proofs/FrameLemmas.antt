@@ -26,10 +26,13 @@ frame_body body =
     ∙ ap (λ (l : List ℕ). take (length (frame_of body) - 10) l) (drop_at (head body) (body ++ 0 ∷ []) 9 (length-head body))
     ∙ take_at body (0 ∷ []) (length (frame_of body) - 10) (omega (arith, length-frame body))
 
+-- the body in the bytes of a frame
+pub body_in_frame : (body bytes : List ℕ) → bytes ≡ frame_of body → take (length bytes - 10) (drop 9 bytes) ≡ body
+body_in_frame body bytes are = ap (λ (l : List ℕ). take (length l - 10) (drop 9 l)) are ∙ frame_body body
+
 -- bytes that are a frame are that of the body in them
 pub frame_is : (body bytes : List ℕ) → bytes ≡ frame_of body → bytes ≡ frame_of (take (length bytes - 10) (drop 9 bytes))
-frame_is body bytes are =
-    are ∙ ap (λ (l : List ℕ). frame_of l) (sym (frame_body body) ∙ ap (λ (l : List ℕ). take (length l - 10) (drop 9 l)) (sym are))
+frame_is body bytes are = are ∙ ap (λ (l : List ℕ). frame_of l) (sym (body_in_frame body bytes are))
 
 -- another body of the same length
 pub frame_filled : (old new bytes : List ℕ) → bytes ≡ frame_of old → length new ≡ length old → take 9 bytes ++ new ++ drop (9 + length new) bytes ≡ frame_of new

@@ -1,53 +1,11 @@
 -- What stands of a journal while it is read, and once it has been read.
 use Rattle.std.specs.Prelude.{◌≡◌, ℕ, ◌<◌, List, ◌∷◌, ◌++◌, Option, None, Some, length}
-use Rattle.as4_flow.specs.Flow.{Rose}
 use Rattle.as4_disk.specs.Image.{Image}
 use Rattle.journal.specs.declared.version.Version.TheVariants.{Two}
 use Rattle.journal.specs.declared.journal.Journal.{Journal}
 use Rattle.journal.specs.Leaf.{limit_of, front_of}
 use Rattle.journal.specs.Reading.{IsAhead}
 use Rattle.journal.specs.Settled.{IsSettled, Reads}
-use Rattle.journal.specs.declared.fault.JournalFault.{JournalFault}
-use Rattle.journal.specs.declared.fault.JournalFault.TheVariants.{Disk, NotJournal, Full, NoMemory}
-
--- where the fault is that the disk failed, its counts are those before and after, and the count rose
-abbrev pub IsDisk : ℕ → ℕ → JournalFault → Type 0
-IsDisk before after fault = (x y : ℕ) → fault ≡ Disk x y → (x ≡ before) × (y ≡ after) × Rose before after
-
--- no call on the disk failed, unless the fault is that one did
-abbrev pub IsCalm : ℕ → ℕ → JournalFault → Type 0
-IsCalm before after (Disk x y) = Unit {0}
-IsCalm before after (NotJournal at) = after ≡ before
-IsCalm before after NoMemory = after ≡ before
-IsCalm before after (Full size need) = after ≡ before
-
--- it is anything but that the journal is full
-abbrev pub IsOpeningFault : JournalFault → Type 0
-IsOpeningFault (NotJournal at) = Unit {0}
-IsOpeningFault (Disk before after) = Unit {0}
-IsOpeningFault NoMemory = Unit {0}
-IsOpeningFault (Full size need) = ⊥
-
--- it is that the disk failed, or that there was no memory
-abbrev pub IsReadFault : JournalFault → Type 0
-IsReadFault (Disk before after) = Unit {0}
-IsReadFault NoMemory = Unit {0}
-IsReadFault (NotJournal at) = ⊥
-IsReadFault (Full size need) = ⊥
-
--- it is that the journal is full, or that the disk failed
-abbrev pub IsAppendFault : JournalFault → Type 0
-IsAppendFault (Full size need) = Unit {0}
-IsAppendFault (Disk before after) = Unit {0}
-IsAppendFault (NotJournal at) = ⊥
-IsAppendFault NoMemory = ⊥
-
--- it is that the disk failed
-abbrev pub IsDiskFault : JournalFault → Type 0
-IsDiskFault (Disk before after) = Unit {0}
-IsDiskFault NoMemory = ⊥
-IsDiskFault (NotJournal at) = ⊥
-IsDiskFault (Full size need) = ⊥
 
 -- These records were read so far, and the journal stands at the next gate, of which something may have been read ahead.
 -- Where that gate is open, the leaf isn't new.

@@ -1,5 +1,5 @@
 //! How a record is appended.
-ghost use Rattle.std.specs.Prelude.{◌≡◌, ◌+◌, ◌<◌, ◌≤◌, ◌^◌, ◌++◌, [], ◌∷◌, List, ℕ, IfOk, IfErr, OnOk, IsErr, IsNone, length, is_ok, is_some};
+ghost use Rattle.std.specs.Prelude.{◌≡◌, ◌+◌, ◌<◌, ◌≤◌, ◌^◌, ◌++◌, [], ◌∷◌, List, ℕ, IfOk, IfErr, OnOk, IsNone, length, is_ok, is_some};
 ghost use Rattle.as4_flow.specs.Flow.{Told};
 ghost use Rattle.as4_disk.specs.Runs.{LeavesOnly, MakesAll};
 
@@ -11,7 +11,8 @@ use as4_disk::{Disk, DiskFailed};
 impl<D: Disk> Journal<D> {
     ghost use Rattle.journal.specs.Calls.{record_calls};
     ghost use Rattle.journal.specs.Store.{InVersion, OpensToOneOf, leaf_of};
-    ghost use Rattle.journal.specs.State.{HasRecords, IsDisk, IsAppendFault};
+    ghost use Rattle.journal.specs.Faults.{IsAppendFault, TellsCause};
+    ghost use Rattle.journal.specs.State.{HasRecords};
 
     /// Appends a record, and answers the place of its gate. All records have been read, the leaf has version 2, and no
     /// call has answered Disk. It makes four device calls and takes no memory.
@@ -40,11 +41,8 @@ impl<D: Disk> Journal<D> {
             → self.old.gate + 1 + (length frame.now + 9) ≤ 2 ^ 32) }
         ensures fits { OnOk result (self.old.gate + 1 + (length frame.now + 9) ≤ 2 ^ 32) }
         ensures faults { IfErr result IsAppendFault }
-        ensures cause { IfErr result
-            (λ e. IsDisk (D.fault_count self.old.disk) (D.fault_count self.new.disk) e) }
+        ensures cause { TellsCause (D.fault_count self.old.disk) (D.fault_count self.new.disk) result }
         ensures tells { is_some (D.seen self.new.disk) ≡ is_some (D.seen self.old.disk) }
-        ensures fine { OnOk result (D.fault_count self.new.disk ≡ D.fault_count self.old.disk) }
-        ensures counted { D.fault_count self.old.disk ≤ D.fault_count self.new.disk }
     {
         let gate = self.gate;
         let size = gate + 1;

@@ -1,5 +1,5 @@
 //! One record of a journal, by the place of its gate.
-ghost use Rattle.std.specs.Prelude.{◌≡◌, ◌≢◌, ◌++◌, ◌∷◌, ◌<◌, ◌≤◌, IfOk, IfErr, OnOk, IsErrOf, List, ℕ, length};
+ghost use Rattle.std.specs.Prelude.{◌≡◌, ◌++◌, ◌∷◌, ◌<◌, IfOk, IfErr, length};
 ghost use Rattle.as4_disk.specs.Runs.{Quiet};
 
 use crate::reading::{Next, read_next};
@@ -11,7 +11,8 @@ use std::alloc::Global;
 
 impl<D: Disk> Journal<D> {
     ghost use Rattle.journal.specs.Leaf.{front_of};
-    ghost use Rattle.journal.specs.State.{HasRecords, IsCalm, IsDisk, IsReadFault};
+    ghost use Rattle.journal.specs.Faults.{IsReadFault, TellsCause};
+    ghost use Rattle.journal.specs.State.{HasRecords};
 
     /// The body of the record whose gate stands at that place, as `next_record` or `append` gave it. Over a disk that
     /// doesn't tell, where no record stands there, an empty body.
@@ -26,11 +27,7 @@ impl<D: Disk> Journal<D> {
         ensures quiet { Quiet D.moment D.left_since D.seen D.may_leave self.old.disk self.new.disk }
 
         ensures faults { IfErr result IsReadFault }
-        ensures cause { IfErr result
-            (λ e. IsDisk (D.fault_count self.old.disk) (D.fault_count self.new.disk) e) }
-        ensures calm { IfErr result (IsCalm (D.fault_count self.old.disk) (D.fault_count self.new.disk)) }
-        ensures fine { OnOk result (D.fault_count self.new.disk ≡ D.fault_count self.old.disk) }
-        ensures counted { D.fault_count self.old.disk ≤ D.fault_count self.new.disk }
+        ensures cause { TellsCause (D.fault_count self.old.disk) (D.fault_count self.new.disk) result }
     {
         let nothing = Octets::of(Vec::new(alloc));
         if gate >= self.version.limit() {

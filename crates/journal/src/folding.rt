@@ -1,5 +1,5 @@
 //! How a journal is folded: other records that stand for its own are written to the other leaf, which is then picked.
-ghost use Rattle.std.specs.Prelude.{◌≡◌, ◌+◌, ◌<◌, ◌≤◌, ◌^◌, ◌++◌, [], ◌∷◌, List, ℕ, Some, IfOk, IfErr, OnOk, IsNone, IsSome, IsSomeAnd, length, is_some};
+ghost use Rattle.std.specs.Prelude.{◌≡◌, ◌+◌, ◌<◌, ◌^◌, ◌++◌, [], ◌∷◌, List, ℕ, Some, IfOk, IfErr, OnOk, IsNone, IsSome, IsSomeAnd, length, is_some};
 ghost use Rattle.as4_flow.specs.Flow.{Told};
 ghost use Rattle.as4_disk.specs.Runs.{LeavesOnly, FirstThen};
 
@@ -10,7 +10,8 @@ use as4_disk::{Disk, DiskFailed};
 
 impl<D: Disk> Journal<D> {
     ghost use Rattle.journal.specs.Store.{InVersion, OpensSettled, OpensToEither};
-    ghost use Rattle.journal.specs.State.{HasRecords, HasFold, IsDisk, IsDiskFault};
+    ghost use Rattle.journal.specs.Faults.{IsDiskFault, TellsCause};
+    ghost use Rattle.journal.specs.State.{HasFold, HasRecords};
 
     /// Opens a fold, which has no records yet. All records have been read, and no call has answered Disk. It takes no
     /// memory.
@@ -27,11 +28,8 @@ impl<D: Disk> Journal<D> {
             (InVersion self.old.version (OpensSettled bodies)) }
 
         ensures faults { IfErr result IsDiskFault }
-        ensures cause { IfErr result
-            (λ e. IsDisk (D.fault_count self.old.disk) (D.fault_count self.new.disk) e) }
+        ensures cause { TellsCause (D.fault_count self.old.disk) (D.fault_count self.new.disk) result }
         ensures tells { is_some (D.seen self.new.disk) ≡ is_some (D.seen self.old.disk) }
-        ensures fine { OnOk result (D.fault_count self.new.disk ≡ D.fault_count self.old.disk) }
-        ensures counted { D.fault_count self.old.disk ≤ D.fault_count self.new.disk }
     {
         let before = self.disk.faults();
         match empty_other(&mut self.disk, self.is_second) {
@@ -62,11 +60,8 @@ impl<D: Disk> Journal<D> {
         ensures same { (self.new.gate ≡ self.old.gate) × (self.new.version ≡ self.old.version) }
 
         ensures faults { IfErr result IsDiskFault }
-        ensures cause { IfErr result
-            (λ e. IsDisk (D.fault_count self.old.disk) (D.fault_count self.new.disk) e) }
+        ensures cause { TellsCause (D.fault_count self.old.disk) (D.fault_count self.new.disk) result }
         ensures tells { is_some (D.seen self.new.disk) ≡ is_some (D.seen self.old.disk) }
-        ensures fine { OnOk result (D.fault_count self.new.disk ≡ D.fault_count self.old.disk) }
-        ensures counted { D.fault_count self.old.disk ≤ D.fault_count self.new.disk }
     {
         let gate = self.fold.unwrap();
         let before = self.disk.faults();
@@ -100,11 +95,8 @@ impl<D: Disk> Journal<D> {
             (InVersion self.old.version (OpensSettled bodies)) (OpensToEither self.old.version bodies folded) }
 
         ensures faults { IfErr result IsDiskFault }
-        ensures cause { IfErr result
-            (λ e. IsDisk (D.fault_count self.old.disk) (D.fault_count self.new.disk) e) }
+        ensures cause { TellsCause (D.fault_count self.old.disk) (D.fault_count self.new.disk) result }
         ensures tells { is_some (D.seen self.new.disk) ≡ is_some (D.seen self.old.disk) }
-        ensures fine { OnOk result (D.fault_count self.new.disk ≡ D.fault_count self.old.disk) }
-        ensures counted { D.fault_count self.old.disk ≤ D.fault_count self.new.disk }
     {
         let gate = self.fold.unwrap();
         let before = self.disk.faults();

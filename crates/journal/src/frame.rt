@@ -4,7 +4,7 @@
 //!     length  8 bytes, big endian: how long the body is
 //!     body    that many bytes
 //!     gate    1 byte: 0, closed until the next record is on the disk
-ghost use Rattle.std.specs.Prelude.{◌≡◌, ◌+◌, ◌≤◌, ◌^◌, ◌++◌, length, take, drop, IfOk};
+ghost use Rattle.std.specs.Prelude.{◌≡◌, ℕ, ◌+◌, ◌≤◌, ◌^◌, List, ◌++◌, length, take, drop, IfOk};
 ghost use Rattle.journal.specs.Leaf.{frame_of, record_of};
 
 use crate::version::Version;
@@ -36,10 +36,30 @@ impl Frame {
         requires { length body.now ≤ 2 ^ 30 }
         ensures { IfOk result (λ frame. frame ≡ body.now) }
     {
-        let mut bytes = Vec::with_capacity(alloc, body.len() + 10)?;
-        bytes.push(1)?;
-        bytes.extend_from_slice(&(body.len() as u64).to_be_bytes())?;
+        let mut bytes = Frame::begin(alloc, body.len())?;
         bytes.extend_from_slice(body)?;
+        Frame::end(bytes)
+    }
+
+    /// What stands before a body of this length, at most 1,073,741,824 bytes, with room for the whole record: so a body can
+    /// be written where it is to stand.
+    pub fn begin(alloc: Global, len: usize) -> Result<Vec<u8>, NoMemory>
+        requires { len ≤ 2 ^ 30 }
+        ensures { IfOk result (λ bytes. (body : List ℕ) → length body ≡ len
+            → bytes.items ++ body ≡ record_of Version.Two body) }
+    {
+        let mut bytes = Vec::with_capacity(alloc, len + 10)?;
+        bytes.push(1)?;
+        bytes.extend_from_slice(&(len as u64).to_be_bytes())?;
+        Ok(bytes)
+    }
+
+    /// The record that began so, once its body stands there.
+    pub fn end(bytes: Vec<u8>) -> Result<Frame, NoMemory>
+        requires { (body : List ℕ) × (length body ≤ 2 ^ 30) × (bytes.items ≡ record_of Version.Two body) }
+        ensures { IfOk result (λ frame. (body : List ℕ) → bytes.items ≡ record_of Version.Two body → frame ≡ body) }
+    {
+        let mut bytes = bytes;
         bytes.push(0)?;
         Ok(Frame { bytes })
     }

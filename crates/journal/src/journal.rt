@@ -5,7 +5,7 @@
 //!
 //! A gate is open as the byte 1 and closed as any other. A record that is written has a gate 0 behind it before its own
 //! gate is opened; so a crash leaves the records before it, and this one or not.
-ghost use Rattle.std.specs.Prelude.{◌≡◌, ◌+◌, ◌<◌, ◌≤◌, ◌^◌, [], ◌++◌, ◌∷◌, IfOk, IfErr, IsNone, unwrap_or, is_some};
+ghost use Rattle.std.specs.Prelude.{◌≡◌, ◌+◌, ◌<◌, ◌^◌, [], IfOk, IfErr, IsNone, unwrap_or, is_some};
 ghost use Rattle.as4_flow.specs.Flow.{Told};
 ghost use Rattle.as4_disk.specs.Runs.{FirstThen, Quiet};
 
@@ -35,7 +35,8 @@ pub struct Journal<D> {
 impl<D: Disk> Journal<D> {
     ghost use Rattle.journal.specs.Leaf.{number_of, IsBroken, IsNew};
     ghost use Rattle.journal.specs.Store.{KeepsLeaf, picked_leaf};
-    ghost use Rattle.journal.specs.State.{HasRead, IsCalm, IsDisk, IsOpeningFault};
+    ghost use Rattle.journal.specs.Faults.{IsCause, IsOpeningFault};
+    ghost use Rattle.journal.specs.State.{HasRead};
 
     /// Opens a journal: settles the selector and the picked leaf, and makes a leaf of at most 9 bytes a new one of
     /// version 2. The records are still to be read.
@@ -64,12 +65,9 @@ impl<D: Disk> Journal<D> {
             → Quiet D.moment D.left_since D.seen D.may_leave disk e.1) }
 
         ensures faults { IfErr result (λ e. IsOpeningFault e.0) }
-        ensures cause { IfErr result (λ e. IsDisk (D.fault_count disk) (D.fault_count e.1) e.0) }
+        ensures cause { IfErr result (λ e. IsCause (D.fault_count disk) (D.fault_count e.1) e.0) }
         ensures tells { IfOk result (λ j. is_some (D.seen j.disk) ≡ is_some (D.seen disk)) }
-        ensures calm { IfErr result (λ e. IsCalm (D.fault_count disk) (D.fault_count e.1) e.0) }
         ensures fine { IfOk result (λ j. D.fault_count j.disk ≡ D.fault_count disk) }
-        ensures counted { IfOk result (λ j. D.fault_count disk ≤ D.fault_count j.disk) }
-        ensures failed_count { IfErr result (λ e. D.fault_count disk ≤ D.fault_count e.1) }
     {
         let before = disk.faults();
         match start(alloc, &mut disk) {

@@ -2,7 +2,8 @@
 ghost use Rattle.std.specs.Prelude.{◌≡◌, ◌⊎◌, ℕ, ◌≤◌, List, [], ◌∷◌, ◌++◌, not, length, OnOk, is_some};
 ghost use Rattle.as4_flow.specs.Flow.{Told};
 ghost use Rattle.as4_disk.specs.Bytes.{overwritten};
-ghost use Rattle.as4_disk.specs.Runs.{LeavesOnly, FirstThen, HasCause};
+ghost use Rattle.as4_disk.specs.Faults.{HasCause};
+ghost use Rattle.as4_disk.specs.Runs.{LeavesOnly, FirstThen};
 ghost use Rattle.journal.specs.Leaf.{front_of};
 ghost use Rattle.journal.specs.Store.{leaf_of, picked_leaf};
 ghost use Rattle.journal.specs.Settled.{IsSettled, Reads, ReadsSettled};

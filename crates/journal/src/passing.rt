@@ -1,6 +1,7 @@
 //! How a gate is passed: the record behind an open one is read, and a closed one that isn't 0 is closed to 0.
-ghost use Rattle.std.specs.Prelude.{◌≡◌, ◌++◌, ◌∷◌, ◌<◌, ◌≤◌, ◌^◌, length, IfOk, IsErrOf, is_some};
-ghost use Rattle.as4_flow.specs.Flow.{Told, Rose};
+ghost use Rattle.std.specs.Prelude.{◌≡◌, ◌++◌, ◌∷◌, ◌<◌, ◌^◌, length, IfOk, IsErrOf, is_some};
+ghost use Rattle.as4_flow.specs.Flow.{Told};
+ghost use Rattle.as4_disk.specs.Faults.{HasReadCause};
 ghost use Rattle.as4_disk.specs.Runs.{LeavesOnly, Quiet};
 ghost use Rattle.journal.specs.Leaf.{front_of, limit_of};
 ghost use Rattle.journal.specs.Reading.{IsWithin, IsAhead};
@@ -39,9 +40,7 @@ pub(crate) fn pass<D: Disk>(
         → IsSettled D.seen D.may_leave disk.old is_second (front_of version bodies ++ byte ∷ rest)
         → Told (D.seen disk.old) (λ b. LeavesOnly D.moment D.left_since disk.old disk.new (Reopens b)) }
     ensures tells { is_some (D.seen disk.new) ≡ is_some (D.seen disk.old) }
-    ensures cause { IsErrOf result ReadFault.Disk → Rose (D.fault_count disk.old) (D.fault_count disk.new) }
-    ensures calm { ¬ IsErrOf result ReadFault.Disk → D.fault_count disk.new ≡ D.fault_count disk.old }
-    ensures counted { D.fault_count disk.old ≤ D.fault_count disk.new }
+    ensures cause { HasReadCause (D.fault_count disk.old) (D.fault_count disk.new) result }
 {
     match read_next(alloc, disk, leaf_part(is_second), version, gate, ahead)? {
         Next::Record(body, ahead) => Ok(Next::Record(body, ahead)),

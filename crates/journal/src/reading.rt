@@ -1,7 +1,8 @@
 //! What stands at a gate of a leaf: a record, a closed gate, or neither.
-ghost use Rattle.std.specs.Prelude.{◌≡◌, ℕ, ◌+◌, ◌<◌, ◌≤◌, ◌^◌, List, length, take, drop, IfOk, IfSome, IfNone, OnOk, IsErrOf};
-ghost use Rattle.as4_flow.specs.Flow.{Told, Rose};
-ghost use Rattle.as4_disk.specs.Runs.{Quiet, HasCause};
+ghost use Rattle.std.specs.Prelude.{◌≡◌, ℕ, ◌+◌, ◌<◌, ◌≤◌, ◌^◌, List, length, take, drop, IfOk, IfSome, IfNone, OnOk};
+ghost use Rattle.as4_flow.specs.Flow.{Told};
+ghost use Rattle.as4_disk.specs.Faults.{HasCause, HasReadCause};
+ghost use Rattle.as4_disk.specs.Runs.{Quiet};
 ghost use Rattle.journal.specs.Leaf.{width_of, limit_of};
 ghost use Rattle.journal.specs.Reading.{IsNext, IsThere, IsWithin, IsAhead, IsLength, IsHead, HasNoBody, IsBodyAt};
 
@@ -39,9 +40,7 @@ pub(crate) fn read_next<D: Disk>(
     ensures within { IfOk result (λ next. IsWithin version gate next) }
 
     ensures quiet { Quiet D.moment D.left_since D.seen D.may_leave disk.old disk.new }
-    ensures cause { IsErrOf result ReadFault.Disk → Rose (D.fault_count disk.old) (D.fault_count disk.new) }
-    ensures calm { ¬ IsErrOf result ReadFault.Disk → D.fault_count disk.new ≡ D.fault_count disk.old }
-    ensures counted { D.fault_count disk.old ≤ D.fault_count disk.new }
+    ensures cause { HasReadCause (D.fault_count disk.old) (D.fault_count disk.new) result }
 {
     let size = disk.len(part)?;
     if size <= gate {
@@ -103,9 +102,7 @@ fn read_there<D: Disk>(
     ensures len { IfOk result (λ bytes. length bytes.items ≡ count) }
 
     ensures quiet { Quiet D.moment D.left_since D.seen D.may_leave disk.old disk.new }
-    ensures cause { IsErrOf result ReadFault.Disk → Rose (D.fault_count disk.old) (D.fault_count disk.new) }
-    ensures calm { ¬ IsErrOf result ReadFault.Disk → D.fault_count disk.new ≡ D.fault_count disk.old }
-    ensures counted { D.fault_count disk.old ≤ D.fault_count disk.new }
+    ensures cause { HasReadCause (D.fault_count disk.old) (D.fault_count disk.new) result }
 {
     let mut bytes = vec![in alloc; 0; count as usize]?;
     disk.read_at(part, at, &mut bytes)?;

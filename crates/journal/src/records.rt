@@ -1,5 +1,5 @@
 //! The records of a journal, read one after the other, and one of them by its gate.
-ghost use Rattle.std.specs.Prelude.{◌≡◌, ◌+◌, ◌<◌, ◌≤◌, ◌^◌, ◌++◌, [], ◌∷◌, IfOk, IfErr, IfSome, IfNone, OnErr, OnOk, IsErrOf, length, is_some};
+ghost use Rattle.std.specs.Prelude.{◌≡◌, ◌+◌, ◌<◌, ◌++◌, [], ◌∷◌, IfOk, IfErr, IfSome, IfNone, OnErr, IsErrOf, length, is_some};
 ghost use Rattle.as4_flow.specs.Flow.{Told};
 ghost use Rattle.as4_disk.specs.Runs.{LeavesOnly, Quiet};
 
@@ -13,7 +13,8 @@ use std::alloc::Global;
 impl<D: Disk> Journal<D> {
     ghost use Rattle.journal.specs.Leaf.{width_of, limit_of, Lists, IsBroken};
     ghost use Rattle.journal.specs.Store.{Reopens, picked_leaf};
-    ghost use Rattle.journal.specs.State.{HasRead, HasRecords, IsCalm, IsDisk, IsOpeningFault};
+    ghost use Rattle.journal.specs.Faults.{IsOpeningFault, TellsCause};
+    ghost use Rattle.journal.specs.State.{HasRead, HasRecords};
 
     /// The place of the next record's gate, and its body; `None` at the closed gate, behind which records may then be
     /// appended. A closed gate that isn't 0 is closed to 0 first. A record that couldn't be read isn't passed.
@@ -49,12 +50,8 @@ impl<D: Disk> Journal<D> {
             → (bodies : _) → HasRead D.seen D.may_leave self.old bodies → HasRead D.seen D.may_leave self.new bodies }
         ensures not_passed { OnErr result (self.new.gate ≡ self.old.gate) }
         ensures faults { IfErr result IsOpeningFault }
-        ensures cause { IfErr result
-            (λ e. IsDisk (D.fault_count self.old.disk) (D.fault_count self.new.disk) e) }
+        ensures cause { TellsCause (D.fault_count self.old.disk) (D.fault_count self.new.disk) result }
         ensures tells { is_some (D.seen self.new.disk) ≡ is_some (D.seen self.old.disk) }
-        ensures calm { IfErr result (IsCalm (D.fault_count self.old.disk) (D.fault_count self.new.disk)) }
-        ensures fine { OnOk result (D.fault_count self.new.disk ≡ D.fault_count self.old.disk) }
-        ensures counted { D.fault_count self.old.disk ≤ D.fault_count self.new.disk }
 
         ensures any_moment { (bodies : _) → HasRead D.seen D.may_leave self.old bodies
             → Told (D.seen self.old.disk) (λ b.

@@ -1,6 +1,7 @@
 //! How a leaf is picked, settled and known, before its records are read.
-ghost use Rattle.std.specs.Prelude.{◌≡◌, ◌≤◌, ◌++◌, [], IfOk, IfSome, IfNone, IsErrOf, List, ℕ, length, take, is_some};
-ghost use Rattle.as4_flow.specs.Flow.{Told, Rose};
+ghost use Rattle.std.specs.Prelude.{◌≡◌, [], IfOk, IfSome, IfNone, List, ℕ, is_some};
+ghost use Rattle.as4_flow.specs.Flow.{Told};
+ghost use Rattle.as4_disk.specs.Faults.{HasReadCause};
 ghost use Rattle.as4_disk.specs.Runs.{FirstThen, LeavesOnly, Quiet};
 ghost use Rattle.journal.specs.Leaf.{magic_of, IsBroken, IsNew};
 ghost use Rattle.journal.specs.Store.{KeepsLeaf, picked_leaf, picks, is_second_of};
@@ -33,9 +34,7 @@ pub(crate) fn start<D: Disk>(
     ensures any_moment { Told (D.seen disk.old) (λ b.
         FirstThen D.moment D.left_since disk.old disk.new (D.may_leave disk.old) (KeepsLeaf b)) }
     ensures tells { is_some (D.seen disk.new) ≡ is_some (D.seen disk.old) }
-    ensures cause { IsErrOf result ReadFault.Disk → Rose (D.fault_count disk.old) (D.fault_count disk.new) }
-    ensures calm { ¬ IsErrOf result ReadFault.Disk → D.fault_count disk.new ≡ D.fault_count disk.old }
-    ensures counted { D.fault_count disk.old ≤ D.fault_count disk.new }
+    ensures cause { HasReadCause (D.fault_count disk.old) (D.fault_count disk.new) result }
 {
     let is_second = settle(alloc, disk)?;
     match known(alloc, disk, is_second) {
@@ -51,9 +50,7 @@ fn settle<D: Disk>(alloc: Global, disk: &mut D) -> Result<bool, ReadFault>
         IsSettled D.seen D.may_leave disk.new is_second (picked_leaf b))) }
 
     ensures quiet { Quiet D.moment D.left_since D.seen D.may_leave disk.old disk.new }
-    ensures cause { IsErrOf result ReadFault.Disk → Rose (D.fault_count disk.old) (D.fault_count disk.new) }
-    ensures calm { ¬ IsErrOf result ReadFault.Disk → D.fault_count disk.new ≡ D.fault_count disk.old }
-    ensures counted { D.fault_count disk.old ≤ D.fault_count disk.new }
+    ensures cause { HasReadCause (D.fault_count disk.old) (D.fault_count disk.new) result }
 {
     disk.sync(Part::Selector)?;
     let is_second = read_selector(alloc, disk)?;
@@ -66,9 +63,7 @@ fn read_selector<D: Disk>(alloc: Global, disk: &mut D) -> Result<bool, ReadFault
     ensures picked { IfOk result (λ is_second. Told (D.seen disk.old) (λ b. is_second_of b ≡ is_second)) }
 
     ensures quiet { Quiet D.moment D.left_since D.seen D.may_leave disk.old disk.new }
-    ensures cause { IsErrOf result ReadFault.Disk → Rose (D.fault_count disk.old) (D.fault_count disk.new) }
-    ensures calm { ¬ IsErrOf result ReadFault.Disk → D.fault_count disk.new ≡ D.fault_count disk.old }
-    ensures counted { D.fault_count disk.old ≤ D.fault_count disk.new }
+    ensures cause { HasReadCause (D.fault_count disk.old) (D.fault_count disk.new) result }
 {
     let Some(bytes) = read_some(alloc, disk, Part::Selector, 0, 1)? else {
         return Ok(false);
@@ -108,9 +103,7 @@ fn known<D: Disk>(
         IsSettled D.seen D.may_leave disk.old is_second leaf
         → LeavesOnly D.moment D.left_since disk.old disk.new (KeepsLeaf b)) }
     ensures tells { is_some (D.seen disk.new) ≡ is_some (D.seen disk.old) }
-    ensures cause { IsErrOf result ReadFault.Disk → Rose (D.fault_count disk.old) (D.fault_count disk.new) }
-    ensures calm { ¬ IsErrOf result ReadFault.Disk → D.fault_count disk.new ≡ D.fault_count disk.old }
-    ensures counted { D.fault_count disk.old ≤ D.fault_count disk.new }
+    ensures cause { HasReadCause (D.fault_count disk.old) (D.fault_count disk.new) result }
 {
     let Some(bytes) = read_some(alloc, disk, leaf_part(is_second), 0, 10)? else {
         write_picked(disk, is_second, 0, &NEW_LEAF)?;

@@ -2,7 +2,8 @@
 ghost use Rattle.std.specs.Prelude.{◌≡◌, ℕ, ◌+◌, ◌<◌, ◌≤◌, ◌^◌, List, [], ◌∷◌, ◌++◌, length, drop, OnOk, is_ok, is_some};
 ghost use Rattle.as4_flow.specs.Flow.{Told};
 ghost use Rattle.as4_disk.specs.Bytes.{Torn};
-ghost use Rattle.as4_disk.specs.Runs.{LeavesOnly, HasCause, MakesAll};
+ghost use Rattle.as4_disk.specs.Faults.{HasCause};
+ghost use Rattle.as4_disk.specs.Runs.{LeavesOnly, MakesAll};
 ghost use Rattle.as4_disk.specs.declared.change.Change.TheVariants.{Synced, Wrote};
 ghost use Rattle.journal.specs.Calls.{record_calls};
 ghost use Rattle.journal.specs.Store.{leaf_of, picked_leaf, InVersion, OpensToOneOf};

@@ -1,4 +1,6 @@
 //! A disk that stops at each device call in turn, and what each pick then opens to.
+ghost use Rattle.std.specs.Prelude.{◌≤◌, length};
+
 use crate::ready::{fold_to_one, open_all};
 use crate::steps::{PICKS, Three, disk_of, opens_to};
 use as4_disk::{MemoryDisk, Pick};
@@ -77,16 +79,22 @@ static ROWS: [Row; 4] = [
     },
 ];
 
+/// A record with this body, which is written where it is to stand.
+fn frame_in_place(alloc: Global, body: &[u8]) -> Option<Frame>
+    requires { length body.now ≤ 100 }
+{
+    let mut bytes = Frame::begin(alloc, body.len()).ok()?;
+    bytes.extend_from_slice(body).ok()?;
+    Frame::end(bytes).ok()
+}
+
 /// Does the work on a disk that stops at that call, and gives it back as a crash leaves it by the pick.
 fn crashed(alloc: Global, row: &Row, stop: u64, pick: Pick) -> Option<MemoryDisk> {
     let mut disk = disk_of(alloc, row.store)?;
     disk.stop_at(stop);
-    let frame = match Frame::of(alloc, b"add") {
-        Ok(frame) => frame,
-        Err(_) => {
-            drop(disk);
-            return None;
-        }
+    let Some(frame) = frame_in_place(alloc, b"add") else {
+        drop(disk);
+        return None;
     };
     let disk = match row.work {
         Work::Append => appended(alloc, disk, &frame),

@@ -1,5 +1,6 @@
 -- How the record of a step comes to the disk.
-use Rattle.std.specs.Prelude.{◌≡◌, ◌≢◌, ◌⊎◌, ℕ, Bool, true, List, [], Option, drop}
+use Rattle.std.specs.Prelude.{◌≡◌, ◌≢◌, ◌⊎◌, ℕ, Bool, true, List, [], Option, Result, Ok, Err, drop}
+use Rattle.as4_disk.specs.Faults.{Rises}
 use Rattle.as4_disk.specs.Image.{Image}
 use Rattle.as4_disk.specs.Runs.{LeavesOnly, MakesAll}
 use Rattle.as4_disk.specs.declared.change.Change.{Change}
@@ -20,6 +21,7 @@ use Rattle.journal.specs.declared.journal.Journal.{Journal}
 use Rattle.msh_core.specs.Machine.{IsReady, Machine}
 use Rattle.msh_core.specs.Small.{IsSmallReady, StandsFor}
 use Rattle.office.specs.State.{OfficeState, machine_of}
+use Rattle.office.specs.declared.call.Halt.{Halt}
 use Rattle.office.specs.declared.work.Work.{Work}
 use Rattle.office.specs.declared.work.Work.TheVariants.{Large, Small}
 
@@ -64,3 +66,8 @@ module _ {D : Type 0} (seen : D → Option Image) (may_leave : D → Image → T
     pub any_moment : Told (seen old.disk) (λ _. LeavesOnly moment left_since old.disk new.disk
         (λ (c : Image). IsAtOneOf c end (applied outcome.effects end)))
     pub recorded : IsRecorded seen may_leave makes old.disk new.disk end outcome ok
+
+-- The disk's count of faults stays where the record was put, and else it rises, and the halt tells it before and after.
+abbrev pub TellsHalt : {T : Type 0} → ℕ → ℕ → Result T Halt → Type 0
+TellsHalt before now (Ok value) = now ≡ before
+TellsHalt before now (Err halt) = (halt.before ≡ before) × (halt.after ≡ now) × Rises halt.before halt.after

@@ -1,12 +1,12 @@
 //! How an office is opened.
-ghost use Rattle.std.specs.Prelude.{◌≡◌, ◌⊎◌, ℕ, ◌≤◌, ◌^◌, [], IfErr, IfOk, is_some};
+ghost use Rattle.std.specs.Prelude.{◌≡◌, ℕ, ◌^◌, [], IfErr, IfOk, is_some};
 ghost use Rattle.as4_disk.specs.Runs.{FirstThen, Quiet};
 ghost use Rattle.as4_flow.specs.Flow.{Told};
 ghost use Rattle.end_records.specs.Opens.{IsOld, KeepsEnd, ReadsAs, ReopensAs};
 ghost use Rattle.end_records.specs.Unfit.{IsNoJournal};
 ghost use Rattle.exchange_model.specs.End.{End};
 ghost use Rattle.exchange_model.specs.Fold.{IsFoldedSize, resized};
-ghost use Rattle.journal.specs.State.{IsCalm, IsDisk, IsOpeningFault};
+ghost use Rattle.journal.specs.Faults.{IsCause, IsOpeningFault};
 ghost use Rattle.journal.specs.Store.{picked_leaf};
 
 use crate::call::Call;
@@ -53,12 +53,9 @@ impl<'a, D: Disk> Office<'a, D> {
             (end : End) → ReadsAs b end → ⊥)) }
         ensures faults { IfErr result (λ e. IsOpeningFault e.0) }
         // `Disk` comes exactly where a call on the disk failed.
-        ensures cause { IfErr result (λ e. IsDisk (D.fault_count disk) (D.fault_count e.1) e.0) }
-        ensures calm { IfErr result (λ e. IsCalm (D.fault_count disk) (D.fault_count e.1) e.0) }
+        ensures cause { IfErr result (λ e. IsCause (D.fault_count disk) (D.fault_count e.1) e.0) }
         ensures fine { IfOk result (λ o. D.fault_count o.0.disk ≡ D.fault_count disk) }
         ensures tells { IfOk result (λ o. is_some (D.seen o.0.disk) ≡ is_some (D.seen disk)) }
-        ensures counted { IfOk result (λ o. D.fault_count disk ≤ D.fault_count o.0.disk) }
-        ensures failed_count { IfErr result (λ e. D.fault_count disk ≤ D.fault_count e.1) }
     {
         let (keeper, pass) = match Keeper::new(alloc) {
             Ok(opened) => opened,

@@ -1,7 +1,6 @@
 //! What is to be done with an event: its record is put on the disk, and then the end changes.
-ghost use Rattle.std.specs.Prelude.{◌≡◌, ◌+◌, ◌≤◌, ◌^◌, IfErr, OnOk, List, None, is_ok, is_some, length, true};
+ghost use Rattle.std.specs.Prelude.{◌≡◌, ◌+◌, ◌≤◌, ◌^◌, List, None, is_ok, is_some, length, true};
 ghost use Rattle.as4_effects.specs.declared.effect.Effect.{Effect};
-ghost use Rattle.as4_flow.specs.Flow.{Rose};
 ghost use Rattle.end_journal.specs.Frames.{IsFrameOf};
 ghost use Rattle.end_records.specs.Opens.{IsJournalOf};
 ghost use Rattle.end_records.specs.Records.{RecordLeads};
@@ -11,7 +10,7 @@ ghost use Rattle.exchange_model.specs.Table.{has_room};
 ghost use Rattle.exchange_model.specs.declared.outcome.Outcome.{Outcome};
 ghost use Rattle.msh_core.specs.Machine.{Machine};
 ghost use Rattle.msh_core.specs.Small.{CanGo, StandsFor};
-ghost use Rattle.office.specs.Recording.{IsWorkFor, PutsBehind, RecordsStep};
+ghost use Rattle.office.specs.Recording.{IsWorkFor, PutsBehind, RecordsStep, TellsHalt};
 
 use crate::call::Halt;
 use as4_disk::Disk;
@@ -45,11 +44,8 @@ impl Work {
             → IsJournalOf D.seen D.may_leave machine.end journal.old
             → RecordsStep D.seen D.may_leave D.moment D.left_since D.makes journal.old journal.new machine.end outcome
             (is_ok result) }
-        ensures cause { IfErr result (λ halt. (halt.before ≡ D.fault_count journal.old.disk)
-            × (halt.after ≡ D.fault_count journal.new.disk) × Rose halt.before halt.after) }
+        ensures cause { TellsHalt (D.fault_count journal.old.disk) (D.fault_count journal.new.disk) result }
         ensures tells { is_some (D.seen journal.new.disk) ≡ is_some (D.seen journal.old.disk) }
-        ensures fine { OnOk result (D.fault_count journal.new.disk ≡ D.fault_count journal.old.disk) }
-        ensures counted { D.fault_count journal.old.disk ≤ D.fault_count journal.new.disk }
     {
         match self {
             Work::Large(_, frame) => write_large(journal, frame),
@@ -81,11 +77,8 @@ fn write_large<D: Disk>(journal: &mut Journal<D>, frame: &Option<Frame>) -> Resu
     ensures records { (end : End) (outcome : Outcome) → IsJournalOf D.seen D.may_leave end journal.old
         → IsFrameOf outcome.effects frame.now → first_unfit outcome.effects end ≡ None
         → RecordsStep D.seen D.may_leave D.moment D.left_since D.makes journal.old journal.new end outcome (is_ok result) }
-    ensures cause { IfErr result (λ halt. (halt.before ≡ D.fault_count journal.old.disk)
-        × (halt.after ≡ D.fault_count journal.new.disk) × Rose halt.before halt.after) }
+    ensures cause { TellsHalt (D.fault_count journal.old.disk) (D.fault_count journal.new.disk) result }
     ensures tells { is_some (D.seen journal.new.disk) ≡ is_some (D.seen journal.old.disk) }
-    ensures fine { OnOk result (D.fault_count journal.new.disk ≡ D.fault_count journal.old.disk) }
-    ensures counted { D.fault_count journal.old.disk ≤ D.fault_count journal.new.disk }
 {
     match frame {
         None => Ok(()),
@@ -105,11 +98,8 @@ fn write_small<D: Disk>(
     ensures records { (end : End) (outcome : Outcome) → IsJournalOf D.seen D.may_leave end journal.old
         → CanGo end plan.now → StandsFor end plan.now outcome
         → RecordsStep D.seen D.may_leave D.moment D.left_since D.makes journal.old journal.new end outcome (is_ok result) }
-    ensures cause { IfErr result (λ halt. (halt.before ≡ D.fault_count journal.old.disk)
-        × (halt.after ≡ D.fault_count journal.new.disk) × Rose halt.before halt.after) }
+    ensures cause { TellsHalt (D.fault_count journal.old.disk) (D.fault_count journal.new.disk) result }
     ensures tells { is_some (D.seen journal.new.disk) ≡ is_some (D.seen journal.old.disk) }
-    ensures fine { OnOk result (D.fault_count journal.new.disk ≡ D.fault_count journal.old.disk) }
-    ensures counted { D.fault_count journal.old.disk ≤ D.fault_count journal.new.disk }
 {
     match plan {
         SmallPlan::Rest(_) => Ok(()),
@@ -130,11 +120,8 @@ fn write_frame<D: Disk>(journal: &mut Journal<D>, frame: &Frame) -> Result<(), H
         × (end.size + (length frame.now + 9) ≤ 2 ^ 32) }
     ensures puts { (end next : End) → IsJournalOf D.seen D.may_leave end journal.old → RecordLeads frame.now end next
         → PutsBehind D.seen D.may_leave D.moment D.left_since D.makes journal.old journal.new end next (is_ok result) }
-    ensures cause { IfErr result (λ halt. (halt.before ≡ D.fault_count journal.old.disk)
-        × (halt.after ≡ D.fault_count journal.new.disk) × Rose halt.before halt.after) }
+    ensures cause { TellsHalt (D.fault_count journal.old.disk) (D.fault_count journal.new.disk) result }
     ensures tells { is_some (D.seen journal.new.disk) ≡ is_some (D.seen journal.old.disk) }
-    ensures fine { OnOk result (D.fault_count journal.new.disk ≡ D.fault_count journal.old.disk) }
-    ensures counted { D.fault_count journal.old.disk ≤ D.fault_count journal.new.disk }
 {
     a_record_is_put::<D>();
     match add_record(journal, frame) {

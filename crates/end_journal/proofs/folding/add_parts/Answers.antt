@@ -69,7 +69,7 @@ parts-preserved g c =
       few = part_few c.args.core.now.end all c.parts.part more.1 c.requires.short so_far.added.1 found;
       run = fold_run_on g.D.Disk.moment g.D.Disk.left_since g.D.Disk.seen g.D.Disk.may_leave first old new (take c.parts.part all) so_far.added.2 so_far.run c.add_part.ensures.any_moment;
       tells = c.add_part.ensures.tells ∙ so_far.tells;
-      counted = c.in_ok-add_part.ensures.fine ∙ so_far.counted;
+      counted = c.in_ok-add_part.ensures.cause ∙ so_far.counted;
     }
 
 pub returns-clause-added : goal.returns-clause-added

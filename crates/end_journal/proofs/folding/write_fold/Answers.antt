@@ -1,6 +1,6 @@
 use Rattle.std.proofs.Common.{◌≡◌, ℕ, ◌+◌, inl, is_some, map, refl, sym, ap, subst, ◌∙◌}
 use Rattle.exchange_model.specs.Fold.{folded_size}
-use Rattle.journal.specs.State.{IsCalm, IsDisk}
+use Rattle.journal.specs.Faults.{IsCause}
 use Rattle.journal.specs.declared.journal.Journal.{Journal}
 use Rattle.end_records.specs.Records.{alone}
 use Rattle.end_journal.proofs.FoldingLemmas.{dropped_run, finished_run, folded_journal}
@@ -63,19 +63,9 @@ returns-in-Err-clause-cause g c =
     let added = c.add_parts.new.journal in
     let dropped = c.fold_drop.new.self in
     let same : dropped.disk ≡ added.disk = ap (λ (j : Journal g.row.D.Denot). j.disk) {x = dropped} {y = record added { fold = dropped.fold; fold_in_range = dropped.fold_in_range }} c.fold_drop.ensures.same in
-    let P : ℕ → Type 0 = λ n. IsDisk n (count added.disk) c.in-Err.fault in
-    let Q : g.row.D.Denot → Type 0 = λ d. IsDisk (count c.args.journal.now.disk) (count d) c.in-Err.fault in
-    subst Q (sym same) (subst P c.in_ok-fold_start.ensures.fine c.in-Err.ensures.cause)
-
-pub returns-in-Err-clause-calm : goal.returns-in-Err-clause-calm
-returns-in-Err-clause-calm g c =
-    let count = g.D.Disk.fault_count in
-    let added = c.add_parts.new.journal in
-    let dropped = c.fold_drop.new.self in
-    let same : dropped.disk ≡ added.disk = ap (λ (j : Journal g.row.D.Denot). j.disk) {x = dropped} {y = record added { fold = dropped.fold; fold_in_range = dropped.fold_in_range }} c.fold_drop.ensures.same in
-    let P : ℕ → Type 0 = λ n. IsCalm n (count added.disk) c.in-Err.fault in
-    let Q : g.row.D.Denot → Type 0 = λ d. IsCalm (count c.args.journal.now.disk) (count d) c.in-Err.fault in
-    subst Q (sym same) (subst P c.in_ok-fold_start.ensures.fine c.in-Err.ensures.calm)
+    let P : ℕ → Type 0 = λ n. IsCause n (count added.disk) c.in-Err.fault in
+    let Q : g.row.D.Denot → Type 0 = λ d. IsCause (count c.args.journal.now.disk) (count d) c.in-Err.fault in
+    subst Q (sym same) (subst P c.in_ok-fold_start.ensures.cause c.in-Err.ensures.cause)
 
 -- the fold was dropped, and the journal's records are as they were
 pub returns-in-Err-clause-starved : goal.returns-in-Err-clause-starved

@@ -1,7 +1,7 @@
 use Rattle.std.proofs.Common.{ℕ, sym, subst, arith}
 use Rattle.as4_disk.specs.Runs.{FirstThen, Quiet}
 use Rattle.as4_disk.proofs.RunLemmas.{quiet_then}
-use Rattle.journal.specs.State.{IsCalm, IsDisk}
+use Rattle.journal.specs.Faults.{IsCause}
 use Rattle.journal.specs.Store.{picked_leaf}
 use Rattle.end_records.specs.Opens.{ReopensAs}
 use Rattle.end_records.specs.Unfit.{IsNoJournal}
@@ -80,15 +80,6 @@ returns-in-Err-bring_up-clause-cause g c =
     let count = g.D.Disk.fault_count in
     let now = count c.bring_up.new.journal.disk in
     let fault = c.in-Err-bring_up.fault in
-    let P : ℕ → Type 0 = λ n. IsDisk n now fault in
-    let Q : g.row.D.Denot → Type 0 = λ d. IsDisk (count c.args.disk) (count d) fault in
+    let P : ℕ → Type 0 = λ n. IsCause n now fault in
+    let Q : g.row.D.Denot → Type 0 = λ d. IsCause (count c.args.disk) (count d) fault in
     subst Q (sym c.into_disk.ensures) (subst P c.in-Ok.ensures.fine c.in-Err-bring_up.ensures.cause)
-
-pub returns-in-Err-bring_up-clause-calm : goal.returns-in-Err-bring_up-clause-calm
-returns-in-Err-bring_up-clause-calm g c =
-    let count = g.D.Disk.fault_count in
-    let now = count c.bring_up.new.journal.disk in
-    let fault = c.in-Err-bring_up.fault in
-    let P : ℕ → Type 0 = λ n. IsCalm n now fault in
-    let Q : g.row.D.Denot → Type 0 = λ d. IsCalm (count c.args.disk) (count d) fault in
-    subst Q (sym c.into_disk.ensures) (subst P c.in-Ok.ensures.fine c.in-Err-bring_up.ensures.calm)

@@ -54,5 +54,5 @@ records-preserved g c =
       modes = c.replay_next.ensures.modes ∙ so_far.modes;
       run = run_on g.D.Disk.moment g.D.Disk.left_since g.D.Disk.seen g.D.Disk.may_leave c.args.journal.now c.records.journal c.replay_next.new.journal c.records.core.end bodies so_far.replayed.1 so_far.run c.replay_next.ensures.any_moment;
       quiet = quiet_then g.D.Disk.moment g.D.Disk.left_since g.D.Disk.seen g.D.Disk.may_leave c.args.journal.now.disk c.records.journal.disk c.replay_next.new.journal.disk so_far.quiet (c.in_ok-replay_next.ensures.quiet c.if-branch.true);
-      counted = c.in_ok-replay_next.ensures.fine ∙ so_far.counted;
+      counted = c.in_ok-replay_next.ensures.cause ∙ so_far.counted;
     }

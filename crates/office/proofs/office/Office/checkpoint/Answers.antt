@@ -1,10 +1,9 @@
 use Rattle.std.proofs.Common.{inl, inr, ◌<◌, ◌^◌, ◌∙◌, List, None, Some, Err, length, refl, sym, ap, subst, arith}
 use Rattle.std.proofs.lemmas.Grind.{common_steps}
 use Rattle.as4_disk.proofs.RunLemmas.{at_end}
-use Rattle.as4_flow.specs.Flow.{Rose}
 use Rattle.as4_values.specs.declared.mode.Mode.{Mode}
 use Rattle.end_records.specs.Opens.{OpensFolded}
-use Rattle.journal.specs.State.{IsCalm}
+use Rattle.journal.specs.Faults.{IsCause}
 use Rattle.msh_core.specs.Machine.{Machine}
 use Rattle.office.specs.State.{IsInOrder}
 use Rattle.office.specs.declared.call.Halt.{Halt}
@@ -106,7 +105,7 @@ returns-in-Ok g c =
           let had = (order.kept c.in_default.is).records image told in
           fold_run had.2 size.1 (order.kept c.in_default.is).version (c.fold_end.ensures.any_moment had.0 size.0 had.1 size.1);
       keeps = keeps (invariant_of-self-in-Ok g c).0 c.fold_end.ensures.modes c.enter-call.ensures.book c.enter-call.ensures.pass
-          (folded_leads o.core.modes o.keeper.list more c.folded_size-size.result o.core.end core.end going c.enter-call.ensures.list folded shorter ends) c.fold_end.ensures.tells (λ none. c.in-Ok.ensures.fine) c.fold_end.ensures.counted;
+          (folded_leads o.core.modes o.keeper.list more c.folded_size-size.result o.core.end core.end going c.enter-call.ensures.list folded shorter ends) c.fold_end.ensures.tells (λ none. c.in-Ok.ensures.cause) (omega (arith, c.in-Ok.ensures.cause));
     })
 
 -- there was no memory
@@ -129,7 +128,7 @@ returns-in-Err-NoMemory g c =
     let short : c.folded_size-size.result < 2 ^ 32 = omega (arith, less, c.size-present.ensures, (order.kept c.in_default.is).size, o.journal.in_range) in
     let folded = folded_size_is o.core.end c.folded_size-size.result size short in
     let shorter : c.folded_size-size.result < o.core.end.size = omega (arith, less, c.size-present.ensures) in
-    let calm = subst (IsCalm (g.D.Disk.fault_count o.journal.disk) (g.D.Disk.fault_count after.disk)) c.in-Err-NoMemory.field-0-is c.in-Err-NoMemory.ensures.calm in
+    let calm = subst (IsCause (g.D.Disk.fault_count o.journal.disk) (g.D.Disk.fault_count after.disk)) c.in-Err-NoMemory.field-0-is c.in-Err-NoMemory.ensures.cause in
     let now = order_stays order after c.in_default.is
     (c.in-Err-NoMemory.ensures.starved (ap (λ e. Err e) c.in-Err-NoMemory.field-0-is) o.core.end (order.kept c.in_default.is)) in
     rw (← c.self.view_is, c.in-Err-NoMemory.ensures.same) (record {
@@ -142,7 +141,7 @@ returns-in-Err-NoMemory g c =
       any_moment = λ goes image told.
           let had = (order.kept c.in_default.is).records image told in
           fold_run had.2 size.1 (order.kept c.in_default.is).version (c.fold_end.ensures.any_moment had.0 size.0 had.1 size.1);
-      keeps = keeps now refl refl refl (λ start leads. leads) c.fold_end.ensures.tells (λ none. calm) c.fold_end.ensures.counted;
+      keeps = keeps now refl refl refl (λ start leads. leads) c.fold_end.ensures.tells (λ none. calm) (omega (arith, calm));
     })
 
 -- the disk failed
@@ -152,10 +151,9 @@ invariant_of-self-in-Err-Disk g c =
     let order = c.self.invariant.0 in
     let after = c.fold_end.new.journal in
     let halt : Halt = record { before = c.in-Err-Disk.before; after = c.in-Err-Disk.after } in
-    let counts = c.in-Err-Disk.ensures.cause c.in-Err-Disk.before c.in-Err-Disk.after c.in-Err-Disk.field-0-is in
-    let rose : Rose c.in-Err-Disk.before c.in-Err-Disk.after = omega (arith, counts.0, counts.1, counts.2) in
+    let counts = subst (IsCause (g.D.Disk.fault_count o.journal.disk) (g.D.Disk.fault_count after.disk)) c.in-Err-Disk.field-0-is c.in-Err-Disk.ensures.cause in
     let size = c.folded_size-size.ensures.size in
-    let now = order_stops order after c.enter_stop.new.keeper.list None halt c.in_default.is c.enter_stop.ensures.list rose counts.1
+    let now = order_stops order after c.enter_stop.new.keeper.list None halt c.in_default.is c.enter_stop.ensures.list counts.2.1 counts.1
     (λ image told left may.
     let was = told_before (g.D.Disk.seen o.journal.disk) (g.D.Disk.seen after.disk) image c.fold_end.ensures.tells told in
     let had = (order.kept c.in_default.is).records was.0 was.1 in
@@ -172,8 +170,7 @@ returns-in-Err-Disk g c =
     let more = c.enter_stop.new.keeper.list in
     let halt : Halt = record { before = c.in-Err-Disk.before; after = c.in-Err-Disk.after } in
     let going = sym order.halted ∙ c.in_default.is in
-    let counts = c.in-Err-Disk.ensures.cause c.in-Err-Disk.before c.in-Err-Disk.after c.in-Err-Disk.field-0-is in
-    let rose : Rose c.in-Err-Disk.before c.in-Err-Disk.after = omega (arith, counts.0, counts.1, counts.2) in
+    let counts = subst (IsCause (g.D.Disk.fault_count o.journal.disk) (g.D.Disk.fault_count after.disk)) c.in-Err-Disk.field-0-is c.in-Err-Disk.ensures.cause in
     let size = c.folded_size-size.ensures.size in
     let room : length o.keeper.list < 2 ^ 63 = omega (arith, c.len.ensures.value, c.len.ensures.limit, c.if-len.false) in
     let P : Machine → Type 0 = λ m. IsInOrder g.D.Disk.seen g.D.Disk.may_leave g.D.Disk.fault_count after m.end m.modes (Some halt) more in
@@ -183,7 +180,7 @@ returns-in-Err-Disk g c =
         end = refl;
         old_count = counts.0;
         new_count = counts.1;
-        rose = rose;
+        rose = counts.2.1;
         entered = enters
             (Stop None halt) room c.enter_stop.ensures.seen c.enter_stop.ensures.list c.enter_stop.ensures.pass;
       };
@@ -191,5 +188,5 @@ returns-in-Err-Disk g c =
           let had = (order.kept c.in_default.is).records image told in
           fold_run had.2 size.1 (order.kept c.in_default.is).version (c.fold_end.ensures.any_moment had.0 size.0 had.1 size.1);
       keeps = keeps (subst P c.in-Err-Disk.ensures.same (invariant_of-self-in-Err-Disk g c).0) refl c.enter_stop.ensures.book c.enter_stop.ensures.pass
-          (stop_leads o.core.modes o.keeper.list more None halt o.core.end going c.enter_stop.ensures.list rose) c.fold_end.ensures.tells (λ none. absurd (not_both (Some halt) halt refl none)) c.fold_end.ensures.counted;
+          (stop_leads o.core.modes o.keeper.list more None halt o.core.end going c.enter_stop.ensures.list counts.2.1) c.fold_end.ensures.tells (λ none. absurd (not_both (Some halt) halt refl none)) (omega (arith, counts.0, counts.1, counts.2.0));
     })
