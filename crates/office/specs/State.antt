@@ -1,5 +1,5 @@
 -- An office as contracts see it.
-use Rattle.std.specs.Prelude.{◌≡◌, ◌≤◌, ℕ, List, Option, None, IfSome}
+use Rattle.std.specs.Prelude.{◌≡◌, ◌<◌, ◌≤◌, ◌^◌, ℕ, List, Option, None, IfSome, length}
 use Rattle.as4_disk.specs.Image.{Image}
 use Rattle.as4_flow.specs.Flow.{Rose, Told}
 use Rattle.as4_values.specs.declared.mode.Mode.{Mode}
@@ -27,6 +27,10 @@ pub record OfficeState (D : Type 0) : Type 0 where
 
 abbrev pub machine_of : {D : Type 0} → OfficeState D → Machine
 machine_of office = record { end = office.end; modes = office.modes; rooms = office.rooms }
+
+-- events are made: there is room for an entry, and no fault is among the calls
+abbrev pub IsGoing : {D : Type 0} → OfficeState D → Type 0
+IsGoing office = (length office.list < 2 ^ 63) × (stop_of office.list ≡ None)
 
 -- What an office keeps. It stands still from the fault among its calls on; without one its journal is that of its end, and
 -- with one the disk is as that call left it.

@@ -1,11 +1,11 @@
 //! How a step is made: its record is put on the disk, then the end changes, and then the call is entered.
-ghost use Rattle.std.specs.Prelude.{◌≡◌, ◌≤◌, IsErrOf};
+ghost use Rattle.std.specs.Prelude.{◌≡◌, ◌≢◌, ◌≤◌, Err, IsErrOf, true, false};
 ghost use Rattle.exchange_model.specs.Table.{Step};
 ghost use Rattle.exchange_model.specs.declared.event.Event.{Event as EventValue};
 ghost use Rattle.exchange_model.specs.declared.outcome.Outcome.{Outcome};
 ghost use Rattle.machine_rows.specs.Free.{IsFree};
 ghost use Rattle.office.specs.Recording.{HasWork};
-ghost use Rattle.office.specs.State.{IsPreparedFor};
+ghost use Rattle.office.specs.State.{IsGoing, IsPreparedFor};
 ghost use Rattle.office.specs.Steps.{Handles, IsConfirmationOf, IsTickTo};
 
 use crate::call::Call;
@@ -32,15 +32,19 @@ impl<'a, D: Disk> Office<'a, D> {
         self.handle(pass, event, Work::Large(plan, frame))
     }
 
-    /// Prepares the event's step and makes it. Where nothing is to change, and the reply has no text in it, it takes no
-    /// memory.
+    /// Prepares the event's step and makes it. Memory is asked for only where there is a step to be made, and where nothing
+    /// is to change and the reply has no text in it, none is.
     pub fn step(&mut self, pass: &mut Pass<'_, Call>, event: Event) -> Result<Reply, OfficeFault>
         requires book { pass.old.book ≡ self.old.book }
         ensures handles { Handles D.seen D.may_leave D.moment D.left_since D.fault_count D.makes self.old self.new
             pass.old pass.new event result }
         ensures free { (outcome : Outcome) → Step self.old.modes self.old.end event outcome → IsFree outcome
             → IsErrOf result OfficeFault.NoMemory → ⊥ }
+        ensures going { IsErrOf result OfficeFault.NoMemory → IsGoing self.old }
     {
+        if !self.is_going() {
+            return Err(self.refuse(pass, event));
+        }
         match self.prepare(event) {
             Ok(ready) => self.enact(pass, ready),
             Err(_) => Err(OfficeFault::NoMemory),
@@ -96,15 +100,9 @@ impl<'a, D: Disk> Office<'a, D> {
             pass.old pass.new event result }
         ensures memory { IsErrOf result OfficeFault.NoMemory → ⊥ }
     {
-        if self.keeper.len() == MAX_ENTRIES {
-            drop(event);
+        if !self.is_going() {
             drop(work);
-            self.keeper.show(pass);
-            return Err(OfficeFault::Worn);
-        }
-        if let Some(halt) = self.halt {
-            drop(work);
-            return Err(enter_refused(&mut self.keeper, pass, event, halt));
+            return Err(self.refuse(pass, event));
         }
         match work.write(&mut self.journal, &mut self.small) {
             Ok(()) => {
@@ -115,6 +113,33 @@ impl<'a, D: Disk> Office<'a, D> {
                 drop(work);
                 self.halt = Some(halt);
                 Err(enter_stop(&mut self.keeper, pass, Some(event), halt))
+            }
+        }
+    }
+
+    /// Whether events are made: there is room for an entry, and the disk hasn't failed.
+    fn is_going(&self) -> bool
+        ensures going { result ≡ true → IsGoing self.now }
+        ensures closed { result ≡ false → IsGoing self.now → ⊥ }
+    {
+        self.keeper.len() < MAX_ENTRIES && self.halt.is_none()
+    }
+
+    /// Answers an event that isn't made.
+    fn refuse(&mut self, pass: &mut Pass<'_, Call>, event: Event) -> OfficeFault
+        requires book { pass.old.book ≡ self.old.book }
+        requires closed { IsGoing self.old → ⊥ }
+        ensures handles { Handles D.seen D.may_leave D.moment D.left_since D.fault_count D.makes self.old self.new
+            pass.old pass.new event (Err result) }
+        ensures memory { result ≢ OfficeFault.NoMemory }
+    {
+        let is_full = self.keeper.len() == MAX_ENTRIES;
+        match self.halt {
+            Some(halt) if !is_full => enter_refused(&mut self.keeper, pass, event, halt),
+            _ => {
+                drop(event);
+                self.keeper.show(pass);
+                OfficeFault::Worn
             }
         }
     }

@@ -15,7 +15,11 @@ returns-in-Ok g c =
     let new = c.enact.new.self in
     let P : OfficeState g.row.D.Denot → Type 0 = λ o. Handles g.D.Disk.seen g.D.Disk.may_leave g.D.Disk.moment g.D.Disk.left_since g.D.Disk.fault_count g.D.Disk.makes o new c.args.pass.now c.enact.new.pass c.in-Ok.ready.event c.enact.result in
     let Q : Event → Type 0 = λ e. Handles g.D.Disk.seen g.D.Disk.may_leave g.D.Disk.moment g.D.Disk.left_since g.D.Disk.fault_count g.D.Disk.makes old new c.args.pass.now c.enact.new.pass e c.enact.result in
-    record { handles = subst Q c.in-Ok.ensures.ready.0 (same_handling g.D.Disk.seen g.D.Disk.may_leave g.D.Disk.moment g.D.Disk.left_since g.D.Disk.fault_count g.D.Disk.makes old new c.prepare.new.self.rooms c.args.pass.now c.enact.new.pass c.in-Ok.ready.event c.enact.result (subst P c.in-Ok.ensures.same c.enact.ensures.handles)); free = λ outcome step free. c.enact.ensures.memory }
+    record {
+      handles = subst Q c.in-Ok.ensures.ready.0 (same_handling g.D.Disk.seen g.D.Disk.may_leave g.D.Disk.moment g.D.Disk.left_since g.D.Disk.fault_count g.D.Disk.makes old new c.prepare.new.self.rooms c.args.pass.now c.enact.new.pass c.in-Ok.ready.event c.enact.result (subst P c.in-Ok.ensures.same c.enact.ensures.handles));
+      free = λ outcome step free. c.enact.ensures.memory;
+      going = λ starved. absurd (c.enact.ensures.memory starved);
+    }
 
 pub returns-in-Err : goal.returns-in-Err
 returns-in-Err g c =
@@ -35,4 +39,5 @@ returns-in-Err g c =
         keeps = kept;
       };
       free = λ outcome step free starved. (let wrong : false ≡ true = c.in-Err.ensures.free outcome step free in absurd cc);
+      going = λ starved. c.is_going.ensures.going c.if-not-is_going.false;
     }
