@@ -10,6 +10,7 @@ use Rattle.as4_values.specs.declared.message.Unit.{Unit as MessageUnit}
 use Rattle.as4_values.specs.declared.message.Unit.TheVariants as unit
 use Rattle.as4_values.specs.declared.signal.Signal.{Signal}
 use Rattle.header_reader.specs.Elements.{children_of, is_named, named}
+use Rattle.header_reader.specs.Gives.{Answers}
 use Rattle.header_reader.specs.Made.{pair_from}
 use Rattle.header_reader.specs.Signals.{signal_of}
 use Rattle.header_reader.specs.User.{user_of}
@@ -67,6 +68,27 @@ is_of sort.Soap e = is_soap e
 is_of sort.Messaging e = is_named name.Messaging e
 is_of sort.Unit e = is_unit e
 
+-- the units that are read together: one, or two signals
+abbrev pub units_among : List Element → Result (List Element) HeaderRefusal
+units_among [] = Err Invalid
+units_among (e ∷ []) = Ok (e ∷ [])
+units_among (a ∷ b ∷ []) =
+    if is_named name.SignalMessage a && is_named name.SignalMessage b then Ok (a ∷ b ∷ []) else Err Unsupported
+units_among (a ∷ b ∷ c ∷ others) = Err Unsupported
+
+abbrev pub units_below : List Element → Option Element → Result (List Element) HeaderRefusal
+units_below blocks None = Err Invalid
+units_below blocks (Some messaging) =
+    if asks_for_more blocks then Err Unsupported else units_among (filter is_unit (children_of messaging))
+
+abbrev pub units_in : Option (List Element) → Result (List Element) HeaderRefusal
+units_in None = Err Invalid
+units_in (Some blocks) = units_below blocks (only (named name.Messaging blocks))
+
+-- the elements of an envelope's units, or why none is read
+unfoldable pub units_of : Element → Result (List Element) HeaderRefusal
+units_of tree = units_in (blocks_of tree)
+
 -- one unit, as it is spelled
 unfoldable pub one_unit_of : Element → Option MessageUnit
 one_unit_of e = if is_named name.UserMessage e then option_map unit.User (user_of e) else option_map unit.Signal (signal_of e)
@@ -89,26 +111,26 @@ two_units_of (Some a) (Some b) = or_refused Unsupported (both_of a b)
 two_units_of (Some a) None = Err Invalid
 two_units_of None b = Err Invalid
 
-abbrev pub units_of : List Element → Result MessageUnit HeaderRefusal
-units_of [] = Err Invalid
-units_of (e ∷ []) = or_refused Invalid (one_unit_of e)
-units_of (a ∷ b ∷ []) =
-    if is_named name.SignalMessage a && is_named name.SignalMessage b then two_units_of (signal_of a) (signal_of b) else Err Unsupported
-units_of (a ∷ b ∷ c ∷ others) = Err Unsupported
+-- what these elements mean together
+abbrev pub read_together : List Element → Result MessageUnit HeaderRefusal
+read_together [] = Err Invalid
+read_together (e ∷ []) = or_refused Invalid (one_unit_of e)
+read_together (a ∷ b ∷ []) = two_units_of (signal_of a) (signal_of b)
+read_together (a ∷ b ∷ c ∷ others) = Err Invalid
 
-abbrev pub messaging_of : List Element → Option Element → Result MessageUnit HeaderRefusal
-messaging_of blocks None = Err Invalid
-messaging_of blocks (Some messaging) =
-    if asks_for_more blocks then Err Unsupported else units_of (filter is_unit (children_of messaging))
-
-abbrev pub header_of : Option (List Element) → Result MessageUnit HeaderRefusal
-header_of None = Err Invalid
-header_of (Some blocks) = messaging_of blocks (only (named name.Messaging blocks))
+abbrev pub meaning_of : Result (List Element) HeaderRefusal → Result MessageUnit HeaderRefusal
+meaning_of (Err refusal) = Err refusal
+meaning_of (Ok units) = read_together units
 
 -- what an envelope means, or why it means nothing
 unfoldable pub unit_of : Element → Result MessageUnit HeaderRefusal
-unit_of tree = header_of (blocks_of tree)
+unit_of tree = meaning_of (units_of tree)
 
 -- the tree is an envelope of this unit
 abbrev pub SpellsUnit : Element → MessageUnit → Type 0
 SpellsUnit tree u = unit_of tree ≡ Ok u
+
+-- the answer for these units: where none is read, that refusal, whatever memory there is; else what they mean together
+abbrev pub AnswersFor : Result MessageUnit HeaderRefusal → Result (List Element) HeaderRefusal → Type 0
+AnswersFor answer (Err refusal) = answer ≡ Err refusal
+AnswersFor answer (Ok units) = Answers answer (read_together units)
