@@ -4,16 +4,16 @@ use Rattle.as4_disk.specs.declared.reading.ReadFault.{ReadFault}
 use Rattle.as4_disk.specs.declared.reading.ReadFault.TheVariants.{Disk, NoMemory}
 use Rattle.as4_flow.specs.Flow.{Rose}
 
--- the count has risen, or stands at the last value of a u64
+-- the count hasn't fallen, and it has risen or stands at the last value of a u64
 abbrev pub Rises : ℕ → ℕ → Type 0
 Rises before now = (before ≤ now) × Rose before now
 
--- of a device call
+-- what it tells of a device call
 abbrev pub HasCause : {T E : Type 0} → ℕ → ℕ → Result T E → Type 0
 HasCause before now (Ok value) = now ≡ before
 HasCause before now (Err fault) = Rises before now
 
--- of a read, which may want memory too
+-- what it tells of a call that may want memory too
 abbrev pub HasReadCause : {T : Type 0} → ℕ → ℕ → Result T ReadFault → Type 0
 HasReadCause before now (Ok value) = now ≡ before
 HasReadCause before now (Err NoMemory) = now ≡ before

@@ -69,25 +69,25 @@ is_of sort.Messaging e = is_named name.Messaging e
 is_of sort.Unit e = is_unit e
 
 -- the units that are read together: one, or two signals
-abbrev pub units_among : List Element → Result (List Element) HeaderRefusal
-units_among [] = Err Invalid
-units_among (e ∷ []) = Ok (e ∷ [])
-units_among (a ∷ b ∷ []) =
+abbrev pub elements_among : List Element → Result (List Element) HeaderRefusal
+elements_among [] = Err Invalid
+elements_among (e ∷ []) = Ok (e ∷ [])
+elements_among (a ∷ b ∷ []) =
     if is_named name.SignalMessage a && is_named name.SignalMessage b then Ok (a ∷ b ∷ []) else Err Unsupported
-units_among (a ∷ b ∷ c ∷ others) = Err Unsupported
+elements_among (a ∷ b ∷ c ∷ others) = Err Unsupported
 
-abbrev pub units_below : List Element → Option Element → Result (List Element) HeaderRefusal
-units_below blocks None = Err Invalid
-units_below blocks (Some messaging) =
-    if asks_for_more blocks then Err Unsupported else units_among (filter is_unit (children_of messaging))
+abbrev pub elements_below : List Element → Option Element → Result (List Element) HeaderRefusal
+elements_below blocks None = Err Invalid
+elements_below blocks (Some messaging) =
+    if asks_for_more blocks then Err Unsupported else elements_among (filter is_unit (children_of messaging))
 
-abbrev pub units_in : Option (List Element) → Result (List Element) HeaderRefusal
-units_in None = Err Invalid
-units_in (Some blocks) = units_below blocks (only (named name.Messaging blocks))
+abbrev pub elements_in : Option (List Element) → Result (List Element) HeaderRefusal
+elements_in None = Err Invalid
+elements_in (Some blocks) = elements_below blocks (only (named name.Messaging blocks))
 
 -- the elements of an envelope's units, or why none is read
-unfoldable pub units_of : Element → Result (List Element) HeaderRefusal
-units_of tree = units_in (blocks_of tree)
+unfoldable pub unit_elements : Element → Result (List Element) HeaderRefusal
+unit_elements tree = elements_in (blocks_of tree)
 
 -- one unit, as it is spelled
 unfoldable pub one_unit_of : Element → Option MessageUnit
@@ -124,13 +124,14 @@ meaning_of (Ok units) = read_together units
 
 -- what an envelope means, or why it means nothing
 unfoldable pub unit_of : Element → Result MessageUnit HeaderRefusal
-unit_of tree = meaning_of (units_of tree)
+unit_of tree = meaning_of (unit_elements tree)
 
 -- the tree is an envelope of this unit
 abbrev pub SpellsUnit : Element → MessageUnit → Type 0
 SpellsUnit tree u = unit_of tree ≡ Ok u
 
--- the answer for these units: where none is read, that refusal, whatever memory there is; else what they mean together
+-- the answer for these units: where none is read, that refusal, whatever memory there is; else what they mean together,
+-- unless memory ran out
 abbrev pub AnswersFor : Result MessageUnit HeaderRefusal → Result (List Element) HeaderRefusal → Type 0
 AnswersFor answer (Err refusal) = answer ≡ Err refusal
 AnswersFor answer (Ok units) = Answers answer (read_together units)

@@ -5,7 +5,7 @@ ghost use Rattle.std.specs.List.{filter};
 ghost use Rattle.std.specs.Result.{result_ok};
 ghost use Rattle.as4_envelope.specs.declared.tree.Element.{Element as ElementValue};
 ghost use Rattle.as4_values.specs.declared.message.Unit.{Unit as MessageUnit};
-ghost use Rattle.header_reader.specs.Envelope.{is_soap, is_soap_named, is_of, is_unit, blocks_of, demands, must_be_understood, asks_for_more, both_of, units_among, units_in, units_of, read_together, unit_of, SpellsUnit, AnswersFor};
+ghost use Rattle.header_reader.specs.Envelope.{is_soap, is_soap_named, is_of, is_unit, blocks_of, demands, must_be_understood, asks_for_more, both_of, elements_among, elements_in, unit_elements, read_together, unit_of, SpellsUnit, AnswersFor};
 ghost use Rattle.header_reader.specs.Elements.{children_of};
 ghost use Rattle.header_reader.specs.Gives.{Answers, IsReadAs};
 ghost use Rattle.header_reader.specs.Made.{pair_from};
@@ -43,13 +43,13 @@ const TRUE: &[u8] = b"true";
 const ONE: &[u8] = b"1";
 
 /// Reads the message unit that an envelope means.
-/// An envelope of which no unit is read is refused as it is, whatever memory there is.
+/// What is refused before a unit's element is read is refused so whatever memory there is.
 #[tactic(auto, unfolding(crate::specs::Envelope::unit_of))]
 pub fn read_unit(alloc: Global, tree: &Element) -> Result<Unit, HeaderRefusal>
     ensures ok { IfOk result (SpellsUnit tree.now) }
     ensures only { (u : MessageUnit) → SpellsUnit tree.now u → IsReadAs result u }
     ensures verdict { Answers result (unit_of tree.now) }
-    ensures told { (refusal : _) → units_of tree.now ≡ Err refusal → result ≡ Err refusal }
+    ensures told { (refusal : _) → unit_elements tree.now ≡ Err refusal → result ≡ Err refusal }
 {
     unit_in_envelope(alloc, tree)
 }
@@ -59,9 +59,9 @@ pub fn one_unit()
     ensures { (tree : ElementValue) (a b : MessageUnit) → SpellsUnit tree a → SpellsUnit tree b → a ≡ b }
 {}
 
-#[tactic(auto, unfolding(crate::specs::Envelope::units_of))]
+#[tactic(auto, unfolding(crate::specs::Envelope::unit_elements))]
 fn unit_in_envelope(alloc: Global, tree: &Element) -> Result<Unit, HeaderRefusal>
-    ensures { AnswersFor result (units_of tree.now) }
+    ensures { AnswersFor result (unit_elements tree.now) }
 {
     match blocks_of(tree) {
         Some(blocks) => unit_in_header(alloc, blocks),
@@ -161,7 +161,7 @@ fn asks_for_more(blocks: &[Element]) -> bool
 }
 
 fn unit_in_header(alloc: Global, blocks: &[Element]) -> Result<Unit, HeaderRefusal>
-    ensures { AnswersFor result (units_in (Some blocks.now)) }
+    ensures { AnswersFor result (elements_in (Some blocks.now)) }
 {
     let Some((messaging, rest)) = next_of(blocks, Sort::Messaging) else {
         return Err(HeaderRefusal::Invalid);
@@ -176,7 +176,7 @@ fn unit_in_header(alloc: Global, blocks: &[Element]) -> Result<Unit, HeaderRefus
 }
 
 fn unit_in_messaging(alloc: Global, messaging: &Element) -> Result<Unit, HeaderRefusal>
-    ensures { AnswersFor result (units_among (filter is_unit (children_of messaging.now))) }
+    ensures { AnswersFor result (elements_among (filter is_unit (children_of messaging.now))) }
 {
     let Some((first, rest)) = next_of(messaging.children.items(), Sort::Unit) else {
         return Err(HeaderRefusal::Invalid);
@@ -202,7 +202,7 @@ fn read_one(alloc: Global, element: &Element) -> Result<Unit, HeaderRefusal>
 }
 
 fn read_two(alloc: Global, first: &Element, second: &Element) -> Result<Unit, HeaderRefusal>
-    ensures { AnswersFor result (units_among (first.now ∷ second.now ∷ [])) }
+    ensures { AnswersFor result (elements_among (first.now ∷ second.now ∷ [])) }
 {
     if !is_named(first, ElementName::SignalMessage)
         || !is_named(second, ElementName::SignalMessage)

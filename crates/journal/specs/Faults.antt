@@ -11,7 +11,7 @@ IsCause before now (NotJournal at) = now ≡ before
 IsCause before now (Full size need) = now ≡ before
 IsCause before now NoMemory = now ≡ before
 
--- of a call
+-- what it tells of a call: it stays at Ok too
 abbrev pub TellsCause : {T : Type 0} → ℕ → ℕ → Result T JournalFault → Type 0
 TellsCause before now (Ok value) = now ≡ before
 TellsCause before now (Err fault) = IsCause before now fault

@@ -4,7 +4,7 @@
 //!     length  8 bytes, big endian: how long the body is
 //!     body    that many bytes
 //!     gate    1 byte: 0, closed until the next record is on the disk
-ghost use Rattle.std.specs.Prelude.{◌≡◌, ℕ, ◌+◌, ◌≤◌, ◌^◌, List, ◌++◌, length, take, drop, IfOk};
+ghost use Rattle.std.specs.Prelude.{◌≡◌, ℕ, ◌+◌, ◌≤◌, ◌^◌, List, ◌++◌, length, take, drop, IfOk, vec_capacity};
 ghost use Rattle.journal.specs.Leaf.{frame_of, record_of};
 
 use crate::version::Version;
@@ -41,12 +41,13 @@ impl Frame {
         Frame::end(bytes)
     }
 
-    /// What stands before a body of this length, at most 1,073,741,824 bytes, with room for the whole record: so a body can
-    /// be written where it is to stand.
+    /// What stands before a body of this length, at most 1,073,741,824 bytes, with room for the whole record: so a body
+    /// can be written where it is to stand.
     pub fn begin(alloc: Global, len: usize) -> Result<Vec<u8>, NoMemory>
         requires { len ≤ 2 ^ 30 }
-        ensures { IfOk result (λ bytes. (body : List ℕ) → length body ≡ len
+        ensures front { IfOk result (λ bytes. (body : List ℕ) → length body ≡ len
             → bytes.items ++ body ≡ record_of Version.Two body) }
+        ensures room { IfOk result (λ bytes. len + 10 ≤ vec_capacity bytes) }
     {
         let mut bytes = Vec::with_capacity(alloc, len + 10)?;
         bytes.push(1)?;
@@ -54,12 +55,11 @@ impl Frame {
         Ok(bytes)
     }
 
-    /// The record that began so, once its body stands there.
-    pub fn end(bytes: Vec<u8>) -> Result<Frame, NoMemory>
+    /// The record of the body that was written behind what `begin` gave; its closed gate is put behind it.
+    pub fn end(mut bytes: Vec<u8>) -> Result<Frame, NoMemory>
         requires { (body : List ℕ) × (length body ≤ 2 ^ 30) × (bytes.items ≡ record_of Version.Two body) }
         ensures { IfOk result (λ frame. (body : List ℕ) → bytes.items ≡ record_of Version.Two body → frame ≡ body) }
     {
-        let mut bytes = bytes;
         bytes.push(0)?;
         Ok(Frame { bytes })
     }

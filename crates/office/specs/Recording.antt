@@ -1,6 +1,5 @@
 -- How the record of a step comes to the disk.
 use Rattle.std.specs.Prelude.{◌≡◌, ◌≢◌, ◌⊎◌, ℕ, Bool, true, List, [], Option, Result, Ok, Err, drop}
-use Rattle.as4_disk.specs.Faults.{Rises}
 use Rattle.as4_disk.specs.Image.{Image}
 use Rattle.as4_disk.specs.Runs.{LeavesOnly, MakesAll}
 use Rattle.as4_disk.specs.declared.change.Change.{Change}
@@ -16,7 +15,9 @@ use Rattle.exchange_model.specs.Table.{Step}
 use Rattle.exchange_model.specs.declared.event.Event.{Event}
 use Rattle.exchange_model.specs.declared.outcome.Outcome.{Outcome}
 use Rattle.journal.specs.Calls.{record_calls}
+use Rattle.journal.specs.Faults.{IsCause}
 use Rattle.journal.specs.Leaf.{frame_of}
+use Rattle.journal.specs.declared.fault.JournalFault.TheVariants.{Disk}
 use Rattle.journal.specs.declared.journal.Journal.{Journal}
 use Rattle.msh_core.specs.Machine.{IsReady, Machine}
 use Rattle.msh_core.specs.Small.{IsSmallReady, StandsFor}
@@ -67,7 +68,7 @@ module _ {D : Type 0} (seen : D → Option Image) (may_leave : D → Image → T
         (λ (c : Image). IsAtOneOf c end (applied outcome.effects end)))
     pub recorded : IsRecorded seen may_leave makes old.disk new.disk end outcome ok
 
--- The disk's count of faults stays where the record was put, and else it rises, and the halt tells it before and after.
+-- the disk's count of faults stays at Ok, and else it rises, and the halt tells it before and after
 abbrev pub TellsHalt : {T : Type 0} → ℕ → ℕ → Result T Halt → Type 0
 TellsHalt before now (Ok value) = now ≡ before
-TellsHalt before now (Err halt) = (halt.before ≡ before) × (halt.after ≡ now) × Rises halt.before halt.after
+TellsHalt before now (Err halt) = IsCause before now (Disk halt.before halt.after)

@@ -28,9 +28,9 @@ pub record OfficeState (D : Type 0) : Type 0 where
 abbrev pub machine_of : {D : Type 0} → OfficeState D → Machine
 machine_of office = record { end = office.end; modes = office.modes; rooms = office.rooms }
 
--- events are made: there is room for an entry, and no fault is among the calls
-abbrev pub IsGoing : {D : Type 0} → OfficeState D → Type 0
-IsGoing office = (length office.list < 2 ^ 63) × (stop_of office.list ≡ None)
+-- events are made: there is room for an entry, and no fault of the disk is among the calls
+abbrev pub TakesEvents : {D : Type 0} → OfficeState D → Type 0
+TakesEvents office = (length office.list < 2 ^ 63) × (stop_of office.list ≡ None)
 
 -- What an office keeps. It stands still from the fault among its calls on; without one its journal is that of its end, and
 -- with one the disk is as that call left it.

@@ -5,7 +5,7 @@ ghost use Rattle.exchange_model.specs.declared.event.Event.{Event as EventValue}
 ghost use Rattle.exchange_model.specs.declared.outcome.Outcome.{Outcome};
 ghost use Rattle.machine_rows.specs.Free.{IsFree};
 ghost use Rattle.office.specs.Recording.{HasWork};
-ghost use Rattle.office.specs.State.{IsGoing, IsPreparedFor};
+ghost use Rattle.office.specs.State.{TakesEvents, IsPreparedFor};
 ghost use Rattle.office.specs.Steps.{Handles, IsConfirmationOf, IsTickTo};
 
 use crate::call::Call;
@@ -32,17 +32,17 @@ impl<'a, D: Disk> Office<'a, D> {
         self.handle(pass, event, Work::Large(plan, frame))
     }
 
-    /// Prepares the event's step and makes it. Memory is asked for only where there is a step to be made, and where nothing
-    /// is to change and the reply has no text in it, none is.
+    /// Prepares the event's step and makes it. `NoMemory` is told only where events are made, and not where nothing is to
+    /// change and the reply has no text in it, but for `Quiet` and `Full`.
     pub fn step(&mut self, pass: &mut Pass<'_, Call>, event: Event) -> Result<Reply, OfficeFault>
         requires book { pass.old.book ≡ self.old.book }
         ensures handles { Handles D.seen D.may_leave D.moment D.left_since D.fault_count D.makes self.old self.new
             pass.old pass.new event result }
         ensures free { (outcome : Outcome) → Step self.old.modes self.old.end event outcome → IsFree outcome
             → IsErrOf result OfficeFault.NoMemory → ⊥ }
-        ensures going { IsErrOf result OfficeFault.NoMemory → IsGoing self.old }
+        ensures takes { IsErrOf result OfficeFault.NoMemory → TakesEvents self.old }
     {
-        if !self.is_going() {
+        if !self.takes_events() {
             return Err(self.refuse(pass, event));
         }
         match self.prepare(event) {
@@ -100,7 +100,7 @@ impl<'a, D: Disk> Office<'a, D> {
             pass.old pass.new event result }
         ensures memory { IsErrOf result OfficeFault.NoMemory → ⊥ }
     {
-        if !self.is_going() {
+        if !self.takes_events() {
             drop(work);
             return Err(self.refuse(pass, event));
         }
@@ -118,9 +118,9 @@ impl<'a, D: Disk> Office<'a, D> {
     }
 
     /// Whether events are made: there is room for an entry, and the disk hasn't failed.
-    fn is_going(&self) -> bool
-        ensures going { result ≡ true → IsGoing self.now }
-        ensures closed { result ≡ false → IsGoing self.now → ⊥ }
+    fn takes_events(&self) -> bool
+        ensures takes { result ≡ true → TakesEvents self.now }
+        ensures refuses { result ≡ false → TakesEvents self.now → ⊥ }
     {
         self.keeper.len() < MAX_ENTRIES && self.halt.is_none()
     }
@@ -128,7 +128,7 @@ impl<'a, D: Disk> Office<'a, D> {
     /// Answers an event that isn't made.
     fn refuse(&mut self, pass: &mut Pass<'_, Call>, event: Event) -> OfficeFault
         requires book { pass.old.book ≡ self.old.book }
-        requires closed { IsGoing self.old → ⊥ }
+        requires refuses { TakesEvents self.old → ⊥ }
         ensures handles { Handles D.seen D.may_leave D.moment D.left_since D.fault_count D.makes self.old self.new
             pass.old pass.new event (Err result) }
         ensures memory { result ≢ OfficeFault.NoMemory }

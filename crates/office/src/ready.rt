@@ -61,7 +61,7 @@ impl Ready {
 
 impl<'a, D: Disk> Office<'a, D> {
     /// What the end does with an event, and its record, with all the memory that they take. Nothing changes but room.
-    /// Where nothing is to change, and the reply has no text in it, no memory is taken.
+    /// Where nothing is to change and the reply has no text in it, but for `Quiet` and `Full`, no memory is taken.
     pub fn prepare(&mut self, event: Event) -> Result<Ready, NoMemory>
         ensures ready { IfOk result (λ ready. (ready.event ≡ event) × IsPreparedFor self.new ready) }
         ensures same { self.new ≡ record self.old { rooms = self.new.rooms } }

@@ -25,7 +25,7 @@ use Rattle.header_reader.proofs.MadeLemmas.{signal_made, pair_made}
 use Rattle.unit_laws.proofs.UserAgain.{maybe_again}
 use Rattle.unit_laws.specs.Again.{TextAgain, IdAgain, BodyAgain, UnitAgain}
 use Rattle.header_reader.specs.Elements.{children_of, is_named, may_stand, is_plain, holds_only, optional_value, optional_attribute, attribute, child, optional_child}
-use Rattle.header_reader.specs.Envelope.{first_of, is_soap, is_soap_named, is_unit, blocks_in, blocks_of, asks_for_more, units_among, units_of, meaning_of, one_unit_of, both_of, unit_of, SpellsUnit}
+use Rattle.header_reader.specs.Envelope.{first_of, is_soap, is_soap_named, is_unit, blocks_in, blocks_of, asks_for_more, elements_among, unit_elements, meaning_of, one_unit_of, both_of, unit_of, SpellsUnit}
 use Rattle.header_reader.specs.Names.{element_name, attribute_name}
 use Rattle.header_reader.specs.Signals.{pull_of, receipt_of, severity_of, error_of, body_of, signal_of}
 use Rattle.header_reader.specs.User.{info_of, maybe_text, user_of}
@@ -305,10 +305,10 @@ blocks_there units =
     simp soap_named_node (ap (λ es. blocks_in (filter is_soap es)) (within_node soap (codes "Envelope") [] [] (header_node units ∷ body_node ∷ []))
     ∙ ap blocks_in (soap_parts units) ∙ inside ∙ ap Some (within_node soap (codes "Header") [] [] (messaging_node units ∷ [])))
 
-units_there : (units : List Element) → unit_of (envelope_tree units) ≡ meaning_of (units_among (filter is_unit units))
-unfolding unit_of units_of asks_for_more element_name
+units_there : (units : List Element) → unit_of (envelope_tree units) ≡ meaning_of (elements_among (filter is_unit units))
+unfolding unit_of unit_elements asks_for_more element_name
 units_there units =
-    simp (blocks_there units, named_node) (ap (λ es. meaning_of (units_among (filter is_unit es)))
+    simp (blocks_there units, named_node) (ap (λ es. meaning_of (elements_among (filter is_unit es)))
     (within_node ebms (codes "Messaging") [] (attribute_node soap (codes "mustUnderstand") (codes "true") ∷ []) units))
 
 pub unit_again : (u : MessageUnit) → UnitAgain u → SpellsUnit (unit_tree u) u

@@ -9,6 +9,6 @@ made : (c : goal.In_ok-extend_from_slice) → c.extend_from_slice.new.self.items
 unfolding length_bytes
 made c = grind (arith, common_steps)
 
-pub returns : goal.returns
+pub returns-clause-front : goal.returns-clause-front
 unfolding record_of
-returns c body same = ap (λ (l : List ℕ). l ++ body) (made c) ∙ ap (λ (n : ℕ). 1 ∷ length_bytes Two n ++ body) (sym same)
+returns-clause-front c body same = ap (λ (l : List ℕ). l ++ body) (made c) ∙ ap (λ (n : ℕ). 1 ∷ length_bytes Two n ++ body) (sym same)

@@ -8,7 +8,7 @@ use Rattle.exchange_model.specs.declared.reply.Reply.{Reply}
 use Rattle.exchange_model.specs.declared.reply.Reply.TheVariants as reply
 use Rattle.office.specs.Left.{OpensBeforeOrAfter}
 use Rattle.office.specs.Recording.{HasWork}
-use Rattle.office.specs.State.{IsGoing, IsInOrder, OfficeState}
+use Rattle.office.specs.State.{TakesEvents, IsInOrder, OfficeState}
 use Rattle.office.specs.declared.call.Call.TheVariants.{Done, Stop}
 use Rattle.end_journal.proofs.RunLemmas.{told_before}
 use Rattle.office.proofs.CallLemmas.{done_leads, stop_leads}
@@ -19,7 +19,7 @@ use Rattle.office.proofs.office.Office.handle.Goals as goal
 -- what is to be done, in terms of what the office keeps inside
 pub write-requires-clause-ready : goal.write-requires-clause-ready
 write-requires-clause-ready g c =
-    let is = subst (λ (v : OfficeState g.row.D.Denot). IsGoing v) (sym c.self.view_is) (c.is_going.ensures.going c.if-not-is_going.false) in
+    let is = subst (λ (v : OfficeState g.row.D.Denot). TakesEvents v) (sym c.self.view_is) (c.takes_events.ensures.takes c.if-not-takes_events.false) in
     let o = c.self.inside in
     let ready = subst (λ (v : OfficeState g.row.D.Denot). HasWork v c.args.event c.args.work) (sym c.self.view_is) c.requires.ready in
     (o.core, ready.0, ready.2, c.self.invariant.0.kept (c.self.invariant.0.halted ∙ is.1))
@@ -32,7 +32,7 @@ commit-reply-requires g c =
 -- the step is made
 pub invariant_of-self : goal.invariant_of-self
 invariant_of-self g c =
-    let is = subst (λ (v : OfficeState g.row.D.Denot). IsGoing v) (sym c.self.view_is) (c.is_going.ensures.going c.if-not-is_going.false) in
+    let is = subst (λ (v : OfficeState g.row.D.Denot). TakesEvents v) (sym c.self.view_is) (c.takes_events.ensures.takes c.if-not-takes_events.false) in
     let o = c.self.inside in
     let order = c.self.invariant.0 in
     let ready = subst (λ (v : OfficeState g.row.D.Denot). HasWork v c.args.event c.args.work) (sym c.self.view_is) c.requires.ready in
@@ -46,7 +46,7 @@ invariant_of-self g c =
 
 pub returns-in-Ok-clause-handles : goal.returns-in-Ok-clause-handles
 returns-in-Ok-clause-handles g c =
-    let is = subst (λ (v : OfficeState g.row.D.Denot). IsGoing v) (sym c.self.view_is) (c.is_going.ensures.going c.if-not-is_going.false) in
+    let is = subst (λ (v : OfficeState g.row.D.Denot). TakesEvents v) (sym c.self.view_is) (c.takes_events.ensures.takes c.if-not-takes_events.false) in
     let o = c.self.inside in
     let order = c.self.invariant.0 in
     let ready = subst (λ (v : OfficeState g.row.D.Denot). HasWork v c.args.event c.args.work) (sym c.self.view_is) c.requires.ready in
@@ -76,7 +76,7 @@ returns-in-Ok-clause-handles g c =
 -- the disk failed
 pub invariant_of-self-in-Err : goal.invariant_of-self-in-Err
 invariant_of-self-in-Err g c =
-    let is = subst (λ (v : OfficeState g.row.D.Denot). IsGoing v) (sym c.self.view_is) (c.is_going.ensures.going c.if-not-is_going.false) in
+    let is = subst (λ (v : OfficeState g.row.D.Denot). TakesEvents v) (sym c.self.view_is) (c.takes_events.ensures.takes c.if-not-takes_events.false) in
     let o = c.self.inside in
     let order = c.self.invariant.0 in
     let ready = subst (λ (v : OfficeState g.row.D.Denot). HasWork v c.args.event c.args.work) (sym c.self.view_is) c.requires.ready in
@@ -93,7 +93,7 @@ invariant_of-self-in-Err g c =
 
 pub returns-in-Err-clause-handles : goal.returns-in-Err-clause-handles
 returns-in-Err-clause-handles g c =
-    let is = subst (λ (v : OfficeState g.row.D.Denot). IsGoing v) (sym c.self.view_is) (c.is_going.ensures.going c.if-not-is_going.false) in
+    let is = subst (λ (v : OfficeState g.row.D.Denot). TakesEvents v) (sym c.self.view_is) (c.takes_events.ensures.takes c.if-not-takes_events.false) in
     let o = c.self.inside in
     let order = c.self.invariant.0 in
     let ready = subst (λ (v : OfficeState g.row.D.Denot). HasWork v c.args.event c.args.work) (sym c.self.view_is) c.requires.ready in

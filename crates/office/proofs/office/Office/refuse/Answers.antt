@@ -1,7 +1,7 @@
 use Rattle.std.proofs.Common.{◌≡◌, ◌∙◌, ◌<◌, ◌^◌, inl, inr, length, refl, sym, subst, arith}
 use Rattle.std.proofs.Math.Nat.{eq-or-lt_of_le}
 use Rattle.exchange_model.specs.declared.reply.Reply.TheVariants as reply
-use Rattle.office.specs.State.{IsGoing, OfficeState}
+use Rattle.office.specs.State.{TakesEvents, OfficeState}
 use Rattle.office.specs.declared.call.Call.TheVariants.{Done}
 use Rattle.office.proofs.CallLemmas.{refused_leads}
 use Rattle.office.proofs.HandlingLemmas.{enters, finds_worn, keeps, not_both}
@@ -43,7 +43,7 @@ returns-in_default-clause-handles g c =
       | in_default-via-in-Some+else-not-is_full w ↦ omega (arith, c.len-is_full.ensures.value, w.if-not-is_full.false)
       | in_default-via-in_default w ↦ elim (eq-or-lt_of_le (omega (arith, c.len-is_full.ensures.value, c.len-is_full.ensures.limit))) [
         | inl same ↦ same
-        | inr less ↦ absurd (c.requires.closed (subst (λ (v : OfficeState g.row.D.Denot). IsGoing v) c.self.view_is (less, sym order.halted ∙ w.in_default.is)))
+        | inr less ↦ absurd (c.requires.refuses (subst (λ (v : OfficeState g.row.D.Denot). TakesEvents v) c.self.view_is (less, sym order.halted ∙ w.in_default.is)))
       ]
     ] in
     rw (← c.self.view_is, c.show.ensures.same) (record {

@@ -18,7 +18,7 @@ returns-in-Ok g c =
     record {
       handles = subst Q c.in-Ok.ensures.ready.0 (same_handling g.D.Disk.seen g.D.Disk.may_leave g.D.Disk.moment g.D.Disk.left_since g.D.Disk.fault_count g.D.Disk.makes old new c.prepare.new.self.rooms c.args.pass.now c.enact.new.pass c.in-Ok.ready.event c.enact.result (subst P c.in-Ok.ensures.same c.enact.ensures.handles));
       free = λ outcome step free. c.enact.ensures.memory;
-      going = λ starved. absurd (c.enact.ensures.memory starved);
+      takes = λ starved. absurd (c.enact.ensures.memory starved);
     }
 
 pub returns-in-Err : goal.returns-in-Err
@@ -39,5 +39,5 @@ returns-in-Err g c =
         keeps = kept;
       };
       free = λ outcome step free starved. (let wrong : false ≡ true = c.in-Err.ensures.free outcome step free in absurd cc);
-      going = λ starved. c.is_going.ensures.going c.if-not-is_going.false;
+      takes = λ starved. c.takes_events.ensures.takes c.if-not-takes_events.false;
     }
