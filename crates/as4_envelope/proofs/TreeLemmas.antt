@@ -1,4 +1,4 @@
--- The text of an element by those of its children.
+-- The text of an element, from those of its children.
 use Rattle.std.proofs.Common.{◌≡◌, ℕ, List, [], ◌++◌, ap, sym, ◌∙◌}
 use Rattle.std.specs.List.{flat_map}
 use Rattle.std.proofs.lemmas.List.Folds.{flat_map-map}
@@ -15,7 +15,7 @@ element_text_out e declared =
     ∙ ap (λ children. start_text e declared ++ (escaped (out-Element e).text ++ children) ++ end_text e)
     (flat_map-map (λ child. child []) element_text (out-Element e).children)
 
--- an element is what its parts are
+-- an element is determined by its parts
 pub same_parts : (a b : Element) → (out-Element a).space ≡ (out-Element b).space → (out-Element a).local ≡ (out-Element b).local
     → (out-Element a).attributes ≡ (out-Element b).attributes → (out-Element a).text ≡ (out-Element b).text
     → (out-Element a).children ≡ (out-Element b).children → a ≡ b

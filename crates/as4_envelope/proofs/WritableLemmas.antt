@@ -1,4 +1,4 @@
--- Whether an element fits, by whether its children do.
+-- An element fits if it is sound and its children fit.
 use Rattle.std.proofs.Common.{◌≡◌, ℕ, ◌-◌, Bool, ◌&&◌, nat_le, ap, ◌∙◌}
 use Rattle.std.specs.List.{list_all}
 use Rattle.std.proofs.lemmas.List.Folds.{list_all-map}

@@ -1,4 +1,4 @@
--- The attributes that are kept in one of two ways.
+-- The attributes in either of their two representations.
 use Rattle.std.specs.Prelude.{List, [], ◌∷◌}
 use Rattle.as4_envelope.specs.declared.tree.Attribute.{Attribute}
 use Rattle.as4_envelope.specs.declared.attributes.Held.{Held}

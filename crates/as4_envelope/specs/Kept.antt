@@ -1,4 +1,4 @@
--- The bytes that are kept in one of three ways.
+-- The bytes in any of their three representations.
 use Rattle.std.specs.Prelude.{ℕ, List}
 use Rattle.as4_envelope.specs.declared.bytes.Kept.{Kept}
 use Rattle.as4_envelope.specs.declared.bytes.Kept.TheVariants.{Fixed, Short, Long}

@@ -1,9 +1,9 @@
--- Elements and attributes as they are written: no declaration, no blanks between tags, each element with
--- a start and an end tag, each value in double quotes behind one space (XML 1.0, section 3.1).
+-- Elements and attributes as they are written: no declaration, no blanks between tags, each element with a start and an
+-- end tag, each value in double quotes after one space (XML 1.0, section 3.1).
 use Rattle.std.specs.Prelude.{ℕ, ◌==◌, if◌then◌else◌, List, [], ◌∷◌, ◌++◌, Option, Some, None, codes}
 use Rattle.std.specs.List.{flat_map}
 
--- what stands for a byte of a text or a value (XML 1.0, sections 2.4, 4.1 and 4.6)
+-- the escape of a byte in a text or a value, or the byte itself (XML 1.0, sections 2.4, 4.1 and 4.6)
 abbrev pub escape_of : ℕ → List ℕ
 escape_of b =
     if b == 38 then codes "&amp;"
@@ -18,7 +18,7 @@ escape_of b =
 unfoldable pub escaped : List ℕ → List ℕ
 escaped bytes = flat_map escape_of bytes
 
--- `<name`, behind which the attributes stand
+-- `<name`, followed by the attributes
 unfoldable pub tag_start : List ℕ → List ℕ
 tag_start name = codes "<" ++ name
 
@@ -38,11 +38,11 @@ attribute name value = codes " " ++ name ++ codes "=\"" ++ escaped value ++ code
 abbrev pub element : List ℕ → List ℕ → List ℕ → List ℕ
 element name attributes content = tag_start name ++ attributes ++ tag_end ++ content ++ end_tag name
 
--- an element that holds a text and nothing else
+-- an element whose content is a text
 unfoldable pub text_element : List ℕ → List ℕ → List ℕ
 text_element name text = element name [] (escaped text)
 
--- what is left out where there is no value
+-- an attribute that is omitted if there is no value
 unfoldable pub optional_attribute : List ℕ → Option (List ℕ) → List ℕ
 optional_attribute name None = []
 optional_attribute name (Some value) = attribute name value
@@ -51,7 +51,7 @@ unfoldable pub optional_element : List ℕ → Option (List ℕ) → List ℕ
 optional_element name None = []
 optional_element name (Some text) = text_element name text
 
--- an element that holds the texts of all items, in order, and is left out where there are none
+-- an element that holds the texts of all items, in order, and is omitted if there are none
 unfoldable pub listed : {X : Type 0} → List ℕ → (X → List ℕ) → List X → List ℕ
 listed name text [] = []
 listed name text (first ∷ others) = element name [] (flat_map text (first ∷ others))

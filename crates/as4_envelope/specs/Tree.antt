@@ -15,7 +15,7 @@ soap = codes "http://www.w3.org/2003/05/soap-envelope"
 abbrev pub ebms : List ℕ
 ebms = codes "http://docs.oasis-open.org/ebxml-msg/ebms/v3.0/ns/core/200704/"
 
--- what stands before a name of this namespace, and nothing where a name is in none
+-- the prefix of a name in this namespace, with its colon; empty unless the namespace is one of the two
 unfoldable pub prefix_of : List ℕ → List ℕ
 prefix_of space =
     if bytes_eq space soap then codes "S:"
@@ -28,7 +28,7 @@ name_of space local = prefix_of space ++ local
 abbrev pub attribute_text : Attribute → List ℕ
 attribute_text a = attribute (name_of a.space a.local) a.value
 
--- both prefixes, as the outermost element declares them
+-- the declarations of both prefixes, in the outermost element
 unfoldable pub declarations : List ℕ
 declarations = attribute (codes "xmlns:S") soap ++ attribute (codes "xmlns:eb") ebms
 
@@ -41,7 +41,7 @@ element_step e declared =
 unfoldable pub element_text : Element → List ℕ → List ℕ
 element_text = fold-Element (List ℕ → List ℕ) element_step
 
--- an element inside another
+-- an element nested in another
 unfoldable pub child_text : Element → List ℕ
 child_text child = element_text child []
 

@@ -1,5 +1,5 @@
--- Which trees are written: their names are in the two namespaces, and their texts are of characters of XML. What a
--- local name may be isn't asked.
+-- Which trees can be written: their names are in the two namespaces, and their texts are characters of XML. Local names
+-- aren't checked.
 use Rattle.std.specs.Prelude.{ℕ, ◌-◌, List, [], ◌∷◌, Bool, true, not, ◌&&◌, ◌||◌, ◌==◌, nat_le, bytes_eq, length}
 use Rattle.std.specs.List.{list_all, list_any}
 use Rattle.as4_values.specs.Texts.{is_xml}
@@ -25,11 +25,11 @@ abbrev pub names_differ : List Attribute → Bool
 names_differ [] = true
 names_differ (a ∷ others) = not (list_any (same_name a) others) && names_differ others
 
--- what an element says itself
+-- the element itself can be written, whatever its children are
 abbrev pub is_sound : {X : Type 0} → Element-F X → Bool
 is_sound e = has_prefix e.space && is_xml e.text && list_all is_attribute e.attributes && names_differ e.attributes
 
--- an element and all in it, in at most so many levels
+-- an element and its descendants can be written in at most n levels
 abbrev pub fits_step : Element-F (ℕ → Bool) → ℕ → Bool
 fits_step e levels = nat_le 1 levels && is_sound e && list_all (λ child. child (levels - 1)) e.children
 

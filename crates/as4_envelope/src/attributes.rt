@@ -1,7 +1,7 @@
 //! The attributes of an element.
 //!
 //!     one     in the value itself
-//!     many    in a list of their own, as none are
+//!     many    in a separate list; also for no attributes
 
 ghost use Rattle.std.specs.Prelude.{◌≡◌, ◌↔◌, ◌∷◌, [], IsTrue};
 
@@ -11,7 +11,7 @@ use std::alloc::Global;
 use std::marker::Model;
 use std::slice;
 
-/// Attributes in order. One alone takes no memory of its own.
+/// Attributes in order. A single one needs no separate memory.
 #[derive(Drop)]
 pub struct Attributes {
     held: Held,
@@ -42,7 +42,7 @@ impl Attributes {
         }
     }
 
-    /// Takes the attributes over, without a copy.
+    /// Takes ownership of the attributes, without a copy.
     pub fn of(list: Vec<Attribute>) -> Attributes
         ensures { result ≡ list.items }
     {
@@ -82,7 +82,7 @@ impl PlainData for Attributes {
     }
 }
 
-/// Whether the attribute stands in the list, and no other.
+/// Whether the list consists of this attribute.
 fn is_alone(list: &[Attribute], attribute: &Attribute) -> bool
     ensures { IsTrue result ↔ (list.now ≡ attribute.now ∷ []) }
 {

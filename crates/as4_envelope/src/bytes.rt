@@ -1,8 +1,8 @@
 //! Bytes of a tree: a name, a namespace, a value or a text.
 //!
-//!     fixed    a constant of the program, as the namespaces are
+//!     fixed    a constant of the program, such as a namespace
 //!     short    at most 16 bytes, in the value itself
-//!     long     a buffer of its own
+//!     long     in a separate buffer
 
 ghost use Rattle.std.specs.Prelude.{◌≡◌, ◌+◌, ◌≤◌, ◌++◌, ℕ, List, [], length, take, IfOk, OnOk};
 
@@ -10,10 +10,10 @@ use as4_values::{NoMemory, PlainData};
 use std::alloc::Global;
 use std::marker::Model;
 
-/// How many bytes need no buffer.
+/// The maximum number of bytes that need no buffer.
 const ROOM: usize = 16;
 
-/// Bytes that take memory of their own only where they are neither few nor a constant.
+/// Bytes. Constants and short copies need no memory of their own.
 #[derive(Drop)]
 pub struct TreeBytes {
     kept: Kept,
@@ -36,7 +36,7 @@ enum Kept {
 }
 
 impl TreeBytes {
-    /// No bytes, with room for some.
+    /// No bytes, with room for a few.
     pub fn new() -> TreeBytes
         ensures { result ≡ [] }
     {
@@ -54,7 +54,7 @@ impl TreeBytes {
         }
     }
 
-    /// Takes the bytes over, without a copy.
+    /// Takes ownership of the bytes, without a copy.
     pub fn of(alloc: Global, bytes: Vec<u8>) -> Result<TreeBytes, NoMemory>
         ensures { IfOk result (λ taken. taken ≡ bytes.items) }
     {
@@ -124,10 +124,10 @@ impl PlainData for TreeBytes {
     }
 }
 
-/// Few bytes, in the value itself.
+/// Up to `ROOM` bytes, in the value itself.
 #[derive(Drop)]
 struct ShortBytes {
-    /// Four bytes, so that what stands behind the tag of a `Kept` is moved in whole words.
+    /// Four bytes long, so that the content after the tag of a `Kept` moves in whole words.
     len: u32,
     room: [u8; 16],
 }

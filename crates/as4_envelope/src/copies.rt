@@ -57,7 +57,7 @@ fn copies_of(alloc: Global, elements: &[Element]) -> Result<Seq<Element>, NoMemo
     Ok(Seq::of(copies))
 }
 
-/// Whether the two are equal but for their children.
+/// Whether the two are equal apart from their children.
 fn is_same_alone(one: &Element, other: &Element) -> bool
     ensures { IsTrue result ↔ (((out-Element one.now).space ≡ (out-Element other.now).space)
         × ((out-Element one.now).local ≡ (out-Element other.now).local)

@@ -1,4 +1,4 @@
-//! Elements of XML as trees, and the one text in which each is written.
+//! Elements of XML as trees, and the single text of each.
 #![tactic(auto)]
 
 mod attributes;

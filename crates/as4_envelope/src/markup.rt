@@ -1,4 +1,4 @@
-//! Elements and attributes, written at the end of a buffer.
+//! Appends elements and attributes to a buffer.
 
 ghost use Rattle.std.specs.Prelude.{◌≡◌, ◌++◌, OnOk, MatchOption, [], ◌∷◌, codes};
 ghost use Rattle.std.specs.Option.{option_copied};
@@ -6,7 +6,7 @@ ghost use Rattle.as4_envelope.specs.Markup.{escape_of, escaped, tag_start, tag_e
 
 use as4_values::NoMemory;
 
-/// `<name`, behind which the attributes are written.
+/// `<name`, to be followed by the attributes.
 #[tactic(auto, unfolding(crate::specs::Markup::tag_start))]
 pub fn push_tag_start(out: &mut Vec<u8>, name: &[u8]) -> Result<(), NoMemory>
     ensures { OnOk result (out.new.items ≡ out.old.items ++ tag_start name.now) }
@@ -16,7 +16,7 @@ pub fn push_tag_start(out: &mut Vec<u8>, name: &[u8]) -> Result<(), NoMemory>
     Ok(())
 }
 
-/// `>`, behind which the content is written.
+/// `>`, to be followed by the content.
 #[tactic(auto, unfolding(crate::specs::Markup::tag_end))]
 pub fn push_tag_end(out: &mut Vec<u8>) -> Result<(), NoMemory>
     ensures { OnOk result (out.new.items ≡ out.old.items ++ tag_end) }
@@ -56,7 +56,7 @@ pub(crate) fn push_value(out: &mut Vec<u8>, value: &[u8]) -> Result<(), NoMemory
     Ok(())
 }
 
-/// What stands for a byte in a text or a value, and nothing where it stands for itself.
+/// The escape of a byte in a text or a value; `None` if the byte needs none.
 fn escape_of(byte: u8) -> Option<&'static [u8]>
     ensures { MatchOption result (escape_of byte ≡ byte ∷ []) (λ escape. escape.now ≡ escape_of byte) }
 {
@@ -72,7 +72,7 @@ fn escape_of(byte: u8) -> Option<&'static [u8]>
     }
 }
 
-/// The bytes, with what stands for those that may not stand as they are.
+/// The bytes, escaped where necessary.
 #[tactic(auto, using(crate::proofs::EscapeLemmas::escape_start))]
 pub fn push_escaped(out: &mut Vec<u8>, bytes: &[u8]) -> Result<(), NoMemory>
     ensures { OnOk result (out.new.items ≡ out.old.items ++ escaped bytes.now) }
@@ -90,7 +90,7 @@ pub fn push_escaped(out: &mut Vec<u8>, bytes: &[u8]) -> Result<(), NoMemory>
     Ok(())
 }
 
-/// An element that holds a text and nothing else.
+/// An element whose content is a text.
 #[tactic(auto, unfolding(crate::specs::Markup::text_element))]
 pub fn push_text_element(out: &mut Vec<u8>, name: &[u8], text: &[u8]) -> Result<(), NoMemory>
     ensures { OnOk result (out.new.items ≡ out.old.items ++ text_element name.now text.now) }
@@ -101,7 +101,7 @@ pub fn push_text_element(out: &mut Vec<u8>, name: &[u8], text: &[u8]) -> Result<
     push_end_tag(out, name)
 }
 
-/// The attribute, where there is a value.
+/// The attribute, if there is a value.
 #[tactic(auto, unfolding(crate::specs::Markup::optional_attribute))]
 pub fn push_optional_attribute(
     out: &mut Vec<u8>,
@@ -116,7 +116,7 @@ pub fn push_optional_attribute(
     }
 }
 
-/// The element, where there is a text.
+/// The element, if there is a text.
 #[tactic(auto, unfolding(crate::specs::Markup::optional_element))]
 pub fn push_optional_element(
     out: &mut Vec<u8>,

@@ -11,7 +11,7 @@ use crate::tree::{Attribute, Element};
 use crate::write::{EBMS, SOAP};
 use as4_values::first_not_xml;
 
-/// How deep a tree may be; its outermost element has depth 1.
+/// The maximum depth of a tree; its outermost element has depth 1.
 pub const MAX_DEPTH: usize = 32;
 
 const _: () = prove!(MAX_DEPTH == 32);
@@ -25,7 +25,7 @@ pub fn is_writable(tree: &Element) -> bool
     fits(tree, MAX_DEPTH)
 }
 
-/// Whether the element and all in it can be written in so many levels.
+/// Whether the element and its descendants can be written in this many levels.
 #[cycle(levels)]
 #[tactic(auto, using(crate::proofs::WritableLemmas::fits_out, std::proofs::lemmas::Bool::Decides::nat_tests))]
 fn fits(element: &Element, levels: usize) -> bool
@@ -49,7 +49,7 @@ fn all_fit(children: &[Element], levels: usize) -> bool
     true
 }
 
-/// Whether what the element says itself can be written.
+/// Whether the element itself can be written, apart from its children.
 fn is_sound(element: &Element) -> bool
     ensures { result ≡ is_sound (out-Element element.now) }
 {
@@ -91,7 +91,7 @@ fn names_differ(attributes: &[Attribute]) -> bool
     true
 }
 
-/// Whether one of the attributes has the name of this one.
+/// Whether one of the attributes has the same name as this one.
 fn is_named(attributes: &[Attribute], like: &Attribute) -> bool
     ensures { result ≡ list_any (same_name like.now) attributes.now }
 {

@@ -1,4 +1,4 @@
-//! Trees, written at the end of a buffer.
+//! Appends trees to a buffer.
 
 ghost use Rattle.std.specs.Prelude.{◌≡◌, ◌++◌, IfOk, OnOk, [], IsTrue};
 ghost use Rattle.std.specs.List.{flat_map};
@@ -17,7 +17,7 @@ pub const SOAP: &[u8] = b"http://www.w3.org/2003/05/soap-envelope";
 /// The namespace of ebMS 3.0.
 pub const EBMS: &[u8] = b"http://docs.oasis-open.org/ebxml-msg/ebms/v3.0/ns/core/200704/";
 
-/// The one text of a tree, in UTF-8: the outermost element declares the prefixes `S` and `eb`, whatever its name.
+/// The single text of a tree, in UTF-8. The outermost element declares the prefixes `S` and `eb`, whatever its name is.
 pub fn write_tree(alloc: Global, tree: &Element) -> Result<Octets, NoMemory>
     requires { IsTrue (is_writable tree.now) }
     ensures { IfOk result (λ text. text ≡ tree_text tree.now) }
@@ -37,7 +37,7 @@ fn push_declarations(out: &mut Vec<u8>) -> Result<(), NoMemory>
     Ok(())
 }
 
-/// An element, with these declarations in front of its attributes.
+/// An element, with these declarations before its attributes.
 #[cycle(tree)]
 fn push_element(out: &mut Vec<u8>, element: &Element, declared: &[u8]) -> Result<(), NoMemory>
     ensures { OnOk result (out.new.items ≡ out.old.items ++ element_text element.now declared.now) }
@@ -102,7 +102,7 @@ fn push_attribute_of(out: &mut Vec<u8>, attribute: &Attribute) -> Result<(), NoM
     push_value(out, attribute.value.bytes())
 }
 
-/// What stands before a name of this namespace.
+/// The prefix of a name in this namespace, with its colon.
 #[tactic(auto, unfolding(crate::specs::Tree::prefix_of))]
 fn prefix_of(space: &TreeBytes) -> &'static [u8]
     ensures { result.now ≡ prefix_of space.now }

@@ -1,4 +1,4 @@
--- What is cut off the front is what stands there, and what stands there is cut.
+-- What is cut off the front is there, and what is there is cut off.
 use Rattle.std.proofs.Common.{◌≡◌, ℕ, ◌+◌, ◌<◌, ◌≤◌, Bool, true, false, cond, List, subst, ◌==◌, [], ◌∷◌, ◌++◌, length, get_or, drop, Option, Some, None, nat_eq, refl, sym, ap, ◌∙◌, arith, inl, inr, length-append, ◌⊎◌}
 use Rattle.std.specs.Prelude.{IsTrue}
 use Rattle.std.specs.List.{prefix_len, take_while, starts_with, list_all}
@@ -8,7 +8,7 @@ use Rattle.std.proofs.lemmas.Option.{cond_some}
 use Rattle.std.proofs.lemmas.Slice.Eq.{starts_is}
 use Rattle.std.proofs.lemmas.List.{take-append-drop, get_or-take, get_or-drop, get_or_append_left, get_or_at, take_at, drop_at, length-take-le}
 use Rattle.std.proofs.lemmas.List.Sums.{prefix_len_is, prefix_len_passes, prefix_len_stops, prefix_len-le-length, AllPass-from_list_all, list_all-from_AllPass}
-use Rattle.byte_forms.specs.Cuts.{◌>>=◌, skip, run_at, behind}
+use Rattle.byte_forms.specs.Cuts.{◌>>=◌, skip, run_at, strip_prefix}
 
 -- ---- options
 
@@ -110,14 +110,14 @@ run_none class bytes stops = rw (run_len class [] bytes refl stops) refl
 
 -- ---- words
 
-pub behind_takes : (word bytes rest : List ℕ) → behind word bytes ≡ Some rest → bytes ≡ word ++ rest
-unfolding behind
-behind_takes word bytes rest e =
+pub strip_prefix_takes : (word bytes rest : List ℕ) → strip_prefix word bytes ≡ Some rest → bytes ≡ word ++ rest
+unfolding strip_prefix
+strip_prefix_takes word bytes rest e =
     let cut = cond_some (starts_with nat_eq bytes word) (drop (length word) bytes) rest e in
     (starts_is Decides-eqb bytes word (starts_with nat_eq bytes word) refl).0 cut.0 ∙ ap (λ (r : List ℕ). word ++ r) cut.1
 
-pub behind_again : (word rest : List ℕ) → behind word (word ++ rest) ≡ Some rest
-unfolding behind
-behind_again word rest =
+pub strip_prefix_again : (word rest : List ℕ) → strip_prefix word (word ++ rest) ≡ Some rest
+unfolding strip_prefix
+strip_prefix_again word rest =
     let begins : starts_with nat_eq (word ++ rest) word ≡ true = (starts_is Decides-eqb (word ++ rest) word (starts_with nat_eq (word ++ rest) word) refl).1 rest refl in
     rw (begins, drop_at word rest (length word) refl) refl

@@ -1,4 +1,9 @@
 pub mod CutLemmas
+pub mod DecimalLemmas
+pub mod DigitLemmas
 pub mod NumberLemmas
 pub mod OnceLemmas
+pub mod PartedLemmas
 pub mod RefusalLemmas
+pub mod SearchLemmas
+pub mod TrimLemmas

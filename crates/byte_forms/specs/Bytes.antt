@@ -2,12 +2,12 @@
 use Rattle.std.specs.Prelude.{ℕ, zero, suc, ◌/◌, ◌%◌, List, [], ◌∷◌, ◌++◌, Option, Some, None, length}
 use Rattle.std.specs.List.{flat_map}
 
--- a number in so many bytes
+-- a number in n bytes
 unfoldable pub number_body : ℕ → ℕ → List ℕ
 number_body zero n = []
 number_body (suc places) n = number_body places (n / 256) ++ n % 256 ∷ []
 
--- bytes behind their length
+-- the length of bytes, and then the bytes
 unfoldable pub text_body : List ℕ → List ℕ
 text_body bytes = number_body 4 (length bytes) ++ bytes
 
@@ -16,7 +16,7 @@ abbrev pub option_body : {X : Type 0} → (X → List ℕ) → Option X → List
 option_body body None = 0 ∷ []
 option_body body (Some x) = 1 ∷ body x
 
--- items behind their count
+-- the count of items, and then the items
 abbrev pub list_body : {X : Type 0} → (X → List ℕ) → List X → List ℕ
 list_body body xs = number_body 4 (length xs) ++ flat_map body xs
 

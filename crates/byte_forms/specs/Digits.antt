@@ -5,7 +5,7 @@ use Rattle.std.specs.Prelude.{ℕ, ◌+◌, ◌-◌, ◌&&◌, nat_le, nat_lt, i
 abbrev pub hex_digit : ℕ → ℕ
 hex_digit n = if nat_lt n 10 then 48 + n else 87 + n
 
--- what a byte counts that is one
+-- the value of a digit
 abbrev pub digit_value : ℕ → Option ℕ
 digit_value b =
     if nat_le 48 b && nat_le b 57 then Some (b - 48)

@@ -1,4 +1,7 @@
 pub mod Bytes
+pub mod Classes
 pub mod Cuts
 pub mod Digits
 pub mod Forms
+pub mod Parted
+pub mod Trimmed

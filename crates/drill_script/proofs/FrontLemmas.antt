@@ -1,16 +1,16 @@
--- Lemmas on what stands at the front of the bytes that a reader holds.
+-- Lemmas on the prefix of the bytes that a reader holds.
 use Rattle.std.proofs.Common.{◌≡◌, ℕ, zero, suc, ◌⊎◌, inl, inr, refl, ◌+◌, ◌<◌, ◌≤◌, Bool, true, false, cond, Option, None, Some, List, [], ◌∷◌, ◌++◌, length, take, drop, sym, ◌∙◌, ap, subst, arith, append_assoc, length-append}
 use Rattle.std.proofs.lemmas.List.{take-append-drop, take_at, drop_at, length-take-le, take-append-le, take-take, take_all, append-nil}
 use Rattle.std.proofs.Math.Seq.{take-append-add}
 use Rattle.as4_flow.specs.Flow.{Told, before}
 use Rattle.memchr.specs.Find.{IsFirstByte, is_byte}
 use Rattle.drill_script.specs.Fronts.{BeginsLine}
-use Rattle.drill_script.specs.Lacking.{Lacks, parted}
+use Rattle.byte_forms.specs.Parted.{Lacks, parted}
 use Rattle.drill_script.specs.LineText.{line_limit}
 use Rattle.drill_script.specs.Lines.{BeginsLong}
-use Rattle.drill_script.proofs.LackingLemmas.{Lacks_append, Lacks_head, Lacks_tail, Lacks_take, Lacks_nowhere, Lacks_before, parted_at}
+use Rattle.byte_forms.proofs.PartedLemmas.{Lacks_append, Lacks_head, Lacks_tail, Lacks_take, Lacks_nowhere, Lacks_before, parted_at}
 
--- where bytes are parted, the front and the rest are known by their places
+-- the prefix and the rest of parted bytes, by position
 begins_line : (bytes front rest : List ℕ) (at : ℕ) → bytes ≡ parted 10 front rest → length front ≡ at → Lacks 10 front → at ≤ line_limit → BeginsLine bytes at
 begins_line bytes front rest at parts count lacks short =
     let front_is : take at bytes ≡ front = ap (λ (l : List ℕ). take at l) parts ∙ take_at front (10 ∷ rest) at count in
@@ -23,7 +23,7 @@ begins_line bytes front rest at parts count lacks short =
       short = short;
     }
 
--- what was searched before, and what is searched now
+-- the bytes searched before, followed by those searched now
 whole_is : (bytes rest : List ℕ) (scanned : ℕ) → rest ≡ drop scanned bytes → bytes ≡ take scanned bytes ++ rest
 whole_is bytes rest scanned is = sym (take-append-drop scanned bytes) ∙ ap (λ (l : List ℕ). take scanned bytes ++ l) (sym is)
 
@@ -49,7 +49,7 @@ pub front_none : (bytes rest : List ℕ) (scanned : ℕ) → rest ≡ drop scann
 front_none bytes rest scanned is lacks none =
     subst (λ (l : List ℕ). Lacks 10 l) (sym (whole_is bytes rest scanned is)) (Lacks_append 10 (take scanned bytes) rest lacks (Lacks_nowhere 10 rest none))
 
--- bytes that begin with more than the limit without an LF
+-- bytes with a prefix longer than the limit and without an LF
 long_front : (bytes front rest : List ℕ) → bytes ≡ front ++ rest → Lacks 10 front → line_limit < length front → BeginsLong bytes
 unfolding BeginsLong
 long_front bytes front rest is lacks long =
@@ -65,7 +65,7 @@ front_long bytes rest scanned at is within lacks found long =
 pub all_long : (bytes : List ℕ) → Lacks 10 bytes → line_limit < length bytes → BeginsLong bytes
 all_long bytes lacks long = long_front bytes bytes [] (sym (append-nil bytes)) lacks long
 
--- what has no LF in its front stands before the first one
+-- a prefix without an LF ends before the first LF
 pub lacking_front : (n : ℕ) (text more : List ℕ) → Lacks 10 (take n (text ++ 10 ∷ more)) → n ≤ length text
 lacking_front zero text more lacks = omega arith
 lacking_front (suc n) [] more lacks = absurd (Lacks_head 10 10 (take n more) lacks refl)
@@ -73,7 +73,7 @@ lacking_front (suc n) (t ∷ text) more lacks =
     let rest : n ≤ length text = lacking_front n text more (Lacks_tail 10 t (take n (text ++ 10 ∷ more)) lacks) in
     omega arith
 
--- what begins too long begins with no line
+-- bytes that begin too long begin with no line
 long_no_line : (bytes : List ℕ) (at : ℕ) → BeginsLong bytes → BeginsLine bytes at → ⊥
 unfolding BeginsLong
 long_no_line bytes at long begins =
@@ -82,7 +82,7 @@ long_no_line bytes at long begins =
     let far = lacking_front (line_limit + 1) (take at bytes) (drop (at + 1) bytes) lacks in
     omega (arith, far, begins.short, begins.room, length-take-le at bytes (omega arith))
 
--- what was held at first, if it is held still, or wasn't too long
+-- the bytes held at first didn't begin too long: they are unchanged and begin with a line, or it is known
 pub never_long_line : (old now : List ℕ) (at : ℕ) → (now ≡ old) ⊎ (BeginsLong old → ⊥) → BeginsLine now at → BeginsLong old → ⊥
 never_long_line old now at (inl same) begins long = long_no_line now at (subst BeginsLong (sym same) long) begins
 never_long_line old now at (inr short) begins long = short long
@@ -92,7 +92,7 @@ unfolding BeginsLong
 never_long_short old now (inl same) short long = omega (arith, ap length same, short.1, long.0)
 never_long_short old now (inr other) short long = other long
 
--- what is told behind the bytes that a reader holds
+-- ---- the observable source after the bytes that a reader holds
 
 pub BeginsLong_told : (held : List ℕ) (left : Option (List ℕ)) → BeginsLong held → Told (before held left) BeginsLong
 unfolding BeginsLong
@@ -104,14 +104,14 @@ BeginsLong_told held (Some rest) long bytes is =
       subst (λ (l : List ℕ). Lacks 10 l) (sym same) long.1,
     )
 
--- a buffer that was made longer has what it had at its front
+-- a buffer that was extended keeps its prefix
 pub resized_front : (old resized zeros : List ℕ) (len most : ℕ) (ok : Bool) → len ≡ length old → len ≤ most → resized ≡ cond ok (take most old ++ zeros) old → take len resized ≡ old
 resized_front old resized zeros len most true count room is =
     let all : take most old ≡ old = take_all most old (omega arith) in
     ap (λ (l : List ℕ). take len l) (is ∙ ap (λ (l : List ℕ). l ++ zeros) all) ∙ take_at old zeros len (sym count)
 resized_front old resized zeros len most false count room is = ap (λ (l : List ℕ). take len l) is ∙ take_all len old (omega arith)
 
--- what was read into a part of it is kept behind that
+-- bytes that are read into its tail follow the prefix
 pub read_behind : (front room post tail : List ℕ) (len n most : ℕ) → length front ≡ len → n ≤ length room → len + n ≤ most → take (len + n) (take most (front ++ (room ++ post) ++ tail)) ≡ front ++ take n room
 read_behind front room post tail len n most count some within =
     let shorter : take (len + n) (take most (front ++ (room ++ post) ++ tail)) ≡ take (len + n) (front ++ (room ++ post) ++ tail) = take-take (len + n) most (front ++ (room ++ post) ++ tail) within in

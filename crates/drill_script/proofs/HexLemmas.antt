@@ -7,11 +7,8 @@ use Rattle.std.proofs.lemmas.List.{append-nil}
 use Rattle.std.proofs.lemmas.List.Concat.{flat_map-append}
 use Rattle.std.proofs.lemmas.List.Folds.{list_all-append}
 use Rattle.byte_forms.specs.Digits.{hex_digit}
+use Rattle.byte_forms.proofs.DigitLemmas.{one_digit}
 use Rattle.drill_script.specs.LineText.{are_bytes, hex_text}
-
--- a digit has one value
-pub one_digit : (m n : ℕ) → m < 16 → n < 16 → hex_digit m ≡ hex_digit n → m ≡ n
-one_digit m n small_m small_n same = grind (arith, nat_tests)
 
 -- a byte has one pair of digits
 one_pair : (b d : ℕ) → b < 256 → d < 256 → hex_digit (b / 16) ≡ hex_digit (d / 16) → hex_digit (b % 16) ≡ hex_digit (d % 16) → b ≡ d
@@ -40,7 +37,7 @@ are_bytes-cons b bytes each =
 pub are_bytes_push : (bytes : List ℕ) (b : ℕ) → IsTrue (are_bytes bytes) → b < 256 → IsTrue (are_bytes (bytes ++ b ∷ []))
 are_bytes_push bytes b each small = rw (list_all-append (λ b. nat_lt b 256) bytes (b ∷ []), each, lt-ltb b 256 small)
 
--- bytes whose digits begin with those of others begin with these
+-- if the digits of bytes extend those of others, the bytes extend the others
 hex_prefix : (done bytes rest : List ℕ) → hex_text bytes ≡ hex_text done ++ rest → IsTrue (are_bytes done) → IsTrue (are_bytes bytes) → (more : List ℕ) × (bytes ≡ done ++ more) × (rest ≡ hex_text more) × IsTrue (are_bytes more)
 hex_prefix [] bytes rest same done_small small =
     (bytes, refl, sym (same ∙ ap (λ (l : List ℕ). l ++ rest) hex_text-nil), small)
@@ -59,7 +56,7 @@ hex_prefix (d ∷ done) (b ∷ bytes) rest same done_small small =
     let whole : bytes ≡ done ++ more.0 = more.1 in
     (more.0, cc, more.2, more.3)
 
--- of bytes whose digits go on behind those of others, the next one's digits come next
+-- if the digits of bytes extend those of others, the digits of the next byte come next
 pub record Next (rest : List ℕ) (byte : ℕ) : Type 0 where
   pub two : 2 ≤ length rest
   pub small : byte < 256
@@ -88,7 +85,7 @@ done_of : (more done bytes rest : List ℕ) → bytes ≡ done ++ more → rest 
 done_of [] done bytes rest whole is none = sym (whole ∙ append-nil done)
 done_of (m ∷ more) done bytes rest whole is none = absurd (omega (arith, ap length (is ∙ hex_text-cons m more)))
 
--- where nothing is left, the others are the bytes
+-- if no digits remain, the others are the bytes
 pub hex_done : (digits done bytes rest : List ℕ) → digits ≡ hex_text done ++ rest → digits ≡ hex_text bytes → IsTrue (are_bytes done) → IsTrue (are_bytes bytes) → length rest ≡ 0 → done ≡ bytes
 hex_done digits done bytes rest so_far all done_small small none =
     let more = hex_prefix done bytes rest (sym all ∙ so_far) done_small small in

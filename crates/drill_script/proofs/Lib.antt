@@ -1,6 +1,5 @@
 pub mod FrontLemmas
 pub mod HexLemmas
-pub mod LackingLemmas
 pub mod LineLemmas
 pub mod LoadLemmas
 pub mod OneLineLemmas

@@ -3,7 +3,8 @@ use Rattle.std.proofs.Common.{◌≡◌, ℕ, ◌==◌, if◌then◌else◌, Lis
 use Rattle.std.specs.List.{Contains}
 use Rattle.std.specs.Fmt.{decimal}
 use Rattle.as4_disk.specs.declared.change.Pick.{Pick}
-use Rattle.drill_script.specs.Lacking.{Lacks, parted, spaced}
+use Rattle.drill_script.specs.Lacking.{spaced}
+use Rattle.byte_forms.specs.Parted.{Lacks, parted}
 use Rattle.drill_script.specs.LineText.{line_text, line_words, pick_text, stoppable_text, stoppable_words}
 use Rattle.drill_script.specs.LineParts.{IsKept, Spells, SpellsRun, kept_words, run_verb_of, run_verb_text, tail_of, verb_of, verb_text}
 use Rattle.drill_script.specs.declared.line.Line.{Line}
@@ -15,9 +16,9 @@ use Rattle.drill_script.specs.declared.verb.RunVerb.{RunVerb}
 use Rattle.drill_script.specs.declared.verb.RunVerb.TheVariants.{Submit, Tick, Take, Came, Confirm}
 use Rattle.drill_script.specs.declared.verb.Verb.{Verb}
 use Rattle.drill_script.specs.declared.verb.Verb.TheVariants.{Mode, Run, Ask, Pair, Count, Crash, Stop, Fold}
-use Rattle.drill_script.proofs.LackingLemmas.{Lacks_tested}
+use Rattle.byte_forms.proofs.PartedLemmas.{Lacks_tested}
 
--- a first word behind which bytes are kept is one of those
+-- a first word that needs memory is one of those
 pub kept_word : (verb : Verb) → IsKept verb → Contains kept_words (verb_text verb)
 kept_word Mode kept = (0, omega arith, refl)
 kept_word (Run Submit) kept = (1, omega arith, refl)
@@ -67,7 +68,7 @@ line_parts (line.Crash end) = refl
 line_parts (line.Stop call pick l) = refl
 line_parts (line.Fold end) = refl
 
--- behind `stop` stand the call, the pick and the line
+-- `stop` is followed by the call, the pick and the line
 pub stop_tail : (call : ℕ) (pick : Pick) (l : Stoppable) → tail_of (line_words (line.Stop call pick l)) ≡ spaced (decimal call) (spaced (pick_text pick) (stoppable_text l))
 stop_tail call pick (stoppable.Submit end mode load) = refl
 stop_tail call pick (stoppable.Tick end moment) = refl
@@ -75,7 +76,7 @@ stop_tail call pick (stoppable.Take end) = refl
 stop_tail call pick (stoppable.Came end number) = refl
 stop_tail call pick (stoppable.Confirm end number) = refl
 
--- bytes cut at a space are a line's text where the line has the verb and the tail
+-- bytes cut at a space are a line's text if the line has this verb and this tail
 
 pub spelled_text : (bytes word tail : List ℕ) (verb : Verb) (said : Line) → bytes ≡ parted 32 word tail → word ≡ verb_text verb → Spells verb tail said → bytes ≡ line_text said
 spelled_text bytes word tail verb said parts is spells =

@@ -1,4 +1,4 @@
--- No text is that of two lines.
+-- A text is that of at most one line.
 use Rattle.std.proofs.Common.{◌≡◌, ℕ, ◌≤◌, List, [], get_or, IsTrue, codes, refl, sym, ◌∙◌, ap, arith}
 use Rattle.std.specs.Fmt.{decimal}
 use Rattle.std.proofs.lemmas.Bool.{leb-true}
@@ -23,7 +23,7 @@ use Rattle.drill_script.specs.declared.verb.RunVerb.TheVariants.{Submit, Tick, T
 use Rattle.drill_script.specs.declared.verb.Verb.{Verb}
 use Rattle.drill_script.specs.declared.verb.Verb.TheVariants.{Mode, Run, Ask, Pair, Count, Crash, Stop, Fold}
 use Rattle.drill_script.proofs.HexLemmas.{hex_done}
-use Rattle.drill_script.proofs.LackingLemmas.{one_cut}
+use Rattle.byte_forms.proofs.PartedLemmas.{one_cut}
 use Rattle.drill_script.proofs.LineLemmas.{line_parts, run_parts, verb_unspaced, one_verb, one_run_verb}
 use Rattle.drill_script.proofs.LoadLemmas.{none_only, none_text, hex_load_text, size_load_text}
 use Rattle.drill_script.proofs.SpellLemmas.{NumberedIs, ask_spelled, came_spelled, confirm_spelled, counted_spelled, crash_spelled, fold_spelled, mode_spelled, pair_spelled, run_spelled, stop_spelled, submit_spelled, take_spelled, tick_spelled}
@@ -83,11 +83,11 @@ one_settings way other_way retries other_retries period other_period few other_f
       decimal_injective period other_period (omega arith) (omega arith) numbers.1,
     )
 
--- lines of an end alone, made so
+-- lines that name only an endpoint
 one_alone : {X : Type 0} (make : EndName → X) (tail : List ℕ) (one other : X) → (end : EndName) × (one ≡ make end) × (tail ≡ end_text end) → (end : EndName) × (other ≡ make end) × (tail ≡ end_text end) → one ≡ other
 one_alone make tail one other a b = let ends : a.0 ≡ b.0 = one_end a.0 b.0 (sym a.2 ∙ b.2) in a.1 ∙ ap make ends ∙ sym b.1
 
--- lines of an end and a number, made so
+-- lines that name an endpoint and a number
 one_numbered : {X : Type 0} (make : EndName → ℕ → X) (tail : List ℕ) (one other : X) (end other_end : EndName) (number other_number : ℕ) → NumberedIs make tail one end number → NumberedIs make tail other other_end other_number → one ≡ other
 one_numbered make tail one other end other_end number other_number a b =
     let parts = one_spaced_end end other_end (decimal number) (decimal other_number) (sym a.tail_is ∙ b.tail_is) in

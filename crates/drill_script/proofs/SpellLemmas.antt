@@ -1,4 +1,4 @@
--- Lemmas on lines by their verb and tail.
+-- Lemmas on lines, by their verb and tail.
 use Rattle.std.proofs.Common.{◌≡◌, ℕ, ◌^◌, ◌<◌, ◌≤◌, ◌&&◌, nat_le, nat_lt, List, IsTrue, Option, Some, refl, sym, ◌∙◌, ap, arith}
 use Rattle.std.specs.Fmt.{decimal}
 use Rattle.std.proofs.lemmas.Bool.{and_parts, and_from, le-leb, leb-true, lt-ltb, ltb-true}
@@ -21,7 +21,7 @@ use Rattle.drill_script.specs.declared.verb.RunVerb.TheVariants.{Submit, Tick, T
 use Rattle.drill_script.specs.declared.verb.Verb.TheVariants.{Mode, Run, Ask, Pair, Count, Crash, Stop, Fold}
 use Rattle.drill_script.proofs.LineLemmas.{stop_tail}
 
--- a line that can be stopped, by its parts
+-- a line that can be stopped, from its parts
 
 pub submit_spells : (tail : List ℕ) (end : EndName) (mode : List ℕ) (load : ScriptLoad) → tail ≡ spaced (end_text end) (spaced mode (load_text load)) → IsTrue (is_name mode) → IsTrue (is_load load) → SpellsRun Submit tail (stoppable.Submit end mode load)
 unfolding is_stoppable
@@ -47,7 +47,7 @@ pub confirm_spells : (tail : List ℕ) (end : EndName) (number : ℕ) → tail �
 unfolding is_stoppable
 confirm_spells tail end number is small = record { verb_is = refl; tail_is = is; in_range = lt-ltb number (2 ^ 64) small }
 
--- a line by its parts
+-- a line, from its parts
 
 pub mode_spells : (tail name : List ℕ) (way : Way) (retries period : ℕ) → tail ≡ spaced name (settings_text way retries period) → IsTrue (is_name name) → retries ≤ 1000 → 1 ≤ period → period ≤ 1000000000 → Spells Mode tail (line.Mode name way retries period)
 unfolding is_line
@@ -98,9 +98,9 @@ pub fold_spells : (tail : List ℕ) (end : EndName) → tail ≡ end_text end �
 unfolding is_line
 fold_spells tail end is = record { verb_is = refl; tail_is = is; in_range = refl }
 
--- what a line of each verb is
+-- the form of the lines of each verb
 
--- a line of an end and a number, made so
+-- a line that names an endpoint and a number
 pub record NumberedIs {X : Type 0} (make : EndName → ℕ → X) (tail : List ℕ) (said : X) (end : EndName) (number : ℕ) : Type 0 where
   pub line_is : said ≡ make end number
   pub tail_is : tail ≡ spaced (end_text end) (decimal number)
@@ -143,7 +143,7 @@ confirm_spelled tail (stoppable.Confirm end number) spells =
     (end, number, record { line_is = refl; tail_is = spells.tail_is; small = ltb-true number (2 ^ 64) spells.in_range })
 confirm_spelled tail other spells = let verb : run_verb_of other ≡ Confirm = spells.verb_is in cc
 
--- a line that can be stopped, and is not
+-- a line that can be stopped, without a stop
 pub run_spelled : (verb : RunVerb) (tail : List ℕ) (said : Line) → Spells (Run verb) tail said → (l : Stoppable) × (said ≡ line.Run l) × SpellsRun verb tail l
 unfolding is_line
 run_spelled verb tail (line.Run l) spells =
@@ -181,7 +181,7 @@ mode_spelled tail (line.Mode name way retries period) spells =
     )
 mode_spelled tail other spells = let verb : verb_of other ≡ Mode = spells.verb_is in cc
 
--- an asking line
+-- an `ask` line
 pub record AskIs (tail : List ℕ) (said : Line) (end : EndName) (mode : List ℕ) : Type 0 where
   pub line_is : said ≡ line.Ask end mode
   pub tail_is : tail ≡ spaced (end_text end) mode
@@ -193,7 +193,7 @@ ask_spelled tail (line.Ask end mode) spells =
     (end, mode, record { line_is = refl; tail_is = spells.tail_is; named = spells.in_range })
 ask_spelled tail other spells = let verb : verb_of other ≡ Ask = spells.verb_is in cc
 
--- an asking line with a receipt
+-- a `pair` line
 pub record PairIs (tail : List ℕ) (said : Line) (end : EndName) (mode : List ℕ) (number : ℕ) : Type 0 where
   pub line_is : said ≡ line.Pair end mode number
   pub tail_is : tail ≡ spaced (end_text end) (spaced mode (decimal number))
@@ -211,7 +211,7 @@ pair_spelled tail (line.Pair end mode number) spells =
     )
 pair_spelled tail other spells = let verb : verb_of other ≡ Pair = spells.verb_is in cc
 
--- a line of an end and a number
+-- a line that names an endpoint and a number
 counted_is : (counted of_line : Counted) (tail : List ℕ) (end : EndName) (number : ℕ) → tail ≡ spaced (end_text end) (decimal number) → number < 2 ^ 64 → Count of_line ≡ Count counted → (end_is : EndName) × (number_is : ℕ) × NumberedIs (counted_line counted) tail (counted_line of_line end number) end_is number_is
 counted_is counted of_line tail end number tail_is small verb =
     let same : of_line ≡ counted = cc in (
@@ -274,7 +274,7 @@ mode_again said name found way found_way retries period found_retries found_peri
 pub submit_again : (said : Stoppable) (end found_end : EndName) (mode found : List ℕ) (load found_load : ScriptLoad) → said ≡ stoppable.Submit end mode load → found_end ≡ end → found ≡ mode → Some found_load ≡ Some load → Some (stoppable.Submit found_end found found_load) ≡ Some said
 submit_again said end found_end mode found load found_load is ends modes loads = cc
 
--- what was found is an end and a number
+-- the endpoint and the number that were found
 pub found_parts : (end found_end : EndName) (number found_number : ℕ) → ◌≡◌ {A = Option (EndName × ℕ)} (Some (found_end, found_number)) (Some (end, number)) → (found_end ≡ end) × (found_number ≡ number)
 found_parts end found_end number found_number found =
     let parts : ◌≡◌ {A = EndName × ℕ} (found_end, found_number) (end, number) = cc in

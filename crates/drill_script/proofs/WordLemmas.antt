@@ -1,4 +1,4 @@
--- Lemmas on the words of a line: none of them has a space.
+-- Lemmas on the words of a line: none of them contains a space.
 use Rattle.std.proofs.Common.{◌≡◌, ℕ, ◌^◌, ◌<◌, Bool, true, false, not, nat_le, List, [], ◌∷◌, length, IsTrue, Result, Ok, refl, sym, ◌∙◌, ap, subst, arith}
 use Rattle.std.specs.Fmt.{decimal}
 use Rattle.std.specs.List.{list_all}
@@ -9,7 +9,7 @@ use Rattle.std.proofs.lemmas.Bool.{and_parts}
 use Rattle.std.proofs.lemmas.Fmt.{decimal_is_IsNumeral, IsAscii-decimal_wide, parse-decimal_wide}
 use Rattle.std.proofs.lemmas.Slice.Eq.{bytes_eq-Decides}
 use Rattle.std.proofs.lemmas.Str.{IsUtf8-from_ascii}
-use Rattle.drill_script.specs.Lacking.{Lacks}
+use Rattle.byte_forms.specs.Parted.{Lacks}
 use Rattle.as4_disk.specs.declared.change.Pick.{Pick}
 use Rattle.as4_disk.specs.declared.change.Pick.TheVariants.{Old, New, Other}
 use Rattle.drill_script.specs.LineText.{end_text, way_text, pick_text, is_drill_byte, is_name}
@@ -17,7 +17,7 @@ use Rattle.drill_script.specs.declared.line.EndName.{EndName}
 use Rattle.drill_script.specs.declared.line.EndName.TheVariants.{A, B}
 use Rattle.drill_script.specs.declared.line.Way.{Way}
 use Rattle.drill_script.specs.declared.line.Way.TheVariants.{Push, Pull}
-use Rattle.drill_script.proofs.LackingLemmas.{Lacks_none, Lacks_more, Lacks_tested}
+use Rattle.byte_forms.proofs.PartedLemmas.{Lacks_none, Lacks_more, Lacks_tested}
 
 pub end_unspaced : (end : EndName) → Lacks 32 (end_text end)
 end_unspaced A = Lacks_tested 32 _ refl
@@ -54,31 +54,11 @@ name_unspaced name named =
     let inner = and_parts (nat_le (length name) 32) (list_all is_drill_byte name) outer.1 in
     name_bytes_unspaced name inner.1
 
--- a number of 128 bits has at most 64 digits
-short : (n : ℕ) → n < 2 ^ 128 → n < 10 ^ 64
-short n small = omega arith
-
--- a printed number is text
-pub decimal_is_text : (word : List ℕ) (n : ℕ) → n < 2 ^ 128 → word ≡ decimal n → IsUtf8 word
-decimal_is_text word n small printed = subst IsUtf8 (sym printed) (IsUtf8-from_ascii (decimal n) (IsAscii-decimal_wide n (short n small)))
-
--- a printed number is read
-pub decimal_is_read : {E : Type 0} (word : List ℕ) (n : ℕ) (read : Result ℕ E) → n < 2 ^ 128 → word ≡ decimal n → ParsesUnsigned 128 10 word read → read ≡ Ok n
-decimal_is_read word n read small printed parsed = parse-decimal_wide 128 n word read small (short n small) printed parsed
-
--- the same bytes are not found unequal
-pub same_is_equal : (xs ys : List ℕ) (unequal : Bool) → unequal ≡ not (bytes_eq xs ys) → unequal ≡ true → xs ≡ ys → ⊥
-same_is_equal xs ys unequal computed found same =
-    let differ : not (bytes_eq xs ys) ≡ true = sym computed ∙ found in
-    let equal : bytes_eq xs ys ≡ true = (bytes_eq-Decides xs ys).1 same in
-    let false_is_true : not true ≡ true = ap not (sym equal) ∙ differ in
-    cc
-
--- bytes found equal are the same
+-- bytes that compare equal are the same
 pub equal_is_same : (xs ys : List ℕ) (equal : Bool) → equal ≡ bytes_eq xs ys → equal ≡ true → xs ≡ ys
 equal_is_same xs ys equal computed found = (bytes_eq-Decides xs ys).0 (sym computed ∙ found)
 
--- bytes found not equal differ
+-- bytes that compare unequal differ
 pub unequal_differ : (xs ys : List ℕ) (equal : Bool) → equal ≡ bytes_eq xs ys → equal ≡ false → xs ≡ ys → ⊥
 unequal_differ xs ys equal computed found same =
     let tested : bytes_eq xs ys ≡ true = (bytes_eq-Decides xs ys).1 same in

@@ -1,4 +1,4 @@
--- A line by its first word and what stands behind it.
+-- A line as its first word and the rest.
 use Rattle.std.specs.Prelude.{◌≡◌, ℕ, ◌≤◌, List, [], ◌∷◌, IsTrue, codes, drop}
 use Rattle.std.specs.List.{Contains, join_with_byte}
 use Rattle.std.specs.Fmt.{decimal}
@@ -27,7 +27,7 @@ run_verb_text Take = codes "take"
 run_verb_text Came = codes "came"
 run_verb_text Confirm = codes "confirm"
 
--- the first word of a line of an end and a number that can't be stopped
+-- the first word of a line that names an endpoint and a number, and can't be stopped
 abbrev pub counted_text : Counted → List ℕ
 counted_text Lost = codes "lost"
 counted_text Read = codes "read"
@@ -44,7 +44,7 @@ verb_text Crash = codes "crash"
 verb_text Stop = codes "stop"
 verb_text Fold = codes "fold"
 
--- the first words of lines that have bytes to be kept, or may have
+-- the first words of lines whose reading may allocate memory
 abbrev pub kept_words : List (List ℕ)
 kept_words = codes "mode" ∷ codes "submit" ∷ codes "ask" ∷ codes "pair" ∷ codes "stop" ∷ []
 
@@ -52,7 +52,7 @@ kept_words = codes "mode" ∷ codes "submit" ∷ codes "ask" ∷ codes "pair" �
 abbrev pub BeginsKept : List ℕ → Type 0
 BeginsKept bytes = (word : List ℕ) × (tail : List ℕ) × Contains kept_words word × (bytes ≡ spaced word tail)
 
--- a line with this first word has bytes to be kept, or may have
+-- reading a line with this first word may allocate memory
 abbrev pub IsKept : Verb → Type 0
 IsKept Mode = Unit {0}
 IsKept (Run Submit) = Unit {0}
@@ -64,13 +64,13 @@ IsKept Crash = ⊥
 IsKept Stop = Unit {0}
 IsKept Fold = ⊥
 
--- the line of an end and a number
+-- the line that names an endpoint and a number
 abbrev pub counted_line : Counted → EndName → ℕ → Line
 counted_line Lost end number = line.Lost end number
 counted_line Read end number = line.Read end number
 counted_line Status end number = line.Status end number
 
--- what a message carries, by what stands before and behind a `=`
+-- a load, from the bytes before and after a `=`
 abbrev pub IsKeyed : List ℕ → List ℕ → ScriptLoad → Type 0
 IsKeyed key value Nothing = ⊥
 IsKeyed key value (Hex bytes) = (key ≡ codes "hex") × (value ≡ hex_text bytes) × IsTrue (are_bytes bytes)
@@ -97,21 +97,21 @@ verb_of (line.Crash end) = Crash
 verb_of (line.Stop call pick l) = Stop
 verb_of (line.Fold end) = Fold
 
--- a way and the two numbers of a mode
+-- a mode's way and its two numbers
 abbrev pub settings_text : Way → ℕ → ℕ → List ℕ
 settings_text way retries period = spaced (way_text way) (spaced (decimal retries) (decimal period))
 
--- what stands behind the first of some words
+-- the words after the first, in one text
 abbrev pub tail_of : List (List ℕ) → List ℕ
 tail_of words = join_with_byte 32 (drop 1 words)
 
--- the line that can be stopped has this verb and this tail, and is in range
+-- the stoppable line has this verb and this tail, and its values are in range
 pub record SpellsRun (verb : RunVerb) (tail : List ℕ) (l : Stoppable) : Type 0 where
   pub verb_is : run_verb_of l ≡ verb
   pub tail_is : tail ≡ tail_of (stoppable_words l)
   pub in_range : IsTrue (is_stoppable l)
 
--- the line has this verb and this tail, and is in range
+-- the line has this verb and this tail, and its values are in range
 pub record Spells (verb : Verb) (tail : List ℕ) (line : Line) : Type 0 where
   pub verb_is : verb_of line ≡ verb
   pub tail_is : tail ≡ tail_of (line_words line)

@@ -1,4 +1,4 @@
--- The lines of a drill script, in this program's own format: words parted by one space.
+-- The lines of a drill script, in this program's own format: words separated by one space.
 --
 --     mode NAME WAY RETRIES PERIOD      WAY is push or pull
 --     submit END MODE LOAD              END is a or b; LOAD is none, hex=DIGITS or size=S
@@ -16,8 +16,7 @@
 --                                       came or confirm
 --     fold END
 --
--- A line is the text of what it says, so it is spelled in one way only. Numbers are decimal, without a sign and without
--- leading zeros.
+-- A line has only one text. Numbers are decimal, without a sign and without leading zeros.
 use Rattle.std.specs.Prelude.{ℕ, ◌+◌, ◌/◌, ◌%◌, ◌^◌, List, [], ◌∷◌, ◌++◌, Bool, true, ◌&&◌, ◌||◌, nat_le, nat_lt, if◌then◌else◌, length, codes}
 use Rattle.std.specs.Fmt.{decimal}
 use Rattle.std.specs.List.{flat_map, join_with_byte, list_all}
@@ -79,11 +78,11 @@ line_words (line.Crash end) = codes "crash" ∷ end_text end ∷ []
 line_words (line.Stop call pick l) = codes "stop" ∷ decimal call ∷ pick_text pick ∷ stoppable_words l
 line_words (line.Fold end) = codes "fold" ∷ end_text end ∷ []
 
--- they are parted by one space
+-- the words, separated by one space
 unfoldable pub line_text : Line → List ℕ
 line_text l = join_with_byte 32 (line_words l)
 
--- so are those of a line that can be stopped
+-- the same for a line that can be stopped
 abbrev pub stoppable_text : Stoppable → List ℕ
 stoppable_text l = join_with_byte 32 (stoppable_words l)
 
@@ -104,7 +103,7 @@ is_load Nothing = true
 is_load (Hex bytes) = are_bytes bytes
 is_load (Size size) = nat_le size 16777216
 
--- what a line that can be stopped says is in range
+-- the values of a line that can be stopped are in range
 unfoldable pub is_stoppable : Stoppable → Bool
 is_stoppable (Submit end mode load) = is_name mode && is_load load
 is_stoppable (Tick end moment) = nat_le moment MAX_MOMENT
@@ -112,7 +111,7 @@ is_stoppable (Take end) = true
 is_stoppable (Came end number) = nat_lt number (2 ^ 64)
 is_stoppable (Confirm end number) = nat_lt number (2 ^ 64)
 
--- what a line says is in range
+-- the values of a line are in range
 unfoldable pub is_line : Line → Bool
 is_line (line.Mode name way retries period) =
     is_name name && (nat_le retries 1000 && (nat_le 1 period && nat_le period 1000000000))
@@ -126,6 +125,6 @@ is_line (line.Crash end) = true
 is_line (line.Stop call pick l) = nat_le 1 call && (nat_le call 4 && is_stoppable l)
 is_line (line.Fold end) = true
 
--- how many bytes a line has at most
+-- the maximum number of bytes of a line
 abbrev pub line_limit : ℕ
 line_limit = 1048576

@@ -4,6 +4,7 @@ ghost use Rattle.byte_forms.specs.Digits.{hex_digit};
 ghost use Rattle.drill_script.specs.LineText.{are_bytes, hex_text};
 
 use as4_values::{NoMemory, Octets};
+use byte_forms::digit_value;
 use std::alloc::Global;
 
 /// Reads the digits of bytes.
@@ -33,20 +34,7 @@ fn byte_of(high: u8, low: u8) -> Option<u8>
     ensures found { IfSome result (λ byte. (high ≡ hex_digit (byte / 16)) × (low ≡ hex_digit (byte % 16))) }
     ensures only { (byte : ℕ) → byte < 256 → high ≡ hex_digit (byte / 16) → low ≡ hex_digit (byte % 16) → result ≡ Some byte }
 {
-    let high = digit_of(high)?;
-    let low = digit_of(low)?;
+    let high = digit_value(high)?;
+    let low = digit_value(low)?;
     Some(high * 16 + low)
-}
-
-// Reads a digit.
-fn digit_of(digit: u8) -> Option<u8>
-    ensures found { IfSome result (λ value. digit ≡ hex_digit value) }
-    ensures range { IfSome result (λ value. value < 16) }
-    ensures only { (value : ℕ) → value < 16 → digit ≡ hex_digit value → result ≡ Some value }
-{
-    match digit {
-        b'0'..=b'9' => Some(digit - b'0'),
-        b'a'..=b'f' => Some(digit - 87),
-        _ => None,
-    }
 }

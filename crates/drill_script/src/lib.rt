@@ -15,4 +15,4 @@ pub use line::{EndName, Line, ScriptLoad, Stoppable, Way};
 pub use lines::{LINE_LIMIT, LineGot, LineReader};
 pub use load::MAX_SIZE;
 pub use reading::{MAX_PERIOD, MAX_RETRIES, line_of, one_line};
-pub use words::{MAX_CALL, decimal_of};
+pub use words::MAX_CALL;

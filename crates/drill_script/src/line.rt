@@ -1,54 +1,55 @@
+//! The lines of a drill script.
 use as4_disk::Pick;
 use as4_values::Octets;
 
-/// One of the two ends.
+/// One of the two endpoints.
 #[derive(Clone, Copy, Debug, PartialEq, Eq)]
 pub enum EndName {
     A,
     B,
 }
 
-/// How the messages of a mode go over.
+/// How the messages of a mode are sent.
 #[derive(Clone, Copy, Debug, PartialEq, Eq)]
 pub enum Way {
     Push,
     Pull,
 }
 
-/// What a message carries.
+/// The payload of a message.
 #[derive(Drop)]
 pub enum ScriptLoad {
     Nothing,
     /// These bytes.
     Hex(Octets),
-    /// So many bytes; the one at place i is i mod 251.
+    /// This many bytes; the byte at index i is i mod 251.
     Size(u32),
 }
 
 /// A line that can be stopped.
 #[derive(Drop)]
 pub enum Stoppable {
-    /// A message is handed in.
+    /// A message is submitted.
     Submit {
         end: EndName,
         mode: Octets,
         load: ScriptLoad,
     },
-    /// The end's clock is set.
+    /// The endpoint's clock is set.
     Tick {
         end: EndName,
         moment: u64,
     },
-    /// The next message that is pushed is sent.
+    /// The next message to be pushed is sent.
     Take {
         end: EndName,
     },
-    /// The package of this number that the other end sent comes.
+    /// The package of this number from the other endpoint arrives.
     Came {
         end: EndName,
         package: u64,
     },
-    /// The messages in the inbox up to this one are taken over.
+    /// The messages in the inbox up to this number are confirmed.
     Confirm {
         end: EndName,
         number: u64,
@@ -58,14 +59,14 @@ pub enum Stoppable {
 /// A line of a script.
 #[derive(Drop)]
 pub enum Line {
-    /// Both ends have this mode.
+    /// Both endpoints have this mode.
     Mode {
         name: Octets,
         way: Way,
         retries: u32,
         period: u64,
     },
-    /// It runs to its end.
+    /// The line runs to its end.
     Run(Stoppable),
     /// A pull request is sent.
     Ask {
@@ -78,7 +79,7 @@ pub enum Line {
         mode: Octets,
         number: u64,
     },
-    /// The package of this number that the other end sent comes, and what the end answers is lost.
+    /// The package of this number from the other endpoint arrives, and the reply is lost.
     Lost {
         end: EndName,
         package: u64,
@@ -88,23 +89,23 @@ pub enum Line {
         end: EndName,
         number: u64,
     },
-    /// What became of the submission of this number.
+    /// The status of the submission of this number is reported.
     Status {
         end: EndName,
         number: u64,
     },
-    /// The power of the end fails, and its disk is opened again.
+    /// The endpoint loses power, and its disk is opened again.
     Crash {
         end: EndName,
     },
-    /// The line's device call of this number acts and then fails, and all later ones fail. What it answers is lost, and
-    /// the image of the pick is opened.
+    /// The line's device call of this number takes effect and then fails, and so do all later ones. The reply is lost,
+    /// and the image of the pick is opened.
     Stop {
         call: u8,
         pick: Pick,
         line: Stoppable,
     },
-    /// The end's journal is folded.
+    /// The endpoint's journal is compacted.
     Fold {
         end: EndName,
     },

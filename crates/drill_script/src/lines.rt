@@ -1,13 +1,13 @@
 //! A source, line by line.
 //!
-//!     bytes  LF  bytes  LF  ..      each line ends in an LF, which is no part of it
+//!     bytes  LF  bytes  LF  ..      each line ends in an LF, which isn't part of the line
 //!
-//! The buffer has the lines that were given out, and then what the reader holds. Before a read what it
-//! holds moves to the front, so that each byte is moved once and searched for an LF once.
+//! The buffer has the lines that were returned, followed by the bytes that the reader holds. Before a read, the held
+//! bytes move to the start. So each byte is moved once, and is searched for an LF once.
 ghost use Rattle.std.specs.Prelude.{◌≡◌, ◌≢◌, ℕ, [], ◌+◌, ◌++◌, ◌<◌, ◌≤◌, length, take, drop, IfOk, OnOk};
 ghost use Rattle.std.specs.Result.{OnErr};
 ghost use Rattle.as4_flow.specs.Flow.{Rose, Told, before};
-ghost use Rattle.drill_script.specs.Lacking.{Lacks, parted};
+ghost use Rattle.byte_forms.specs.Parted.{Lacks, parted};
 
 use crate::pieces::{drop_front, front_of, read_piece};
 use as4_flow::Source;
@@ -15,29 +15,29 @@ use as4_values::Octets;
 use std::alloc::Global;
 use std::marker::Model;
 
-/// The most bytes that a line has, without its LF.
+/// The maximum number of bytes of a line, without its LF.
 pub const LINE_LIMIT: usize = 1 << 20;
 
 const _: () = prove!(LINE_LIMIT == 1048576);
 
-/// What a reader of lines answers.
+/// The result of a reader of lines.
 #[derive(Drop)]
 pub enum LineGot {
     /// The next line, without its LF.
     Line(Octets),
-    /// Nothing is left.
+    /// The source has ended, and nothing is held.
     End,
-    /// The source has ended, and the bytes behind the last LF are held.
+    /// The source has ended, and the reader holds bytes after the last LF.
     Unended,
-    /// More bytes than the limit stand before the next LF. Each later call says the same.
+    /// More bytes than the limit precede the next LF. Each later call returns the same.
     TooLong,
-    /// The source failed. The next call goes on where this one would have.
+    /// The source failed. The next call continues where this one stopped.
     Failed,
-    /// There was no memory. The next call goes on where this one would have.
+    /// Out of memory. The next call continues where this one stopped.
     NoMemory,
 }
 
-/// What stands at the front of some bytes.
+/// The prefix of some bytes.
 #[derive(Clone, Copy, Debug, PartialEq, Eq)]
 pub(crate) enum Front {
     /// A line of this many bytes, and its LF.
@@ -48,7 +48,7 @@ pub(crate) enum Front {
     TooLong,
 }
 
-/// What became of a read.
+/// The result of a read.
 #[derive(Clone, Copy, Debug, PartialEq, Eq)]
 pub(crate) enum Filled {
     Gave,
@@ -57,12 +57,12 @@ pub(crate) enum Filled {
     NoMemory,
 }
 
-/// Gives the lines of a source. Contracts see it as the bytes that it holds.
+/// Reads the lines of a source. In contracts, its value is the bytes that it holds.
 #[derive(Drop)]
 pub struct LineReader {
     alloc: Global,
     buffer: Vec<u8>,
-    // How many of the bytes were given out.
+    // The number of bytes that were returned.
     start: usize,
 }
 
@@ -81,7 +81,7 @@ impl LineReader {
     ghost use Rattle.drill_script.specs.Lines.{IfLine, IsAhead, OnNoLine, BeginsLong, ahead_limit};
     ghost use Rattle.drill_script.specs.Fronts.{Has, MatchFilled};
 
-    /// A reader that holds nothing. It takes no memory.
+    /// A reader that holds nothing. It doesn't allocate.
     pub fn new(alloc: Global) -> LineReader
         ensures { result ≡ [] }
     {
@@ -92,7 +92,7 @@ impl LineReader {
         }
     }
 
-    /// The next line of the source. What comes behind the line is held for the next call.
+    /// The next line of the source. The bytes after the line are held for the next call.
     #[tactic(auto, using(crate::proofs::FrontLemmas::never_long_line, crate::proofs::FrontLemmas::never_long_short))]
     pub fn next<S: Source>(&mut self, source: &mut S) -> LineGot
         ensures line { IfLine result
@@ -106,14 +106,14 @@ impl LineReader {
         ensures too_long { result ≡ LineGot.TooLong → Told (before self.old (S.left source.old)) BeginsLong }
         ensures failed { result ≡ LineGot.Failed → Rose (S.faults source.old) (S.faults source.new) }
 
-        // What is too long among what is held is told so, and takes no memory.
+        // If the held bytes begin too long, the reader reports it without allocating.
         ensures long { BeginsLong self.old → result ≡ LineGot.TooLong }
 
-        // Where no line came, nothing is lost.
+        // If no line is returned, no byte is lost.
         ensures kept { OnNoLine result (before self.new (S.left source.new) ≡ before self.old (S.left source.old)) }
         ensures counted { S.faults source.old ≤ S.faults source.new }
 
-        // No fault is read over, and no more is held than a line and a piece have.
+        // The reader reports each fault, and holds at most as many bytes as a line and a piece.
         ensures quiet { result ≢ LineGot.Failed → S.faults source.new ≡ S.faults source.old }
         ensures ahead { length self.old ≤ ahead_limit → IsAhead result self.new }
     {
@@ -135,14 +135,14 @@ impl LineReader {
         }
     }
 
-    // How many bytes it holds.
+    // The number of bytes that it holds.
     fn len(&self) -> usize
         ensures { result ≡ length self.now }
     {
         self.buffer.len() - self.start
     }
 
-    // What stands at the front of what it holds, of which this many bytes were searched.
+    // The prefix of the bytes that it holds, the first `scanned` of which were searched.
     fn front(&self, scanned: usize) -> Front
         requires within { scanned ≤ length self.now }
         requires lacks { Lacks 10 (take scanned self.now) }
@@ -151,7 +151,7 @@ impl LineReader {
         front_of(&self.buffer[self.start..], scanned)
     }
 
-    // Gives out the line of this many bytes.
+    // Returns the line of this many bytes.
     fn line(&mut self, at: usize) -> LineGot
         requires { at < length self.old }
         ensures line { IfLine result (λ line. line ≡ take at self.old) }
@@ -168,7 +168,7 @@ impl LineReader {
         }
     }
 
-    // Reads a piece of the source, behind what it holds.
+    // Reads a piece of the source, after the bytes that it holds.
     fn fill<S: Source>(&mut self, source: &mut S) -> Filled
         requires { length self.old ≤ line_limit }
         ensures whole { before self.old (S.left source.old) ≡ before self.new (S.left source.new) }

@@ -1,4 +1,4 @@
-//! What a message carries, as a word: none, hex=DIGITS or size=S.
+//! The load of a message, as a word: none, hex=DIGITS or size=S.
 ghost use Rattle.std.specs.Prelude.{◌≡◌, ℕ, ◌≤◌, Some, IfOk, IfSome, IsTrue};
 ghost use Rattle.std.specs.Fmt.{decimal};
 ghost use Rattle.drill_script.specs.LineText.{load_text, is_load};
@@ -7,16 +7,17 @@ ghost use Rattle.drill_script.specs.declared.line.ScriptLoad.{ScriptLoad};
 
 use crate::hex::hex_of;
 use crate::line::ScriptLoad;
-use crate::words::{cut, number_of};
+use crate::words::number_of;
 use as4_values::NoMemory;
+use byte_forms::cut_at;
 use std::alloc::Global;
 
-/// How many bytes a load that is told by its size has at most.
+/// The maximum number of bytes of a load that is given by its size.
 pub const MAX_SIZE: u64 = 16_777_216;
 
 const _: () = prove!(MAX_SIZE == 16777216);
 
-/// Reads what a message carries.
+/// Reads a load.
 pub(crate) fn load_of(alloc: Global, word: &[u8]) -> Result<Option<ScriptLoad>, NoMemory>
     ensures found { IfOk result (λ read. IfSome read (λ load. (word.now ≡ load_text load) × IsTrue (is_load load))) }
     ensures only { (load : ScriptLoad) → word.now ≡ load_text load → IsTrue (is_load load)
@@ -25,13 +26,13 @@ pub(crate) fn load_of(alloc: Global, word: &[u8]) -> Result<Option<ScriptLoad>, 
     if word == b"none".as_slice() {
         return Ok(Some(ScriptLoad::Nothing));
     }
-    let Some((key, value)) = cut(b'=', word) else {
+    let Some((key, value)) = cut_at(b'=', word) else {
         return Ok(None);
     };
     keyed_of(alloc, key, value)
 }
 
-// Reads what a message carries where the word has a `=`.
+// Reads a load from a word with a `=`.
 fn keyed_of(alloc: Global, key: &[u8], value: &[u8]) -> Result<Option<ScriptLoad>, NoMemory>
     ensures found { IfOk result (λ read. IfSome read (IsKeyed key.now value.now)) }
     ensures only { (load : ScriptLoad) → IsKeyed key.now value.now load → IfOk result (λ read. read ≡ Some load) }

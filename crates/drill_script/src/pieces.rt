@@ -1,8 +1,8 @@
-//! The bytes that a reader of lines holds, and the pieces that it reads behind them.
+//! The bytes that a reader of lines holds, and the pieces that it reads after them.
 ghost use Rattle.std.specs.Prelude.{◌≡◌, ◌≢◌, [], ◌+◌, ◌<◌, ◌≤◌, length, take, drop};
 ghost use Rattle.as4_flow.specs.Flow.{Rose, Told, before};
 ghost use Rattle.drill_script.specs.Fronts.{Has, MatchFilled};
-ghost use Rattle.drill_script.specs.Lacking.{Lacks};
+ghost use Rattle.byte_forms.specs.Parted.{Lacks};
 ghost use Rattle.drill_script.specs.LineText.{line_limit};
 ghost use Rattle.drill_script.specs.Lines.{ahead_limit};
 
@@ -10,12 +10,12 @@ use crate::lines::{Filled, Front, LINE_LIMIT};
 use as4_flow::{Got, Source};
 use memchr::memchr;
 
-/// The most bytes that one read asks for.
+/// The maximum number of bytes that one read requests.
 const PIECE: usize = 1 << 16;
 
 const _: () = prove!(PIECE == 65536);
 
-/// What stands at the front of these bytes, of which this many were searched.
+/// The prefix of these bytes, the first `scanned` of which were searched.
 pub(crate) fn front_of(bytes: &[u8], scanned: usize) -> Front
     requires within { scanned ≤ length bytes.now }
     requires lacks { Lacks 10 (take scanned bytes.now) }
@@ -29,7 +29,7 @@ pub(crate) fn front_of(bytes: &[u8], scanned: usize) -> Front
     }
 }
 
-/// Drops this many bytes at the front.
+/// Drops the first `n` bytes.
 pub(crate) fn drop_front(bytes: &mut Vec<u8>, n: usize)
     requires { n ≤ length bytes.old.items }
     ensures { bytes.new.items ≡ drop n bytes.old.items }
@@ -42,7 +42,7 @@ pub(crate) fn drop_front(bytes: &mut Vec<u8>, n: usize)
     bytes.truncate(rest);
 }
 
-/// Reads a piece of the source behind these bytes.
+/// Reads a piece of the source after these bytes.
 pub(crate) fn read_piece<S: Source>(bytes: &mut Vec<u8>, source: &mut S) -> Filled
     requires { length bytes.old.items ≤ line_limit }
     ensures whole { before bytes.old.items (S.left source.old) ≡ before bytes.new.items (S.left source.new) }

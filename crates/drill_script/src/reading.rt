@@ -1,6 +1,6 @@
 //! A line, read from its bytes.
 //!
-//!     a word, a space, and the rest: the word tells the kind of line, and the kind how the rest is read
+//!     a word, a space, and the rest: the word gives the kind of the line, and the kind says how the rest is read
 ghost use Rattle.std.specs.Prelude.{◌≡◌, ℕ, ◌≤◌, Some, IfOk, IfSome, IsErr, IsTrue};
 ghost use Rattle.drill_script.specs.LineText.{line_text, is_line};
 ghost use Rattle.drill_script.specs.LineParts.{BeginsKept, IsKept, Spells, settings_text, counted_line};
@@ -12,18 +12,19 @@ use crate::line::{EndName, Line, Way};
 use crate::stoppable::{run_of, stoppable_of};
 use crate::verb::{Counted, RunVerb, Verb, read_verb};
 use crate::words::{
-    call_and, cut, end_and, end_and_number, end_of, may_name, name_and, number_and, number_of,
+    call_and, end_and, end_and_number, end_of, may_name, name_and, number_and, number_of,
     octets_of, pick_and, way_and,
 };
 use as4_values::NoMemory;
+use byte_forms::cut_at;
 use std::alloc::Global;
 
-/// How often a message is sent again at most.
+/// The maximum number of retries of a message.
 pub const MAX_RETRIES: u64 = 1_000;
 
 const _: () = prove!(MAX_RETRIES == 1000);
 
-/// The longest period between two sendings, in milliseconds.
+/// The longest period between two tries, in milliseconds.
 pub const MAX_PERIOD: u64 = 1_000_000_000;
 
 const _: () = prove!(MAX_PERIOD == 1000000000);
@@ -34,10 +35,10 @@ pub fn line_of(alloc: Global, bytes: &[u8]) -> Result<Option<Line>, NoMemory>
     ensures only { (line : Line) → bytes.now ≡ line_text line → IsTrue (is_line line)
         → IfOk result (λ read. read ≡ Some line) }
 
-    // Memory is wanted behind these first words alone.
+    // Only lines with these first words allocate.
     ensures lean { IsErr result → BeginsKept bytes.now }
 {
-    let Some((word, tail)) = cut(b' ', bytes) else {
+    let Some((word, tail)) = cut_at(b' ', bytes) else {
         return Ok(None);
     };
     let Some(verb) = read_verb(word) else {
@@ -46,12 +47,12 @@ pub fn line_of(alloc: Global, bytes: &[u8]) -> Result<Option<Line>, NoMemory>
     tail_of(alloc, verb, tail)
 }
 
-/// No text is that of two lines.
+/// A text is that of at most one line.
 pub fn one_line()
     ensures { (one other : Line) → IsTrue (is_line one) → IsTrue (is_line other) → line_text one ≡ line_text other → one ≡ other }
 {}
 
-// Reads what stands behind the first word.
+// Reads the rest after the first word.
 fn tail_of(alloc: Global, verb: Verb, tail: &[u8]) -> Result<Option<Line>, NoMemory>
     ensures found { IfOk result (λ read. IfSome read (Spells verb tail.now)) }
     ensures only { (line : Line) → Spells verb tail.now line → IfOk result (λ read. read ≡ Some line) }
@@ -105,7 +106,7 @@ fn settings_of(words: &[u8]) -> Option<(Way, u32, u64)>
     Some((way, retries as u32, period))
 }
 
-// Reads a line that can be stopped, and is not.
+// Reads a line that can be stopped, without a stop.
 #[tactic(auto, using(crate::proofs::SpellLemmas::run_spells))]
 fn run_line(alloc: Global, run: RunVerb, tail: &[u8]) -> Result<Option<Line>, NoMemory>
     ensures found { IfOk result (λ read. IfSome read (Spells (verb.Run run) tail.now)) }
@@ -118,7 +119,7 @@ fn run_line(alloc: Global, run: RunVerb, tail: &[u8]) -> Result<Option<Line>, No
     Ok(Some(Line::Run(line)))
 }
 
-// Reads the end that asks, and its mode.
+// Reads the endpoint that asks, and its mode.
 fn ask_of(alloc: Global, tail: &[u8]) -> Result<Option<Line>, NoMemory>
     ensures found { IfOk result (λ read. IfSome read (Spells verb.Ask tail.now)) }
     ensures only { (line : Line) → Spells verb.Ask tail.now line → IfOk result (λ read. read ≡ Some line) }
@@ -133,7 +134,7 @@ fn ask_of(alloc: Global, tail: &[u8]) -> Result<Option<Line>, NoMemory>
     Ok(Some(Line::Ask { end, mode }))
 }
 
-// Reads the end that asks, its mode, and the number of the message that is receipted.
+// Reads the endpoint that asks, its mode, and the number of the message to be receipted.
 fn pair_of(alloc: Global, tail: &[u8]) -> Result<Option<Line>, NoMemory>
     ensures found { IfOk result (λ read. IfSome read (Spells verb.Pair tail.now)) }
     ensures only { (line : Line) → Spells verb.Pair tail.now line → IfOk result (λ read. read ≡ Some line) }
@@ -151,7 +152,7 @@ fn pair_of(alloc: Global, tail: &[u8]) -> Result<Option<Line>, NoMemory>
     Ok(Some(Line::Pair { end, mode, number }))
 }
 
-// Reads an end and a number.
+// Reads an endpoint and a number.
 fn counted_of(counted: Counted, tail: &[u8]) -> Option<Line>
     ensures found { IfSome result (Spells (verb.Count counted) tail.now) }
     ensures only { (line : Line) → Spells (verb.Count counted) tail.now line → result ≡ Some line }
@@ -160,7 +161,7 @@ fn counted_of(counted: Counted, tail: &[u8]) -> Option<Line>
     Some(counted_line(counted, end, number))
 }
 
-// The line of an end and a number.
+// The line that names an endpoint and a number.
 fn counted_line(counted: Counted, end: EndName, number: u64) -> Line
     ensures { result ≡ counted_line counted end number }
 {
@@ -174,7 +175,7 @@ fn counted_line(counted: Counted, end: EndName, number: u64) -> Line
     }
 }
 
-// Reads the end whose power fails.
+// Reads the endpoint that loses power.
 #[tactic(auto, using(crate::proofs::SpellLemmas::crash_spells))]
 fn crash_of(tail: &[u8]) -> Option<Line>
     ensures found { IfSome result (Spells verb.Crash tail.now) }
@@ -201,7 +202,7 @@ fn stop_of(alloc: Global, tail: &[u8]) -> Result<Option<Line>, NoMemory>
     Ok(Some(Line::Stop { call, pick, line }))
 }
 
-// Reads the end whose journal is folded.
+// Reads the endpoint whose journal is compacted.
 #[tactic(auto, using(crate::proofs::SpellLemmas::fold_spells))]
 fn fold_of(tail: &[u8]) -> Option<Line>
     ensures found { IfSome result (Spells verb.Fold tail.now) }

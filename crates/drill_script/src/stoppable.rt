@@ -9,8 +9,9 @@ ghost use Rattle.drill_script.specs.declared.verb.Verb.TheVariants.{Run};
 use crate::line::Stoppable;
 use crate::load::load_of;
 use crate::verb::{RunVerb, read_run_verb};
-use crate::words::{cut, end_and, end_and_number, end_of, name_and, octets_of};
+use crate::words::{end_and, end_and_number, end_of, name_and, octets_of};
 use as4_values::{MAX_MOMENT, NoMemory};
+use byte_forms::cut_at;
 use std::alloc::Global;
 
 /// Reads a line that can be stopped.
@@ -19,7 +20,7 @@ pub(crate) fn stoppable_of(alloc: Global, bytes: &[u8]) -> Result<Option<Stoppab
     ensures only { (line : Stoppable) → bytes.now ≡ stoppable_text line → IsTrue (is_stoppable line)
         → IfOk result (λ read. read ≡ Some line) }
 {
-    let Some((word, tail)) = cut(b' ', bytes) else {
+    let Some((word, tail)) = cut_at(b' ', bytes) else {
         return Ok(None);
     };
     let Some(verb) = read_run_verb(word) else {
@@ -28,7 +29,7 @@ pub(crate) fn stoppable_of(alloc: Global, bytes: &[u8]) -> Result<Option<Stoppab
     run_of(alloc, verb, tail)
 }
 
-/// Reads what stands behind the first word of a line that can be stopped.
+/// Reads the rest after the first word of a line that can be stopped.
 pub(crate) fn run_of(
     alloc: Global,
     verb: RunVerb,
@@ -47,7 +48,7 @@ pub(crate) fn run_of(
     }
 }
 
-// Reads a submission: its end, its mode and what it carries.
+// Reads a submission: its endpoint, its mode and its load.
 fn submit_of(alloc: Global, tail: &[u8]) -> Result<Option<Stoppable>, NoMemory>
     ensures found { IfOk result (λ read. IfSome read (SpellsRun run.Submit tail.now)) }
     ensures only { (line : Stoppable) → SpellsRun run.Submit tail.now line → IfOk result (λ read. read ≡ Some line) }
@@ -65,7 +66,7 @@ fn submit_of(alloc: Global, tail: &[u8]) -> Result<Option<Stoppable>, NoMemory>
     Ok(Some(Stoppable::Submit { end, mode, load }))
 }
 
-// Reads the end whose clock is set, and the moment.
+// Reads the endpoint whose clock is set, and the moment.
 #[tactic(auto, using(crate::proofs::SpellLemmas::tick_spells))]
 fn tick_of(tail: &[u8]) -> Option<Stoppable>
     ensures found { IfSome result (SpellsRun run.Tick tail.now) }
@@ -78,7 +79,7 @@ fn tick_of(tail: &[u8]) -> Option<Stoppable>
     Some(Stoppable::Tick { end, moment })
 }
 
-// Reads the end that takes.
+// Reads the endpoint that sends its next message.
 #[tactic(auto, using(crate::proofs::SpellLemmas::take_spells))]
 fn take_of(tail: &[u8]) -> Option<Stoppable>
     ensures found { IfSome result (SpellsRun run.Take tail.now) }
@@ -88,7 +89,7 @@ fn take_of(tail: &[u8]) -> Option<Stoppable>
     Some(Stoppable::Take { end })
 }
 
-// Reads the end to which a package comes, and its number.
+// Reads the endpoint at which a package arrives, and its number.
 #[tactic(auto, using(crate::proofs::SpellLemmas::came_spells))]
 fn came_of(tail: &[u8]) -> Option<Stoppable>
     ensures found { IfSome result (SpellsRun run.Came tail.now) }
@@ -98,7 +99,7 @@ fn came_of(tail: &[u8]) -> Option<Stoppable>
     Some(Stoppable::Came { end, package })
 }
 
-// Reads the end that takes messages over, and the number of the last.
+// Reads the endpoint that confirms messages, and the number of the last one.
 #[tactic(auto, using(crate::proofs::SpellLemmas::confirm_spells))]
 fn confirm_of(tail: &[u8]) -> Option<Stoppable>
     ensures found { IfSome result (SpellsRun run.Confirm tail.now) }

@@ -11,7 +11,7 @@ pub(crate) enum RunVerb {
     Confirm,
 }
 
-/// The verbs that an end and a number follow, of lines that can't be stopped.
+/// The verbs that are followed by an endpoint and a number, of lines that can't be stopped.
 #[derive(Clone, Copy, Debug, PartialEq, Eq)]
 pub(crate) enum Counted {
     Lost,
@@ -19,7 +19,7 @@ pub(crate) enum Counted {
     Status,
 }
 
-/// What kind of line it is.
+/// The kind of a line.
 #[derive(Clone, Copy, Debug, PartialEq, Eq)]
 pub(crate) enum Verb {
     Mode,
@@ -89,7 +89,7 @@ pub(crate) fn read_run_verb(word: &[u8]) -> Option<RunVerb>
     None
 }
 
-// Reads another verb that an end and a number follow.
+// Reads another verb that is followed by an endpoint and a number.
 fn read_counted(word: &[u8]) -> Option<Counted>
     ensures found { IfSome result (λ counted. word.now ≡ counted_text counted) }
     ensures only { (counted : Counted) → word.now ≡ counted_text counted → result ≡ Some counted }

@@ -1,57 +1,24 @@
 //! The words of a line, one at a time.
 ghost use Rattle.std.specs.Prelude.{◌≡◌, ℕ, Some, List, ◌∷◌, ◌++◌, ◌<◌, ◌≤◌, ◌^◌, IfOk, IfSome, IsTrue};
 ghost use Rattle.std.specs.List.{list_all};
-ghost use Rattle.std.specs.Option.{IfNone, IsSomeAnd};
+ghost use Rattle.std.specs.Option.{IsSomeAnd};
 ghost use Rattle.std.specs.Fmt.{decimal};
-ghost use Rattle.drill_script.specs.Lacking.{Lacks, parted, spaced};
+ghost use Rattle.drill_script.specs.Lacking.{spaced};
 ghost use Rattle.drill_script.specs.LineText.{end_text, way_text, pick_text, is_drill_byte, is_name};
 ghost use Rattle.as4_disk.specs.declared.change.Pick.{Pick};
 
 use crate::line::{EndName, Way};
 use as4_disk::Pick;
 use as4_values::{NoMemory, Octets};
-use itoa::Buffer;
-use memchr::memchr;
+use byte_forms::{cut_at, decimal_of};
 use std::alloc::Global;
-use std::str;
 
-/// The last device call at which a line may be stopped, the first being 1.
+/// The last device call at which a line may be stopped; the first is 1.
 pub const MAX_CALL: u64 = 4;
 
 const _: () = prove!(MAX_CALL == 4);
 
-/// Cuts bytes at the first place of a byte.
-pub(crate) fn cut(byte: u8, bytes: &[u8]) -> Option<(&[u8], &[u8])>
-    ensures found { IfSome result (λ parts. bytes.now ≡ parted byte parts.0.now parts.1.now) }
-    ensures first { IfSome result (λ parts. Lacks byte parts.0.now) }
-    ensures none { IfNone result (Lacks byte bytes.now) }
-    ensures only { (front rest : List ℕ) → Lacks byte front → bytes.now ≡ parted byte front rest
-        → IsSomeAnd result (λ parts. (parts.0.now ≡ front) × (parts.1.now ≡ rest)) }
-{
-    let at = memchr(byte, bytes)?;
-    Some((&bytes[..at], &bytes[at + 1..]))
-}
-
-/// Reads a decimal number without sign and without leading zeros: one that is printed as this word.
-pub fn decimal_of(word: &[u8]) -> Option<u128>
-    ensures found { IfSome result (λ number. word.now ≡ decimal number) }
-    ensures range { IfSome result (λ number. number < 2 ^ 128) }
-    ensures only { (number : ℕ) → number < 2 ^ 128 → word.now ≡ decimal number → result ≡ Some number }
-{
-    let Ok(text) = str::from_utf8(word) else {
-        return None;
-    };
-    let Ok(number) = text.parse::<u128>() else {
-        return None;
-    };
-    let mut buffer = Buffer::new();
-    if buffer.format(number).as_bytes() != word {
-        return None;
-    }
-    Some(number)
-}
-
-/// Reads such a number of 64 bits.
+/// Reads a decimal number of 64 bits.
 pub(crate) fn number_of(word: &[u8]) -> Option<u64>
     ensures found { IfSome result (λ number. word.now ≡ decimal number) }
     ensures range { IfSome result (λ number. number < 2 ^ 64) }
@@ -60,7 +27,7 @@ pub(crate) fn number_of(word: &[u8]) -> Option<u64>
     u64::try_from(decimal_of(word)?).ok()
 }
 
-/// Whether these bytes name a mode: 1 to 32 of a to z and 0 to 9.
+/// Whether these bytes may name a mode: 1 to 32 of a to z and 0 to 9.
 #[tactic(auto, unfolding(crate::specs::LineText::is_name))]
 pub(crate) fn may_name(word: &[u8]) -> bool
     ensures { result ≡ is_name word.now }
@@ -78,7 +45,7 @@ fn has_name_bytes(word: &[u8]) -> bool
     word.iter().all(|byte| (97 <= *byte && *byte <= 122) || (48 <= *byte && *byte <= 57))
 }
 
-/// Reads the name of an end.
+/// Reads the name of an endpoint.
 pub(crate) fn end_of(word: &[u8]) -> Option<EndName>
     ensures found { IfSome result (λ end. word.now ≡ end_text end) }
     ensures only { (end : EndName) → word.now ≡ end_text end → result ≡ Some end }
@@ -123,31 +90,31 @@ fn pick_of(word: &[u8]) -> Option<Pick>
     None
 }
 
-/// Reads an end, and gives what stands behind it.
+/// Reads an endpoint, and returns the rest.
 #[tactic(auto, using(crate::proofs::WordLemmas::end_unspaced))]
 pub(crate) fn end_and(words: &[u8]) -> Option<(EndName, &[u8])>
     ensures found { IfSome result (λ parts. words.now ≡ spaced (end_text parts.0) parts.1.now) }
     ensures only { (end : EndName) (rest : List ℕ) → words.now ≡ spaced (end_text end) rest
         → IsSomeAnd result (λ parts. (parts.0 ≡ end) × (parts.1.now ≡ rest)) }
 {
-    let (word, rest) = cut(b' ', words)?;
+    let (word, rest) = cut_at(b' ', words)?;
     let end = end_of(word)?;
     Some((end, rest))
 }
 
-/// Reads a way, and gives what stands behind it.
+/// Reads a way, and returns the rest.
 #[tactic(auto, using(crate::proofs::WordLemmas::way_unspaced))]
 pub(crate) fn way_and(words: &[u8]) -> Option<(Way, &[u8])>
     ensures found { IfSome result (λ parts. words.now ≡ spaced (way_text parts.0) parts.1.now) }
     ensures only { (way : Way) (rest : List ℕ) → words.now ≡ spaced (way_text way) rest
         → IsSomeAnd result (λ parts. (parts.0 ≡ way) × (parts.1.now ≡ rest)) }
 {
-    let (word, rest) = cut(b' ', words)?;
+    let (word, rest) = cut_at(b' ', words)?;
     let way = way_of(word)?;
     Some((way, rest))
 }
 
-/// Reads a number, and gives what stands behind it.
+/// Reads a number, and returns the rest.
 #[tactic(auto, using(crate::proofs::WordLemmas::decimal_unspaced))]
 pub(crate) fn number_and(words: &[u8]) -> Option<(u64, &[u8])>
     ensures found { IfSome result (λ parts. words.now ≡ spaced (decimal parts.0) parts.1.now) }
@@ -155,12 +122,12 @@ pub(crate) fn number_and(words: &[u8]) -> Option<(u64, &[u8])>
     ensures only { (number : ℕ) (rest : List ℕ) → number < 2 ^ 64 → words.now ≡ spaced (decimal number) rest
         → IsSomeAnd result (λ parts. (parts.0 ≡ number) × (parts.1.now ≡ rest)) }
 {
-    let (word, rest) = cut(b' ', words)?;
+    let (word, rest) = cut_at(b' ', words)?;
     let number = number_of(word)?;
     Some((number, rest))
 }
 
-/// Reads an end and a number.
+/// Reads an endpoint and a number.
 pub(crate) fn end_and_number(words: &[u8]) -> Option<(EndName, u64)>
     ensures found { IfSome result (λ parts. words.now ≡ spaced (end_text parts.0) (decimal parts.1)) }
     ensures range { IfSome result (λ parts. parts.1 < 2 ^ 64) }
@@ -172,7 +139,7 @@ pub(crate) fn end_and_number(words: &[u8]) -> Option<(EndName, u64)>
     Some((end, number))
 }
 
-/// Reads the number of a device call, and gives what stands behind it.
+/// Reads the number of a device call, and returns the rest.
 pub(crate) fn call_and(words: &[u8]) -> Option<(u8, &[u8])>
     ensures found { IfSome result (λ parts. words.now ≡ spaced (decimal parts.0) parts.1.now) }
     ensures range { IfSome result (λ parts. (1 ≤ parts.0) × (parts.0 ≤ 4)) }
@@ -186,19 +153,19 @@ pub(crate) fn call_and(words: &[u8]) -> Option<(u8, &[u8])>
     Some((call as u8, rest))
 }
 
-/// Reads a pick, and gives what stands behind it.
+/// Reads a pick, and returns the rest.
 #[tactic(auto, using(crate::proofs::WordLemmas::pick_unspaced))]
 pub(crate) fn pick_and(words: &[u8]) -> Option<(Pick, &[u8])>
     ensures found { IfSome result (λ parts. words.now ≡ spaced (pick_text parts.0) parts.1.now) }
     ensures only { (pick : Pick) (rest : List ℕ) → words.now ≡ spaced (pick_text pick) rest
         → IsSomeAnd result (λ parts. (parts.0 ≡ pick) × (parts.1.now ≡ rest)) }
 {
-    let (word, rest) = cut(b' ', words)?;
+    let (word, rest) = cut_at(b' ', words)?;
     let pick = pick_of(word)?;
     Some((pick, rest))
 }
 
-/// Reads the name of a mode, and gives what stands behind it.
+/// Reads the name of a mode, and returns the rest.
 #[tactic(auto, using(crate::proofs::WordLemmas::name_unspaced))]
 pub(crate) fn name_and(words: &[u8]) -> Option<(&[u8], &[u8])>
     ensures found { IfSome result (λ parts. words.now ≡ spaced parts.0.now parts.1.now) }
@@ -206,7 +173,7 @@ pub(crate) fn name_and(words: &[u8]) -> Option<(&[u8], &[u8])>
     ensures only { (name rest : List ℕ) → IsTrue (is_name name) → words.now ≡ spaced name rest
         → IsSomeAnd result (λ parts. (parts.0.now ≡ name) × (parts.1.now ≡ rest)) }
 {
-    let (word, rest) = cut(b' ', words)?;
+    let (word, rest) = cut_at(b' ', words)?;
     if !may_name(word) {
         return None;
     }

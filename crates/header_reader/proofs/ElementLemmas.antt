@@ -1,4 +1,4 @@
--- Children of a name, as a loop over all children finds them.
+-- The children with a name, as a loop over all children finds them.
 use Rattle.std.proofs.Common.{◌≡◌, ℕ, ◌+◌, ◌<◌, List, [], ◌∷◌, ◌++◌, true, length, take, drop, get_or, refl, sym, ap, ◌∙◌}
 use Rattle.std.specs.Prelude.{Option, Some, None, is_some, option_map}
 use Rattle.std.specs.Option.{option_to_list}
@@ -10,7 +10,7 @@ use Rattle.header_reader.specs.declared.names.ElementName.{ElementName}
 use Rattle.byte_forms.specs.Cuts.{◌>>=◌}
 use Rattle.header_reader.specs.Elements.{is_named, named, at_most_one}
 
--- the children from this one on
+-- the children from this index on
 
 named_yes : (name : ElementName) (es : List Element) (i : ℕ) (d : Element) → i < length es → is_named name (get_or es i d) ≡ true
     → named name (drop i es) ≡ get_or es i d ∷ named name (drop (i + 1) es)
@@ -24,12 +24,12 @@ two_named name es i d e within front is =
     ∙ ap (λ xs. xs ++ named name (drop i es)) front ∙ ap (λ xs. e ∷ xs) (named_yes name es i d within is) in
     rw whole refl
 
--- what was read, and what more is read behind it
+-- the values read so far, followed by the further ones
 
 abbrev pub behind : {X : Type 0} → List X → Option (List X) → Option (List X)
 behind front more = more >>= λ xs. Some (front ++ xs)
 
--- a second one is found
+-- a second child of this name is found
 pub found_again : {B : Type 0} (value : B → Element) (name : ElementName) (es : List Element) (i : ℕ) (d : Element) (found : Option B) → i < length es
     → named name (take i es) ≡ option_to_list (option_map value found) → is_some found ≡ true → is_named name (get_or es i d) ≡ true → None ≡ at_most_one (named name es)
 found_again value name es i d None within front some is = absurd (false≢true some)

@@ -1,4 +1,4 @@
--- What is known where nothing is found.
+-- Facts for the case that nothing is found.
 use Rattle.std.proofs.Common.{◌≡◌, false, sym}
 use Rattle.std.specs.Prelude.{Option, Some, None, is_some, MatchOption}
 use Rattle.std.proofs.lemmas.Bool.{false≢true}

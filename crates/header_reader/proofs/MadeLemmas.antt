@@ -1,4 +1,4 @@
--- A value whose type keeps a fact is the one that is made of its fields.
+-- A value whose type keeps a fact equals the one made from its fields.
 use Rattle.std.proofs.Common.{◌≡◌, ℕ, List, Bool, true, false, length, refl, sym, ap}
 use Rattle.std.specs.Prelude.{Option, Some, None, nat_le, nat_lt, ◌&&◌}
 use Rattle.std.proofs.Props.{props}
@@ -64,7 +64,7 @@ no_part href properties not_so = made_not (nat_le (length properties) 256) _ not
 few_both : (properties : List Property) (parts : List PartInfo) (a b : IsPropertyCount properties × IsPartCount parts) → a ≡ b
 few_both properties parts = hlevel props
 
--- what stands in the three parts of a header
+-- the three parts of a header
 abbrev pub header_parts : UserHeader → MessageInfo × PartyInfo × CollaborationInfo
 header_parts h = (
   record { stamp = h.stamp; id = h.id; ref_to = h.ref_to },

@@ -8,7 +8,8 @@ use Rattle.header_reader.specs.Gives.{Gives}
 use Rattle.header_reader.specs.Signals.{default_channel}
 use Rattle.header_reader.specs.declared.refusal.HeaderRefusal.{HeaderRefusal}
 use Rattle.header_reader.specs.declared.refusal.HeaderRefusal.TheVariants.{Invalid, Unsupported, NoMemory}
-use Rattle.header_reader.specs.Values.{end_of, trimmed, is_text, read_by, text_of}
+use Rattle.header_reader.specs.Values.{is_text, read_by, text_of}
+use Rattle.byte_forms.specs.Trimmed.{end_of, trimmed}
 
 pub default_is_text : text_of default_channel ≡ Some default_channel
 unfolding default_channel end_of trimmed is_text is_xml read_by chars encode_utf8

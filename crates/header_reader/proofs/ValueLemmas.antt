@@ -1,4 +1,4 @@
--- What stands between blanks, and the tests of values.
+-- The bytes between blanks, and the tests of values.
 use Rattle.std.proofs.Common.{◌≡◌, ℕ, zero, suc, ◌+◌, ◌-◌, ◌<◌, ◌≤◌, inl, inr, List, [], ◌∷◌, ◌++◌, Bool, true, false, length, take, drop, arith, refl, sym, ap, ◌∙◌}
 use Rattle.std.specs.Prelude.{IsTrue, slice_index, Option, Some, None, is_none, nat_le, ◌&&◌, ◌||◌, ◌==◌, codes}
 use Rattle.std.specs.List.{prefix_len, list_all, list_any, Contains}
@@ -9,92 +9,17 @@ use Rattle.std.proofs.lemmas.List.Sums.{prefix_len_passes, prefix_len_stops, pre
 use Rattle.std.proofs.lemmas.List.Folds.{list_any_at, Any-from_list_any}
 use Rattle.std.specs.Cmp.Lexicographic.{pointwise}
 use Rattle.as4_values.specs.Stamp.{IsStamp, fits_byte, fraction_form, zone_forms, wrong_field}
-use Rattle.as4_values.specs.Texts.{is_blank, is_xml, text_limit, HasCore, Spells}
+use Rattle.as4_values.specs.Texts.{is_xml, text_limit, HasCore, Spells}
+use Rattle.byte_forms.specs.Classes.{is_blank}
 use Rattle.as4_values.specs.Word.{IsWord, allows, limit_of}
 use Rattle.as4_values.specs.declared.word.Word.{Word}
-use Rattle.as4_values.proofs.TextLemmas.{Cut, cut_between, cut_of, core_at, one_core}
+use Rattle.as4_values.proofs.TextLemmas.{Cut, cut_here, cut_of, core_at, one_core}
+use Rattle.byte_forms.proofs.TrimLemmas.{end_is, part_between}
 use Rattle.as4_values.proofs.XmlTests.{xml_tested, xml_found}
-use Rattle.header_reader.specs.Values.{end_of, trimmed, is_text, is_word, has_form, any_below, is_stamp, read_by, text_of}
-
--- the end
-
-pub end_more : (bytes : List ℕ) (n : ℕ) → is_blank (slice_index bytes n) ≡ true → end_of bytes (suc n) ≡ end_of bytes n
-unfolding end_of
-end_more bytes n blank = rw blank refl
-
-pub end_stays : (bytes : List ℕ) (n : ℕ) → is_blank (slice_index bytes n) ≡ false → end_of bytes (suc n) ≡ suc n
-unfolding end_of
-end_stays bytes n blank = rw blank refl
-
-pub end_none : (bytes : List ℕ) → end_of bytes 0 ≡ 0
-unfolding end_of
-end_none bytes = refl
-
-pub end_within : (bytes : List ℕ) (n : ℕ) → end_of bytes n ≤ n
-end_within bytes zero = omega (arith, end_none bytes)
-end_within bytes (suc n) =
-    elim (cases_Bool (is_blank (slice_index bytes n))) [
-      | inl blank ↦ omega (arith, end_more bytes n blank, end_within bytes n)
-      | inr other ↦ omega (arith, end_stays bytes n other)
-    ]
-
-end_blank : (bytes : List ℕ) (n k : ℕ) → end_of bytes n ≤ k → k < n → is_blank (slice_index bytes k) ≡ true
-end_blank bytes zero k above below = absurd (omega arith)
-end_blank bytes (suc n) k above below =
-    elim (cases_Bool (is_blank (slice_index bytes n))) [
-      | inl blank ↦ elim (cases_lt k n) [
-        | inl less ↦ end_blank bytes n k (omega (arith, end_more bytes n blank)) less
-        | inr last ↦ let here : n ≡ k = omega arith in rw (← here) blank
-      ]
-      | inr other ↦ absurd (omega (arith, end_stays bytes n other))
-    ]
-
-end_stops : (bytes : List ℕ) (n : ℕ) → 0 < end_of bytes n → is_blank (slice_index bytes (end_of bytes n - 1)) ≡ false
-end_stops bytes zero some = absurd (omega (arith, end_none bytes))
-end_stops bytes (suc n) some =
-    elim (cases_Bool (is_blank (slice_index bytes n))) [
-      | inl blank ↦ let more = end_more bytes n blank in rw more (end_stops bytes n (omega arith))
-      | inr other ↦ let here : end_of bytes (suc n) - 1 ≡ n = omega (arith, end_stays bytes n other) in rw here other
-    ]
-
-end_is : (bytes : List ℕ) (e n : ℕ) → e ≤ n → ((k : ℕ) → e ≤ k → k < n → is_blank (slice_index bytes k) ≡ true) → (0 < e → is_blank (slice_index bytes (e - 1)) ≡ false) → end_of bytes n ≡ e
-end_is bytes e n le blank last =
-    let within : end_of bytes n ≤ n = end_within bytes n in
-    elim (cases_lt (end_of bytes n) e) as (λ _. end_of bytes n ≡ e) [
-      | inl less ↦ absurd (false≢true (sym (last (omega arith)) ∙ end_blank bytes n (e - 1) (omega arith) (omega arith)))
-      | inr rest ↦ elim (cases_lt e (end_of bytes n)) as (λ _. end_of bytes n ≡ e) [
-        | inl more ↦ absurd (false≢true (sym (end_stops bytes n (omega arith)) ∙ blank (end_of bytes n - 1) (omega arith) (omega arith)))
-        | inr same ↦ omega arith
-      ]
-    ]
-
--- one step of the loop that looks for the end
-pub end_step : (bytes : List ℕ) (n : ℕ) → 0 < n → is_blank (slice_index bytes (n - 1)) ≡ true → end_of bytes (n - 1) ≡ end_of bytes n
-end_step bytes zero some blank = absurd (omega arith)
-end_step bytes (suc n) some blank =
-    let here : suc n - 1 ≡ n = omega arith in
-    let is : is_blank (slice_index bytes n) ≡ true = rw here at blank in
-    rw here (sym (end_more bytes n is))
-
-pub end_here : (bytes : List ℕ) (n : ℕ) → 0 < n → is_blank (slice_index bytes (n - 1)) ≡ false → end_of bytes n ≡ n
-end_here bytes zero some blank = absurd (omega arith)
-end_here bytes (suc n) some blank =
-    let here : suc n - 1 ≡ n = omega arith in
-    let is : is_blank (slice_index bytes n) ≡ false = rw here at blank in
-    end_stays bytes n is
+use Rattle.header_reader.specs.Values.{is_text, is_word, has_form, any_below, is_stamp, read_by, text_of}
+use Rattle.byte_forms.specs.Trimmed.{end_of, trimmed}
 
 -- between the blanks
-
-pub part_between : (bytes : List ℕ) (start end : ℕ) → end ≤ start → [] ≡ take (end - start) (drop start bytes)
-part_between bytes start end none = let nothing : end - start ≡ 0 = omega arith in rw nothing refl
-
-cut_here : (bytes : List ℕ) → prefix_len is_blank bytes < end_of bytes (length bytes) → Cut bytes (prefix_len is_blank bytes) (end_of bytes (length bytes))
-cut_here bytes some =
-    cut_between bytes (prefix_len is_blank bytes) (end_of bytes (length bytes)) some (end_within bytes (length bytes))
-    (λ k d low high. prefix_len_passes is_blank bytes k d high)
-    (λ k d low high. rw (get_or_default bytes k d 0 high) (end_blank bytes (length bytes) k low high))
-    (λ short. prefix_len_stops is_blank bytes 0 short)
-    (λ last. end_stops bytes (length bytes) last)
 
 pub core_is_trimmed : (bytes core : List ℕ) (at : ℕ) → HasCore bytes core at → trimmed bytes ≡ core
 unfolding trimmed
@@ -145,7 +70,7 @@ text_found bytes passes =
       (prefix_len is_blank bytes, has),
     )
 
--- what passes no test isn't read
+-- bytes that fail the test are not read
 unread : (test : List ℕ → Bool) (bytes : List ℕ) → (test (trimmed bytes) ≡ true → ⊥) → read_by test bytes ≡ None
 unfolding read_by
 unread test bytes none =

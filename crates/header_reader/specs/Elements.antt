@@ -1,4 +1,4 @@
--- What stands in an element, by the expanded names of its attributes and children (Namespaces in XML 1.0, section 2.1).
+-- The content of an element, by the expanded names of its attributes and children (Namespaces in XML 1.0, section 2.1).
 use Rattle.std.specs.Prelude.{ℕ, List, [], ◌∷◌, Bool, not, ◌&&◌, ◌||◌, ◌==◌, if◌then◌else◌, Option, Some, None, option_map, length, bytes_eq}
 use Rattle.std.specs.List.{filter, find, list_all, list_any}
 use Rattle.as4_envelope.specs.Tree.{ebms}
@@ -21,11 +21,11 @@ text_in e = (out-Element e).text
 abbrev pub is_plain : AttributeName → Attribute → Bool
 is_plain name a = length a.space == 0 && bytes_eq a.local (attribute_name name)
 
--- the value of that attribute, where the element has one
+-- the value of that attribute, if the element has one
 unfoldable pub attribute_of : AttributeName → Element → Option (List ℕ)
 attribute_of name e = option_map (λ a. a.value) (find (is_plain name) (out-Element e).attributes)
 
--- an attribute that may be left out
+-- an optional attribute
 abbrev pub optional_value : {X : Type 0} → (List ℕ → Option X) → Option (List ℕ) → Option (Option X)
 optional_value reading None = Some None
 optional_value reading (Some bytes) = optional reading bytes
@@ -33,7 +33,7 @@ optional_value reading (Some bytes) = optional reading bytes
 unfoldable pub optional_attribute : {X : Type 0} → (List ℕ → Option X) → AttributeName → Element → Option (Option X)
 optional_attribute reading name e = optional_value reading (attribute_of name e)
 
--- an attribute that is asked for
+-- a required attribute
 unfoldable pub attribute : {X : Type 0} → (List ℕ → Option X) → AttributeName → Element → Option X
 attribute reading name e = attribute_of name e >>= reading
 
@@ -44,19 +44,19 @@ is_ebms e = bytes_eq (out-Element e).space ebms
 unfoldable pub is_named : ElementName → Element → Bool
 is_named name e = is_ebms e && bytes_eq (out-Element e).local (element_name name)
 
--- those children of ebMS that have this name, in their order
+-- the children of ebMS with this name, in order
 abbrev pub named : ElementName → List Element → List Element
 named name children = filter (is_named name) children
 
--- a child of ebMS has one of these names; others may stand there
+-- a child of ebMS has one of these names; children outside of ebMS are allowed
 unfoldable pub may_stand : List ElementName → Element → Bool
 may_stand names child = not (is_ebms child) || list_any (λ name. bytes_eq (out-Element child).local (element_name name)) names
 
--- no child of ebMS has another name than these
+-- each child of ebMS has one of these names
 unfoldable pub holds_only : List ElementName → Element → Bool
 holds_only names e = list_all (may_stand names) (children_of e)
 
--- the one element, where there is one; nothing where there are two
+-- the one element or none; `None` if there are two or more
 abbrev pub at_most_one : List Element → Option (Option Element)
 at_most_one [] = Some None
 at_most_one (e ∷ []) = Some (Some e)
@@ -87,10 +87,10 @@ each reading (e ∷ others) = reading e >>= λ x. each reading others >>= λ xs.
 unfoldable pub children : {X : Type 0} → (Element → Option X) → ElementName → Element → Option (List X)
 children reading name e = each reading (named name (children_of e))
 
--- what is read of an element that holds no others of ebMS than these
+-- the reading of an element whose children of ebMS have only these names
 abbrev pub holding : {X : Type 0} → List ElementName → Element → Option X → Option X
 holding names e read = if holds_only names e then read else None
 
--- an element that holds no other of ebMS, read by its text
+-- an element without children of ebMS, read by its text
 unfoldable pub leaf : {X : Type 0} → (List ℕ → Option X) → Element → Option X
 leaf reading e = holding [] e (reading (text_in e))

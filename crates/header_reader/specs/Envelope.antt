@@ -1,5 +1,5 @@
--- The message unit that an envelope means (SOAP 1.2 Part 1, section 5; ebMS 3.0 Core, section 5.2), by conditions in
--- this order: the first that stands decides.
+-- The message unit that an envelope means (SOAP 1.2 Part 1, section 5; ebMS 3.0 Core, section 5.2). The conditions are
+-- checked in this order; the first that applies decides.
 use Rattle.std.specs.Prelude.{◌≡◌, ℕ, List, [], ◌∷◌, Bool, not, ◌&&◌, ◌||◌, if◌then◌else◌, Option, Some, None, Result, Ok, Err, option_map, bytes_eq, codes}
 use Rattle.std.specs.List.{filter, list_any}
 use Rattle.as4_envelope.specs.Tree.{soap}
@@ -14,7 +14,7 @@ use Rattle.header_reader.specs.Gives.{Answers}
 use Rattle.header_reader.specs.Made.{pair_from}
 use Rattle.header_reader.specs.Signals.{signal_of}
 use Rattle.header_reader.specs.User.{user_of}
-use Rattle.header_reader.specs.Values.{trimmed}
+use Rattle.byte_forms.specs.Trimmed.{trimmed}
 use Rattle.header_reader.specs.declared.names.ElementName.TheVariants as name
 use Rattle.header_reader.specs.declared.envelope.Sort.{Sort}
 use Rattle.header_reader.specs.declared.envelope.Sort.TheVariants as sort
@@ -28,7 +28,7 @@ is_soap e = bytes_eq (out-Element e).space soap
 unfoldable pub is_soap_named : List ℕ → Element → Bool
 is_soap_named local e = is_soap e && bytes_eq (out-Element e).local local
 
--- the blocks of the one header that stands before the one body, among the elements of SOAP
+-- the blocks of the header, if the elements of SOAP are exactly one header followed by one body
 abbrev pub blocks_in : List Element → Option (List Element)
 blocks_in [] = None
 blocks_in (header ∷ []) = None
@@ -39,7 +39,7 @@ blocks_in (header ∷ body ∷ other ∷ others) = None
 unfoldable pub blocks_of : Element → Option (List Element)
 blocks_of tree = if is_soap_named (codes "Envelope") tree then blocks_in (filter is_soap (children_of tree)) else None
 
--- the one element of a list
+-- the element of a list that has just one
 abbrev pub only : List Element → Option Element
 only [] = None
 only (e ∷ []) = Some e
@@ -62,13 +62,13 @@ asks_for_more blocks = list_any (λ block. not (is_named name.Messaging block) &
 abbrev pub is_unit : Element → Bool
 is_unit e = is_named name.UserMessage e || is_named name.SignalMessage e
 
--- the elements that are looked for one after the other
+-- the elements that the reader searches for, step by step
 abbrev pub is_of : Sort → Element → Bool
 is_of sort.Soap e = is_soap e
 is_of sort.Messaging e = is_named name.Messaging e
 is_of sort.Unit e = is_unit e
 
--- the units that are read together: one, or two signals
+-- the units that are read together: one unit, or two signals
 abbrev pub elements_among : List Element → Result (List Element) HeaderRefusal
 elements_among [] = Err Invalid
 elements_among (e ∷ []) = Ok (e ∷ [])
@@ -85,11 +85,11 @@ abbrev pub elements_in : Option (List Element) → Result (List Element) HeaderR
 elements_in None = Err Invalid
 elements_in (Some blocks) = elements_below blocks (only (named name.Messaging blocks))
 
--- the elements of an envelope's units, or why none is read
+-- the elements of an envelope's units, or the refusal
 unfoldable pub unit_elements : Element → Result (List Element) HeaderRefusal
 unit_elements tree = elements_in (blocks_of tree)
 
--- one unit, as it is spelled
+-- the unit that one element spells
 unfoldable pub one_unit_of : Element → Option MessageUnit
 one_unit_of e = if is_named name.UserMessage e then option_map unit.User (user_of e) else option_map unit.Signal (signal_of e)
 
@@ -97,7 +97,7 @@ abbrev pub or_refused : HeaderRefusal → Option MessageUnit → Result MessageU
 or_refused refusal None = Err refusal
 or_refused refusal (Some u) = Ok u
 
--- the first of two, where there is one
+-- the first of two options that has a value
 abbrev pub first_of : {X : Type 0} → Option X → Option X → Option X
 first_of (Some x) other = Some x
 first_of None other = other
@@ -111,7 +111,7 @@ two_units_of (Some a) (Some b) = or_refused Unsupported (both_of a b)
 two_units_of (Some a) None = Err Invalid
 two_units_of None b = Err Invalid
 
--- what these elements mean together
+-- the meaning of these elements together
 abbrev pub read_together : List Element → Result MessageUnit HeaderRefusal
 read_together [] = Err Invalid
 read_together (e ∷ []) = or_refused Invalid (one_unit_of e)
@@ -122,7 +122,7 @@ abbrev pub meaning_of : Result (List Element) HeaderRefusal → Result MessageUn
 meaning_of (Err refusal) = Err refusal
 meaning_of (Ok units) = read_together units
 
--- what an envelope means, or why it means nothing
+-- the unit that an envelope means, or the refusal
 unfoldable pub unit_of : Element → Result MessageUnit HeaderRefusal
 unit_of tree = meaning_of (unit_elements tree)
 
@@ -130,8 +130,8 @@ unit_of tree = meaning_of (unit_elements tree)
 abbrev pub SpellsUnit : Element → MessageUnit → Type 0
 SpellsUnit tree u = unit_of tree ≡ Ok u
 
--- the answer for these units: where none is read, that refusal, whatever memory there is; else what they mean together,
--- unless memory ran out
+-- the result for these unit elements: if they are refused, that refusal, even when memory runs out; else their meaning
+-- together, unless memory ran out
 abbrev pub AnswersFor : Result MessageUnit HeaderRefusal → Result (List Element) HeaderRefusal → Type 0
 AnswersFor answer (Err refusal) = answer ≡ Err refusal
 AnswersFor answer (Ok units) = Answers answer (read_together units)

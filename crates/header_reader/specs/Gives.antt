@@ -1,27 +1,27 @@
--- What a reader returned, and what its definition gives.
+-- What a reader returned, compared with its definition.
 use Rattle.std.specs.Prelude.{◌≡◌, Option, Some, None, Result, Ok, Err}
 use Rattle.header_reader.specs.declared.refusal.HeaderRefusal.{HeaderRefusal}
 use Rattle.header_reader.specs.declared.refusal.HeaderRefusal.TheVariants.{Invalid, Unsupported, NoMemory}
 
--- a refusal where nothing is given; for want of memory nothing is said
+-- Invalid means that the definition gives no value; Unsupported is excluded; nothing is said where memory ran out
 abbrev pub Refuses : {X : Type 0} → HeaderRefusal → Option X → Type 0
 Refuses Invalid given = given ≡ None
 Refuses Unsupported given = ⊥
 Refuses NoMemory given = Unit {0}
 
--- the value that is given, and Invalid where nothing is, unless memory ran out
+-- the result is the given value, or Invalid if none is given, unless memory ran out
 abbrev pub Gives : {X : Type 0} → Result X HeaderRefusal → Option X → Type 0
 Gives (Ok x) given = given ≡ Some x
 Gives (Err refusal) given = Refuses refusal given
 
--- the answer of a reading that says which refusal it is, unless memory ran out
+-- the result is this one, refusal included, unless memory ran out
 abbrev pub Answers : {X : Type 0} → Result X HeaderRefusal → Result X HeaderRefusal → Type 0
 Answers (Ok x) means = means ≡ Ok x
 Answers (Err Invalid) means = means ≡ Err Invalid
 Answers (Err Unsupported) means = means ≡ Err Unsupported
 Answers (Err NoMemory) means = Unit {0}
 
--- that value is read, unless memory ran out
+-- the result is that value, unless memory ran out
 abbrev pub IsReadAs : {X : Type 0} → Result X HeaderRefusal → X → Type 0
 IsReadAs (Ok x) value = x ≡ value
 IsReadAs (Err Invalid) value = ⊥

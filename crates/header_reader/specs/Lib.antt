@@ -1,3 +1,4 @@
+-- What an envelope's tree means, element by element, and what a reader returns.
 pub mod Elements
 pub mod Envelope
 pub mod Gives

@@ -1,4 +1,4 @@
--- Values whose types keep a fact, made where the fact holds.
+-- Values whose types keep a fact, made if the fact holds.
 use Rattle.std.specs.Prelude.{◌≡◌, ℕ, List, Bool, true, false, ◌&&◌, nat_le, nat_lt, Option, Some, None, length, refl}
 use Rattle.std.proofs.lemmas.Bool.{and_parts, ltb-true, leb-true}
 use Rattle.as4_values.specs.SignalParts.{is_signal, is_receipt, is_pull}
@@ -14,7 +14,7 @@ use Rattle.header_reader.specs.declared.parts.MessageInfo.{MessageInfo}
 use Rattle.header_reader.specs.declared.parts.PartyInfo.{PartyInfo}
 use Rattle.header_reader.specs.declared.parts.CollaborationInfo.{CollaborationInfo}
 
--- a value that is made where the test passes, by that fact
+-- a value made from the fact that the test passes; `None` if it fails
 abbrev pub made : {X : Type 0} (test : Bool) → (test ≡ true → X) → Option X
 made true value = Some (value refl)
 made false value = None

@@ -29,20 +29,20 @@ pull_of e =
       mpc ← optional_attribute text_of attr.Mpc e
       Some (record { mpc = unwrap_or mpc default_channel }))
 
--- `eb:Receipt`: section 5.2.3.3; what else it holds says nothing
+-- `eb:Receipt`: section 5.2.3.3; the rest of its content is ignored
 unfoldable pub receipt_of : Element → Option Receipt
 receipt_of e = do
   copy ← optional_child user_of name.UserMessage e
   Some (record { copy = copy })
 
--- how bad an error is, by these very words: section 6.2.4
+-- the severity of an error, by exactly these words: section 6.2.4
 unfoldable pub severity_of : List ℕ → Option Severity
 severity_of bytes =
     if bytes_eq bytes (codes "failure") then Some Failure
     else if bytes_eq bytes (codes "warning") then Some Warning
     else None
 
--- `eb:Error`: section 6.2; a description or a detail that is empty says nothing
+-- `eb:Error`: section 6.2; an empty description or detail is ignored
 unfoldable pub error_of : Element → Option ErrorItem
 error_of e =
     holding (name.Description ∷ name.ErrorDetail ∷ []) e (do
@@ -65,7 +65,7 @@ error_of e =
         detail = unwrap_or detail None;
       }))
 
--- a pull request, a receipt, or errors, and no two of these: section 5.2.3
+-- exactly one of a pull request, a receipt, and errors: section 5.2.3
 abbrev pub body_from : Option PullRequest → Option Receipt → List ErrorItem → Option SignalBody
 body_from (Some pull) None [] = Some (body.Pull pull.mpc)
 body_from None (Some receipt) [] = Some (body.Receipt receipt.copy)

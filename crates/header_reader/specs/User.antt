@@ -1,5 +1,5 @@
--- How a user message is spelled (ebMS 3.0 Core, section 5.2.2), element by element, as elements of ebMS hold it. Their
--- children may stand in any order; children outside of ebMS, and unknown attributes, say nothing.
+-- How a user message is spelled (ebMS 3.0 Core, section 5.2.2), by its elements of ebMS. Children may occur in any
+-- order; children outside of ebMS and unknown attributes are ignored.
 use Rattle.std.specs.Prelude.{ℕ, List, [], ◌∷◌, Option, Some, None, unwrap_or}
 use Rattle.as4_envelope.specs.declared.tree.Element.{Element}
 use Rattle.as4_values.specs.declared.header.Party.{Party}
@@ -57,7 +57,7 @@ parties_of e =
       to ← child side_of name.To e
       Some (record { from = from; to = to }))
 
--- `eb:AgreementRef`: section 5.2.2.7; where it is empty, it says nothing, whatever its attributes are
+-- `eb:AgreementRef`: section 5.2.2.7; if it is empty, it is ignored, whatever its attributes are
 abbrev pub agreement_with : Element → Option (List ℕ) → Option (Option Agreement)
 agreement_with e None = Some None
 agreement_with e (Some value) = do
@@ -97,7 +97,7 @@ property_of e = do
 unfoldable pub properties_of : Element → Option (List Property)
 properties_of e = holding (name.Property ∷ []) e (children property_of name.Property e)
 
--- `eb:PartInfo`: section 5.2.2.13; what else it holds says nothing
+-- `eb:PartInfo`: section 5.2.2.13; the rest of its content is ignored
 unfoldable pub part_of : Element → Option PartInfo
 part_of e = do
   href ← optional_attribute text_of attr.Href e
@@ -108,7 +108,7 @@ part_of e = do
 unfoldable pub payload_of : Element → Option (List PartInfo)
 payload_of e = holding (name.PartInfo ∷ []) e (children part_of name.PartInfo e)
 
--- what stands in a user message: section 5.2.2
+-- the content of a user message: section 5.2.2
 unfoldable pub business_in : Element → Option (PartyInfo × CollaborationInfo)
 business_in e = do
   sides ← child parties_of name.PartyInfo e

@@ -1,4 +1,4 @@
-//! What stands in an element: its attributes and its children, by their names.
+//! The content of an element: its attributes and its children, by their names.
 
 ghost use Rattle.std.specs.Prelude.{◌≡◌, Option, option_map, bytes_eq, unwrap_or, []};
 ghost use Rattle.std.specs.List.{list_any};
@@ -15,7 +15,7 @@ use as4_envelope::{Attribute, EBMS, Element};
 use as4_values::Seq;
 use std::alloc::Global;
 
-/// What is read from an element.
+/// A value that is read from an element.
 pub trait Readable: Drop {
     ghost meaning: { ElementValue → Option Self };
 
@@ -46,7 +46,7 @@ pub fn attribute_of<'a>(element: &'a Element, name: AttributeName) -> Option<&'a
     }
 }
 
-/// Reads an attribute that may be left out, or have only blanks as its value.
+/// Reads an optional attribute; only blanks count as no value.
 #[tactic(auto, unfolding(crate::specs::Elements::optional_attribute))]
 pub fn optional_attribute<T: Value>(
     alloc: Global,
@@ -61,7 +61,7 @@ pub fn optional_attribute<T: Value>(
     }
 }
 
-/// Reads an attribute that must stand there.
+/// Reads a required attribute.
 #[tactic(auto, unfolding(crate::specs::Elements::attribute))]
 pub fn attribute<T: Value>(
     alloc: Global,
@@ -90,7 +90,7 @@ pub fn is_named(element: &Element, name: ElementName) -> bool
     is_ebms(element) && element.local.bytes() == name.text()
 }
 
-/// Whether no child of ebMS has another name than these.
+/// Whether each child of ebMS has one of these names.
 #[tactic(auto, unfolding(crate::specs::Elements::holds_only))]
 pub fn holds_only(element: &Element, names: &[ElementName]) -> bool
     ensures { result ≡ holds_only names.now element.now }
@@ -116,7 +116,7 @@ fn is_among(local: &[u8], names: &[ElementName]) -> bool
     names.iter().any(|name| local == name.text())
 }
 
-/// The child of ebMS of this name, where there is one; nothing where there are two.
+/// The child of ebMS with this name, if there is one; `None` if there are two.
 pub fn at_most_one<'a>(element: &'a Element, name: ElementName) -> Option<Option<&'a Element>>
     ensures { option_map (option_map (λ child. child.now)) result ≡ at_most_one (named name (children_of element.now)) }
 {
@@ -148,7 +148,7 @@ pub fn child<T: Readable>(
     }
 }
 
-/// Reads the child of this name, where there is one.
+/// Reads the child of this name, if there is one.
 #[tactic(auto, unfolding(crate::specs::Elements::optional_child))]
 pub fn optional_child<T: Readable>(
     alloc: Global,
@@ -182,7 +182,7 @@ pub fn children<T: Readable>(
     Ok(Seq::of(items))
 }
 
-/// Reads an element that holds no other of ebMS, by its text.
+/// Reads an element without children of ebMS, by its text.
 #[tactic(auto, unfolding(crate::specs::Elements::leaf))]
 pub fn leaf<T: Value>(alloc: Global, element: &Element) -> Result<T, HeaderRefusal>
     ensures { Gives result (leaf T.value_of element.now) }
@@ -193,7 +193,7 @@ pub fn leaf<T: Value>(alloc: Global, element: &Element) -> Result<T, HeaderRefus
     T::read_value(alloc, element.text.bytes())
 }
 
-/// The list, which is empty where there is none.
+/// The list, or an empty one.
 pub fn or_empty<T: Drop>(alloc: Global, list: Option<Seq<T>>) -> Seq<T>
     ensures { result ≡ unwrap_or list [] }
 {

@@ -14,12 +14,12 @@ use crate::elements::{Readable, is_named};
 use crate::made::may_be_pair;
 use crate::names::ElementName;
 use crate::refusal::{HeaderRefusal, with};
-use crate::values::trimmed;
 use as4_envelope::{Attribute, Element, SOAP};
 use as4_values::{Pair, Signal, Unit, UserHeader};
+use byte_forms::trimmed;
 use std::alloc::Global;
 
-/// The elements that are looked for among others.
+/// The sorts of elements that the reader searches for.
 #[derive(Clone, Copy)]
 pub enum Sort {
     /// Those of SOAP.
@@ -43,7 +43,7 @@ const TRUE: &[u8] = b"true";
 const ONE: &[u8] = b"1";
 
 /// Reads the message unit that an envelope means.
-/// What is refused before a unit's element is read is refused so whatever memory there is.
+/// A refusal that precedes the reading of a unit's element doesn't depend on memory.
 #[tactic(auto, unfolding(crate::specs::Envelope::unit_of))]
 pub fn read_unit(alloc: Global, tree: &Element) -> Result<Unit, HeaderRefusal>
     ensures ok { IfOk result (SpellsUnit tree.now) }
@@ -54,7 +54,7 @@ pub fn read_unit(alloc: Global, tree: &Element) -> Result<Unit, HeaderRefusal>
     unit_in_envelope(alloc, tree)
 }
 
-/// No tree spells two units.
+/// A tree spells at most one unit.
 pub fn one_unit()
     ensures { (tree : ElementValue) (a b : MessageUnit) → SpellsUnit tree a → SpellsUnit tree b → a ≡ b }
 {}
@@ -95,7 +95,7 @@ fn is_of(element: &Element, sort: Sort) -> bool
     }
 }
 
-/// The first of these elements that is of the sort, and what stands behind it.
+/// The first of these elements that is of the sort, and the elements after it.
 fn next_of(elements: &[Element], sort: Sort) -> Option<(&Element, &[Element])>
     ensures { MatchOption result (filter (is_of sort) elements.now ≡ [])
         (λ next. filter (is_of sort) elements.now ≡ next.0.now ∷ filter (is_of sort) next.1.now) }
@@ -231,7 +231,7 @@ fn both_of(first: Signal, second: Signal) -> Option<Unit>
     }
 }
 
-/// The pair of these two, or the two where they are none.
+/// The pair of these two, or both again if they are no pair.
 fn pair_from(receipt: Signal, pull: Signal) -> Result<Pair, (Signal, Signal)>
     ensures pair { result_ok result ≡ pair_from receipt pull }
     ensures back { IfErr result (λ signals. (signals.0 ≡ receipt) × (signals.1 ≡ pull)) }

@@ -1,4 +1,4 @@
-//! Values whose types keep a fact: counts within the limits, which are this handler's own, and what a signal must hold.
+//! Values whose types keep a fact: counts within this handler's own limits, and what a signal must hold.
 
 ghost use Rattle.std.specs.Prelude.{◌≡◌, ◌&&◌, nat_le, nat_lt, length};
 ghost use Rattle.as4_values.specs.SignalParts.{is_signal, is_receipt, is_pull};
@@ -9,16 +9,16 @@ use as4_values::{
     MessageId, PartInfo, Party, Property, Seq, Side, Signal, SignalBody, Text, UserHeader,
 };
 
-/// How many parties a side has at most.
+/// The maximum number of parties of a side.
 const MAX_PARTIES: usize = 16;
 
-/// How many properties a header or a part info has at most.
+/// The maximum number of properties of a header or a part info.
 const MAX_PROPERTIES: usize = 256;
 
-/// How many part infos a header has at most.
+/// The maximum number of part infos of a header.
 const MAX_PARTS: usize = 255;
 
-/// How many errors a signal has at most.
+/// The maximum number of errors of a signal.
 const MAX_ERRORS: usize = 256;
 
 fn may_be_side(parties: &Seq<Party>) -> bool

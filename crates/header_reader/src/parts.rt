@@ -23,20 +23,20 @@ pub struct CollaborationInfo {
     pub agreement: Option<Agreement>,
     pub service: Service,
     pub action: Text,
-    /// Nothing where it is empty.
+    /// `None` if it is empty.
     pub conversation: Option<Text>,
 }
 
 /// `eb:PullRequest` (section 5.2.3.1).
 #[derive(Drop)]
 pub struct PullRequest {
-    /// The default channel where none is named.
+    /// The default channel if none is named.
     pub mpc: Text,
 }
 
 /// `eb:Receipt` (section 5.2.3.3).
 #[derive(Drop)]
 pub struct Receipt {
-    /// The header of the message that came, where it is copied.
+    /// The header of the acknowledged message, if it is copied.
     pub copy: Option<UserHeader>,
 }

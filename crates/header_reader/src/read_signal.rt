@@ -16,7 +16,7 @@ use as4_envelope::Element;
 use as4_values::{ErrorItem, Seq, Severity, Signal, SignalBody, Text};
 use std::alloc::Global;
 
-/// The channel that a pull request means where it names none (ebMS 3.0 Core, section 3.4.1).
+/// The channel of a pull request that names none (ebMS 3.0 Core, section 3.4.1).
 const DEFAULT_CHANNEL: &[u8] =
     b"http://docs.oasis-open.org/ebxml-msg/ebms/v3.0/ns/core/200704/defaultMPC";
 
@@ -115,7 +115,7 @@ impl Readable for ErrorItem {
     }
 }
 
-/// A pull request, a receipt, or errors, and no two of these.
+/// Exactly one of a pull request, a receipt, and errors.
 fn body_from(
     pull: Option<PullRequest>,
     receipt: Option<Receipt>,

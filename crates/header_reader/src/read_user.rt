@@ -129,7 +129,7 @@ impl Readable for PartyInfo {
     }
 }
 
-/// An agreement; nothing where its element is empty.
+/// An agreement; `None` if its element is empty.
 impl Readable for Option<Agreement> {
     ghost meaning = { agreement_of };
 
@@ -245,7 +245,7 @@ impl Readable for Seq<PartInfo> {
     }
 }
 
-/// Reads the sides and the business of a user message.
+/// Reads the parties and the collaboration of a user message.
 #[tactic(auto, unfolding(crate::specs::User::business_in))]
 fn business_in(
     alloc: Global,

@@ -1,22 +1,23 @@
+//! Why a tree isn't read as a message unit.
 ghost use Rattle.std.specs.Prelude.{◌≡◌};
 ghost use Rattle.std.specs.Result.{result_map_both};
 ghost use Rattle.header_reader.specs.declared.refusal.HeaderRefusal.TheVariants.{NoMemory};
 
 use std::alloc::{AllocError, AllocFailed};
 
-/// Why a tree is read as no message unit.
+/// Why a tree isn't read as a message unit.
 #[derive(Clone, Copy, Debug, PartialEq, Eq)]
 pub enum HeaderRefusal {
     /// The tree is no envelope of one message unit, or the unit isn't spelled as ebMS 3.0 Core says (sections 5.2 and 6).
     Invalid,
-    /// The envelope asks for what isn't supported: another header block that must be understood (SOAP 1.2 Part 1,
-    /// section 5.2.3), or message units that aren't read together.
+    /// The envelope needs something unsupported: another header block that must be understood (SOAP 1.2 Part 1, section
+    /// 5.2.3), or message units that aren't read together.
     Unsupported,
     /// Memory ran out.
     NoMemory,
 }
 
-/// A value, with the one that is read behind it.
+/// A value, paired with the one that is read after it.
 pub(crate) fn with<A: Drop, B>(
     first: A,
     second: Result<B, HeaderRefusal>,

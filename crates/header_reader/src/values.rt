@@ -1,65 +1,22 @@
-//! Texts, identifiers, codes and stamps, as they stand between blanks.
+//! Texts, identifiers, codes and stamps, which blanks may surround.
 
-ghost use Rattle.std.specs.Prelude.{◌≡◌, ◌-◌, ◌≤◌, ℕ, List, Option, length};
-ghost use Rattle.std.specs.List.{prefix_len};
-ghost use Rattle.as4_values.specs.Texts.{is_blank};
+ghost use Rattle.std.specs.Prelude.{◌≡◌, ℕ, List, Option};
 ghost use Rattle.header_reader.specs.Gives.{Gives};
-ghost use Rattle.header_reader.specs.Values.{end_of, trimmed, text_of, id_of, code_of, stamp_of, optional};
+ghost use Rattle.header_reader.specs.Values.{text_of, id_of, code_of, stamp_of, optional};
 
 use crate::refusal::HeaderRefusal;
 use as4_values::{
     Code, IdRefusal, MessageId, StampRefusal, StampText, Text, TextRefusal, read_stamp,
 };
+use byte_forms::trimmed;
 use std::alloc::Global;
 
-/// What is read from bytes.
+/// A value that is read from bytes.
 pub trait Value: Drop {
     ghost value_of: { List ℕ → Option Self };
 
     fn read_value(alloc: Global, bytes: &[u8]) -> Result<Self, HeaderRefusal>
         ensures { Gives result (value_of bytes.now) };
-}
-
-fn is_blank(byte: u8) -> bool
-    ensures { result ≡ is_blank byte }
-{
-    matches!(byte, b' ' | b'\t' | b'\n' | b'\r')
-}
-
-/// How many blanks stand at the front.
-fn blanks_before(bytes: &[u8]) -> usize
-    ensures value { result ≡ prefix_len is_blank bytes.now }
-    ensures within { result ≤ length bytes.now }
-{
-    let mut start = 0;
-    while start < bytes.len() && is_blank(bytes[start]) {
-        start += 1;
-    }
-    start
-}
-
-/// How many bytes there are without the blanks at the end.
-fn end_without_blanks(bytes: &[u8]) -> usize
-    ensures value { result ≡ end_of bytes.now (length bytes.now) }
-    ensures within { result ≤ length bytes.now }
-{
-    let mut end = bytes.len();
-    while end > 0 && is_blank(bytes[end - 1]) {
-        end -= 1;
-    }
-    end
-}
-
-/// What stands between the blanks at both ends (XML 1.0, section 2.3).
-#[tactic(auto, unfolding(crate::specs::Values::trimmed), using(crate::proofs::ValueLemmas::part_between))]
-pub fn trimmed(bytes: &[u8]) -> &[u8]
-    ensures { result.now ≡ trimmed bytes.now }
-{
-    let (start, end) = (blanks_before(bytes), end_without_blanks(bytes));
-    if end <= start {
-        return &[];
-    }
-    &bytes[start..end]
 }
 
 impl Value for Text {
@@ -110,7 +67,7 @@ impl Value for StampText {
     }
 }
 
-/// Reads a value that may be left out, and that is left out where there are only blanks, too.
+/// Reads an optional value; only blanks count as no value.
 #[tactic(auto, unfolding(crate::specs::Values::optional))]
 pub fn read_optional<T: Value>(alloc: Global, bytes: &[u8]) -> Result<Option<T>, HeaderRefusal>
     ensures { Gives result (optional T.value_of bytes.now) }

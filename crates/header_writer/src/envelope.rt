@@ -1,3 +1,4 @@
+//! Writes the envelopes of message units.
 ghost use Rattle.std.specs.Prelude.{◌≡◌, ◌++◌, IfOk};
 ghost use Rattle.message_model.specs.UnitText.{envelope_start, envelope_end, envelope_text, unit_text, user_message, signal_message, pair_text};
 

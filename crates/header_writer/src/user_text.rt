@@ -100,7 +100,7 @@ impl Written for Service {
     }
 }
 
-/// The bytes of a text that may be empty.
+/// The bytes of a text, or none.
 fn bytes_or_none(text: &Option<Text>) -> &[u8]
     ensures { result.now ≡ unwrap_or text.now [] }
 {

@@ -1,4 +1,4 @@
-//! The bytes of values that may be missing.
+//! The bytes of optional values.
 
 ghost use Rattle.std.specs.Prelude.{◌≡◌};
 ghost use Rattle.std.specs.Option.{option_copied};

@@ -1,3 +1,4 @@
+//! Values with one text in a document, and lists of them.
 ghost use Rattle.std.specs.Prelude.{◌≡◌, ◌++◌, OnOk, List, ℕ};
 ghost use Rattle.std.specs.List.{flat_map};
 ghost use Rattle.as4_envelope.specs.Markup.{listed};
@@ -5,7 +6,7 @@ ghost use Rattle.as4_envelope.specs.Markup.{listed};
 use as4_envelope::{push_end_tag, push_tag_end, push_tag_start};
 use as4_values::NoMemory;
 
-/// What has one text in a document.
+/// A value with one text in a document.
 pub trait Written {
     ghost text: { Self → List ℕ };
 
@@ -24,7 +25,7 @@ pub fn push_all<T: Written>(out: &mut Vec<u8>, items: &[T]) -> Result<(), NoMemo
     Ok(())
 }
 
-/// The element that holds the texts of all items, and nothing where there are none.
+/// Adds the element that holds the texts of all items, or nothing if there are none.
 #[tactic(auto, unfolding(as4_envelope::specs::Markup::listed))]
 pub fn push_listed<T: Written>(out: &mut Vec<u8>, name: &[u8], items: &[T]) -> Result<(), NoMemory>
     ensures { OnOk result (out.new.items ≡ out.old.items ++ listed name.now T.text items.now) }

@@ -25,7 +25,7 @@ use Rattle.as4_values.specs.declared.message.Unit.TheVariants as unit
 use Rattle.message_model.specs.UnitText.{message_info, party_text, side_text, party_info, agreement_text, service_text, collaboration_info, property_text, part_info, user_message, error_start, error_text, pull_text, receipt_text, body_text, signal_message, pair_text, unit_text, envelope_start, envelope_end, envelope_text}
 use Rattle.message_model.specs.UnitTree.{attribute_of, node, parent, leaf, optional_attributes, optional_leaves, listed_in, message_info_tree, party_tree, side_tree, party_info_tree, agreement_trees, service_tree, collaboration_info_tree, property_tree, part_tree, user_tree, error_attributes, error_tree, body_trees, signal_tree, unit_trees, envelope_tree, unit_tree}
 
--- the text of an element by the texts of its attributes and of its content
+-- the text of an element, from the texts of its attributes and of its content
 pub node_text : (space local : List ℕ) (attributes : List Attribute) (text : List ℕ) (children : List Element) (declared : List ℕ)
     → element_text (node space local attributes text children) declared
     ≡ element (name_of space local) (declared ++ flat_map attribute_text attributes) (escaped text ++ flat_map child_text children)
@@ -35,7 +35,7 @@ node_text space local attributes text children declared =
     ∙ ap (λ inside. element (name_of space local) (declared ++ flat_map attribute_text attributes) (escaped text ++ inside))
     (flat_map-map (λ child. child []) element_text children)
 
--- an element of ebMS by the texts of its attributes and of its children, or by its text
+-- the text of an element of ebMS, from those of its attributes and of its children, or from its text
 parent_is : (local : List ℕ) (attributes : List Attribute) (children : List Element) (a b : List ℕ) → a ≡ flat_map attribute_text attributes → b ≡ flat_map child_text children → element (codes "eb:" ++ local) a b ≡ child_text (parent local attributes children)
 unfolding child_text escaped prefix_of
 parent_is local attributes children a b is_a is_b = rw (is_a, is_b) (sym (node_text ebms local attributes [] children []))
@@ -48,7 +48,7 @@ text_is : (local text : List ℕ) → text_element (codes "eb:" ++ local) text �
 unfolding text_element
 text_is local text = leaf_is local [] text [] refl
 
--- what may be left out
+-- optional attributes and elements
 attribute_is : (local : List ℕ) (value : Option (List ℕ)) → optional_attribute local value ≡ flat_map attribute_text (optional_attributes local value)
 unfolding optional_attribute optional_attributes prefix_of
 attribute_is local None = refl
@@ -182,7 +182,7 @@ unit_is (unit.User header) = user_is header ∙ sym (append-nil _)
 unit_is (unit.Signal signal) = signal_is signal ∙ sym (append-nil _)
 unit_is (unit.Pair pair) = rw (signal_is pair.receipt, signal_is pair.pull) (simp append-nil)
 
--- the envelope round a unit
+-- the envelope around a unit
 soap_is : (local : List ℕ) (children : List Element) (a : List ℕ) → a ≡ flat_map child_text children → element (codes "S:" ++ local) [] a ≡ child_text (node soap local [] [] children)
 unfolding child_text escaped prefix_of
 soap_is local children a is = rw is (sym (node_text soap local [] [] children []))

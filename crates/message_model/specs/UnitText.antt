@@ -57,7 +57,7 @@ collaboration_info agreement service action conversation =
     (agreement_text agreement ++ service_text service ++ text_element (codes "eb:Action") action
     ++ text_element (codes "eb:ConversationId") (unwrap_or conversation []))
 
--- Properties: sections 5.2.2.10 and 5.2.2.11; an empty list is left out.
+-- Properties: sections 5.2.2.10 and 5.2.2.11; an empty list is omitted.
 unfoldable pub property_text : Property → List ℕ
 property_text property =
     element (codes "eb:Property")
@@ -67,7 +67,7 @@ property_text property =
 abbrev pub properties_text : List ℕ → List Property → List ℕ
 properties_text name properties = listed name property_text properties
 
--- Part infos: sections 5.2.2.12 and 5.2.2.13; an empty list is left out.
+-- Part infos: sections 5.2.2.12 and 5.2.2.13; an empty list is omitted.
 unfoldable pub part_info : PartInfo → List ℕ
 part_info part =
     element (codes "eb:PartInfo") (optional_attribute (codes "href") part.href)
@@ -109,7 +109,7 @@ error_text item =
 unfoldable pub pull_text : List ℕ → List ℕ
 pull_text mpc = element (codes "eb:PullRequest") (attribute (codes "mpc") mpc) []
 
--- A receipt, with the header of the message that came, where it is copied: section 5.2.3.3.
+-- A receipt, with a copy of the acknowledged message's header if there is one: section 5.2.3.3.
 abbrev pub copy_text : Option UserHeader → List ℕ
 copy_text None = []
 copy_text (Some header) = user_message header
@@ -128,7 +128,7 @@ signal_message signal =
     element (codes "eb:SignalMessage") []
     (message_info signal.stamp signal.id signal.ref_to ++ body_text signal.body)
 
--- A receipt, and behind it the pull request that is bundled with it: section 5.2.1.
+-- A receipt, followed by the pull request that is bundled with it: section 5.2.1.
 unfoldable pub pair_text : Pair → List ℕ
 pair_text pair = signal_message pair.receipt ++ signal_message pair.pull
 
@@ -137,7 +137,7 @@ unit_text (unit.User header) = user_message header
 unit_text (unit.Signal signal) = signal_message signal
 unit_text (unit.Pair pair) = pair_text pair
 
--- The envelope round a unit (SOAP 1.2 Part 1, section 5.1): the prefixes are declared here alone.
+-- The envelope around a unit (SOAP 1.2 Part 1, section 5.1). Only its root declares prefixes.
 unfoldable pub envelope_start : List ℕ
 envelope_start =
     codes "<S:Envelope xmlns:S=\"http://www.w3.org/2003/05/soap-envelope\" xmlns:eb=\"http://docs.oasis-open.org/ebxml-msg/ebms/v3.0/ns/core/200704/\"><S:Header><eb:Messaging S:mustUnderstand=\"true\">"

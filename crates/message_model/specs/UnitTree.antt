@@ -32,7 +32,7 @@ node space local attributes text children = roll-Element (record {
   children = children;
 })
 
--- an element of ebMS that holds others, or a text
+-- an element of ebMS that holds elements, and one that holds a text
 abbrev pub parent : List ℕ → List Attribute → List Element → Element
 parent local attributes children = node ebms local attributes [] children
 
@@ -43,7 +43,7 @@ leaf local attributes text = node ebms local attributes text []
 abbrev pub plain_attribute : List ℕ → List ℕ → Attribute
 plain_attribute local value = attribute_of [] local value
 
--- what is left out where there is no value
+-- an attribute that is omitted if there is no value
 unfoldable pub optional_attributes : List ℕ → Option (List ℕ) → List Attribute
 optional_attributes local None = []
 optional_attributes local (Some value) = plain_attribute local value ∷ []
@@ -52,7 +52,7 @@ unfoldable pub optional_leaves : List ℕ → Option (List ℕ) → List Element
 optional_leaves local None = []
 optional_leaves local (Some text) = leaf local [] text ∷ []
 
--- an element that holds the elements of all items, in order, and is left out where there are none
+-- an element that holds the elements of all items, in order, and is omitted if there are none
 unfoldable pub listed_in : {X : Type 0} → List ℕ → (X → Element) → List X → List Element
 listed_in local tree [] = []
 listed_in local tree (first ∷ others) = parent local [] (map tree (first ∷ others)) ∷ []
@@ -91,7 +91,7 @@ collaboration_info_tree agreement service action conversation =
     (agreement_trees agreement ++ service_tree service ∷ leaf (codes "Action") [] action
     ∷ leaf (codes "ConversationId") [] (unwrap_or conversation []) ∷ [])
 
--- Properties and part infos; an empty list is left out.
+-- Properties and part infos; an empty list is omitted.
 unfoldable pub property_tree : Property → Element
 property_tree property =
     leaf (codes "Property")
@@ -125,7 +125,7 @@ error_tree item =
     parent (codes "Error") (error_attributes item)
     (optional_leaves (codes "Description") item.description ++ optional_leaves (codes "ErrorDetail") item.detail)
 
--- A signal message: a pull request, a receipt with a copy or none, or errors.
+-- A signal message: a pull request, a receipt with or without a copy, or errors.
 abbrev pub copies : Option UserHeader → List Element
 copies None = []
 copies (Some header) = user_tree header ∷ []

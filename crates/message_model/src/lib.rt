@@ -1,4 +1,4 @@
-//! What messages look like on the wire: definitions that the writers and the readers cite, and laws over them.
+//! What messages look like on the wire: definitions that the writers and the readers cite, and laws about them.
 #![tactic(auto)]
 
 ghost use Rattle.std.specs.Prelude.{◌≡◌};

@@ -1,4 +1,4 @@
--- Names that are put in order differ where each differs from the next.
+-- Sorted names are distinct if each differs from the next.
 use Rattle.std.proofs.Common.{◌≡◌, ℕ, ◌+◌, ◌<◌, ◌≤◌, Bool, true, false, not, ◌||◌, List, [], ◌∷◌, map, length, get_or, take, refl, sym, ap, ◌∙◌, arith, Ordering, Vec, Global}
 use Rattle.std.proofs.lemmas.Bool.{and_parts}
 use Rattle.std.proofs.lemmas.Cmp.{nat_list_cmp_total, on_total}
@@ -25,7 +25,7 @@ items_of name = name.items
 abbrev pub lower_name : Parameter → List ℕ
 lower_name p = str_to_ascii_lowercase p.name
 
--- whether two have one name
+-- whether two have the same name
 abbrev alike : {X : Type 0} → (X → List ℕ) → X → X → Bool
 alike name a b = bytes_eq (name a) (name b)
 
@@ -47,9 +47,9 @@ eq_flips : (a b : List ℕ) → bytes_eq a b ≡ bytes_eq b a
 eq_flips a b = both_true (bytes_eq a b) (bytes_eq b a)
     (λ is. (bytes_eq-Decides b a).1 (sym ((bytes_eq-Decides a b).0 is))) (λ is. (bytes_eq-Decides a b).1 (sym ((bytes_eq-Decides b a).0 is)))
 
--- ---- by their names
+-- ---- by name
 
--- what differs by its names, and the names alone
+-- items whose names differ, and the names themselves
 
 apart-map : {X : Type 0} (name : X → List ℕ) (x : X) (xs : List X) → AllByRecursion (λ y. bytes_eq (name x) y ≡ false) (map name xs) → AllByRecursion (λ y. alike name x y ≡ false) xs
 apart-map name x [] apart = tt
@@ -69,7 +69,7 @@ unfolding IsDistinct
 map-distinct name [] distinct = tt
 map-distinct name (x ∷ xs) distinct = (map-apart name x xs distinct.0, map-distinct name xs distinct.1)
 
--- ---- in order, and each differs from the next
+-- ---- an order that is neither greater nor equal is less
 
 by_order : (one other : Ordering) → other ≡ ordering_reverse one → is_lt other ≡ false → is_eq one ≡ false → one ≡ Less
 by_order Less other back up apart = refl
@@ -102,7 +102,7 @@ two_alike name names sorted before at d next moved short same distinct =
     let apart = apart_from_distinct (alike name) sorted before at d (IsDistinct-IsPermutation (alike name) (λ a b. eq_flips (name a) (name b)) names sorted moved (distinct-map name names distinct)) (omega arith) short in
     absurd cc
 
--- ---- as the definition says it
+-- ---- in terms of the definition
 
 neither : (a b : Bool) → (a || b) ≡ false → (a ≡ false) × (b ≡ false)
 neither false b e = (refl, e)
@@ -134,7 +134,7 @@ unfolding IsDistinct
 differ_by [] distinct = refl
 differ_by (p ∷ others) distinct = rw (none_named p others distinct.0, differ_by others distinct.1) refl
 
--- whether these names are distinct is whether those of the parameters differ
+-- whether these names are distinct, as the definition of parameters says it
 pub names_told : (r : Bool) (names : List (List ℕ)) (parameters : List LentParameter) (n : ℕ) → length parameters ≤ n → (IsTrue r ↔ IsDistinct bytes_eq names)
     → names ≡ map lower_name (map parameter_of (take n parameters)) → r ≡ names_differ (map parameter_of parameters)
 names_told r names parameters n all told so_far =

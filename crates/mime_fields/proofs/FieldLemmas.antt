@@ -1,11 +1,11 @@
--- The fields of a head, one behind another, as a loop cuts them.
+-- The fields of a head, one after another, as a loop cuts them.
 use Rattle.std.proofs.Common.{◌≡◌, ◌≢◌, ℕ, zero, suc, ◌-◌, ◌<◌, ◌≤◌, Bool, true, false, not, List, [], ◌∷◌, ◌++◌, length, Option, Some, None, option_map, refl, sym, ap, ◌∙◌, arith, inl, inr, append_assoc, append-nil, length-append, ◌==◌}
 use Rattle.std.proofs.lemmas.Bool.{eqb-false, not-true}
 use Rattle.std.proofs.lemmas.Option.{same_Some}
 use Rattle.std.specs.List.{filter}
 use Rattle.std.specs.Str.{str_eq_ignore_ascii_case}
-use Rattle.byte_forms.specs.Cuts.{run_at, behind}
-use Rattle.byte_forms.proofs.CutLemmas.{cases_option, bind_some, run_shortens, behind_takes}
+use Rattle.byte_forms.specs.Cuts.{run_at, strip_prefix}
+use Rattle.byte_forms.proofs.CutLemmas.{cases_option, bind_some, run_shortens, strip_prefix_takes}
 use Rattle.mime_fields.specs.Fields.{Field, crlf, is_name_byte, field_at, fields_within, lines_within, at_most_one}
 use Rattle.mime_fields.specs.Loops.{goes_on, content_at}
 use Rattle.mime_fields.proofs.LineLemmas.{lines_whole}
@@ -14,21 +14,21 @@ pub field_shortens : (bytes : List ℕ) (x : Field × List ℕ) → field_at byt
 unfolding field_at
 field_shortens bytes x e =
     bind_some (run_at is_name_byte bytes) _ x e λ name e0 f0.
-    bind_some (behind (58 ∷ []) name.1) _ x f0 λ rest e1 f1.
+    bind_some (strip_prefix (58 ∷ []) name.1) _ x f0 λ rest e1 f1.
     bind_some (lines_within (length rest) rest) _ x f1 λ lines e2 f2.
     let s0 = run_shortens is_name_byte bytes name e0 in
-    let s1 : length name.1 ≡ suc (length rest) = ap length (behind_takes (58 ∷ []) name.1 rest e1) in
+    let s1 : length name.1 ≡ suc (length rest) = ap length (strip_prefix_takes (58 ∷ []) name.1 rest e1) in
     let s2 = ap length (lines_whole (length rest) rest lines e2) in
     let same = ap (λ (y : Field × List ℕ). length y.1) (same_Some _ x f2) in
     omega (arith, length-append lines.0 (crlf ++ lines.1), length-append crlf lines.1)
 
--- ---- fields within a number of them
+-- ---- a limited number of fields
 
 not_false : (b : Bool) → not b ≡ false → b ≡ true
 not_false true e = refl
 not_false false e = absurd cc
 
--- fields before others
+-- fields put before others
 abbrev pub with_fields : List Field → List Field × List ℕ → List Field × List ℕ
 with_fields front x = (front ++ x.0, x.1)
 
@@ -42,11 +42,11 @@ ended (suc n) [] ends = refl
 ended zero (b ∷ bytes) ends = refl
 ended (suc n) (b ∷ bytes) ends = let is : (b == 13) ≡ true = not_false (b == 13) ends in rw is refl
 
-no_empty_line : (b : ℕ) (bytes : List ℕ) → (b == 13) ≡ false → behind crlf (b ∷ bytes) ≡ None
-no_empty_line b bytes other = elim (cases_option (behind crlf (b ∷ bytes))) [
+no_empty_line : (b : ℕ) (bytes : List ℕ) → (b == 13) ≡ false → strip_prefix crlf (b ∷ bytes) ≡ None
+no_empty_line b bytes other = elim (cases_option (strip_prefix crlf (b ∷ bytes))) [
   | inl none ↦ none
   | inr some ↦
-      let whole : b ∷ bytes ≡ 13 ∷ 10 ∷ some.0 = behind_takes crlf (b ∷ bytes) some.0 some.1 in
+      let whole : b ∷ bytes ≡ 13 ∷ 10 ∷ some.0 = strip_prefix_takes crlf (b ∷ bytes) some.0 some.1 in
       let first : b ≡ 13 = cc in
       absurd (eqb-false b 13 other first)
 ]
@@ -66,7 +66,7 @@ unfolding fields_within
 none_within n [] on none = absurd cc
 none_within n (b ∷ bytes) on none = let other : (b == 13) ≡ false = not-true (b == 13) on in rw (other, none) refl
 
--- these fields stand in front, and those of the rest behind them
+-- these fields come first, followed by those of the rest
 pub record GoOn (most : ℕ) (bytes : List ℕ) (front : List Field) (rest : List ℕ) : Type 0 where
   pub few : length front ≤ most
   pub all : fields_within most bytes ≡ option_map (λ x. (front ++ x.0, x.1)) (fields_within (most - length front) rest)
@@ -98,7 +98,7 @@ with_content : (front : List Field) (o : Option (List ℕ)) → option_map (with
 with_content front None = refl
 with_content front (Some content) = rw (append-nil front) refl
 
--- the fields are all there are, and the content is what it is
+-- the fields are complete, and this is the content
 pub all_of : (most : ℕ) (bytes rest : List ℕ) (front : List Field) (found : Option (List ℕ)) → goes_on rest ≡ false → found ≡ content_at rest → GoOn most bytes front rest → option_map (λ content. (front, content)) found ≡ fields_within most bytes
 all_of most bytes rest front found ends content so_far =
     sym (so_far.all
@@ -116,12 +116,12 @@ no_field most bytes rest front on room none so_far =
     let next : most - length front ≡ suc (most - length front - 1) = omega (arith, so_far.few) in
     sym (so_far.all ∙ ap (λ (n : ℕ). option_map (with_fields front) (fields_within n rest)) next ∙ ap (λ (o : Option (List Field × List ℕ)). option_map (with_fields front) o) (none_within (most - length front - 1) rest on none))
 
--- ---- the one field of a name
+-- ---- the single field of a name
 
 abbrev pub named : List ℕ → List Field → List Field
 named name fields = filter (λ field. str_eq_ignore_ascii_case field.name name) fields
 
--- the one value, where one was found or none, and where these are the others of the name
+-- the single value, given the one found so far, if any, and the remaining fields of the name
 abbrev pub one_of : Option (List ℕ) → List Field → Option (Option (List ℕ))
 one_of None fields = at_most_one fields
 one_of (Some value) [] = Some (Some value)

@@ -1,4 +1,4 @@
--- What the known fields of a part say.
+-- The values of the known fields of a part.
 use Rattle.std.proofs.Common.{◌≡◌, ℕ, ◌+◌, ◌-◌, ◌<◌, ◌≤◌, Bool, true, false, cond, List, length, take, drop, Some, None, refl, ap, arith, length-take, length-drop, ltb, leb}
 use Rattle.std.specs.Prelude.{◌↔◌, IsTrue, ◌&&◌, codes}
 use Rattle.std.specs.List.{list_all}
@@ -36,7 +36,7 @@ is_word_of bytes is =
     let each = list_all-from_AllPass (allows Identifier) bytes (All-from_all_within (λ b. IsTrue (allows Identifier b)) bytes is.each) in
     rw (lt-ltb 0 (length bytes) is.some, le-leb (length bytes) 255 is.limited, each) refl
 
--- a test that tells an identifier is the one of the definition
+-- a test that decides identifiers is the definition's test
 pub tells_word : (r : Bool) (bytes : List ℕ) → (IsTrue r ↔ IsWord Identifier bytes) → r ≡ is_word bytes
 tells_word r bytes told = same_from_decides {P = IsWord Identifier bytes} r (is_word bytes) told (word_is bytes, is_word_of bytes)
 

@@ -8,7 +8,6 @@ pub mod PartAgain
 mod PartLemmas
 mod PartTakes
 mod QuoteLemmas
-mod SearchLemmas
 mod TrimLemmas
 pub mod TypeAgain
 mod TypeTakes

@@ -1,12 +1,12 @@
--- The unfolded lines of a field are a media text, where they aren't too long.
+-- The unfolded lines of a field are a media text, unless they are too long.
 use Rattle.std.proofs.Common.{◌≡◌, ℕ, ◌-◌, ◌<◌, ◌≤◌, Bool, true, false, not, List, [], ◌∷◌, ◌++◌, length, get_or, Some, refl, sym, ap, subst, ◌∙◌, arith, inl, inr, length-append, ltb, leb, ◌==◌}
 use Rattle.std.specs.Prelude.{IsTrue, ◌&&◌, ◌||◌, reverse}
 use Rattle.std.specs.List.{list_all, filter, take_while}
 use Rattle.std.proofs.lemmas.Bool.{cases_Bool, ltb-true, le-leb, leb-true}
 use Rattle.std.proofs.lemmas.Option.{cond_some}
 use Rattle.std.proofs.lemmas.List.{reverse-append, reverse-reverse, length-reverse, get_or-reverse, get_or_append_left}
-use Rattle.as4_values.specs.Payload.{is_space, is_media_text}
-use Rattle.as4_values.specs.Texts.{is_blank}
+use Rattle.as4_values.specs.Payload.{is_media_text}
+use Rattle.byte_forms.specs.Classes.{is_blank, is_space}
 use Rattle.byte_forms.specs.Cuts.{skip}
 use Rattle.byte_forms.proofs.CutLemmas.{Stops, run_whole, run_stops}
 use Rattle.mime_fields.specs.Fields.{is_line_byte, trimmed, unfolded, media_of}
@@ -36,7 +36,7 @@ first_out : (class : ℕ → Bool) (bytes : List ℕ) → Stops class bytes → 
 first_out class [] stops some = absurd (omega arith)
 first_out class (b ∷ bytes) stops some = stops
 
--- what is trimmed at the end is a front
+-- bytes trimmed at the end are a prefix
 front_of : (bytes : List ℕ) → bytes ≡ reverse (skip is_space (reverse bytes)) ++ reverse (take_while is_space (reverse bytes))
 front_of bytes =
     sym (reverse-reverse bytes) ∙ ap reverse (run_whole is_space (reverse bytes)) ∙ reverse-append (take_while is_space (reverse bytes)) (skip is_space (reverse bytes))

@@ -1,17 +1,17 @@
--- Parameters, one behind another, as a loop cuts them.
+-- Parameters, one after another, as a loop cuts them.
 use Rattle.std.proofs.Common.{◌≡◌, ℕ, zero, suc, ◌<◌, ◌≤◌, true, false, List, [], ◌∷◌, ◌++◌, length, Option, Some, None, option_map, refl, sym, ap, ◌∙◌, arith, inl, inr, append_assoc, append-nil, length-append}
 use Rattle.std.proofs.lemmas.Bool.{cases_Bool}
 use Rattle.std.specs.List.{list_all}
 use Rattle.std.specs.Prelude.{codes}
-use Rattle.as4_values.specs.Payload.{is_space}
-use Rattle.byte_forms.specs.Cuts.{◌>>=◌, skip, run_at, behind}
-use Rattle.byte_forms.proofs.CutLemmas.{cases_option, length-skip, run_shortens, behind_takes}
+use Rattle.byte_forms.specs.Classes.{is_space}
+use Rattle.byte_forms.specs.Cuts.{◌>>=◌, skip, run_at, strip_prefix}
+use Rattle.byte_forms.proofs.CutLemmas.{cases_option, length-skip, run_shortens, strip_prefix_takes}
 use Rattle.mime_fields.proofs.TypeTakes.{parameter_takes, length-parameter_text}
 use Rattle.mime_fields.specs.WrittenTypes.{parameter_text}
 use Rattle.mime_fields.specs.MediaTypes.{Parameter, MediaType, media_type_of, is_token_byte, parameter_at, parameters_within}
 
-behind_shortens : (word bytes rest : List ℕ) → behind word bytes ≡ Some rest → length rest ≤ length bytes
-behind_shortens word bytes rest e = omega (arith, ap length (behind_takes word bytes rest e), length-append word rest)
+behind_shortens : (word bytes rest : List ℕ) → strip_prefix word bytes ≡ Some rest → length rest ≤ length bytes
+behind_shortens word bytes rest e = omega (arith, ap length (strip_prefix_takes word bytes rest e), length-append word rest)
 
 -- no parameter is empty
 pub parameter_shortens : (bytes : List ℕ) (x : Parameter × List ℕ) → parameter_at bytes ≡ Some x → length x.1 < length bytes
@@ -19,7 +19,7 @@ parameter_shortens bytes x cut =
     let taken = parameter_takes bytes x cut in
     omega (arith, ap length taken.whole, length-append (parameter_text taken.written) x.1, length-parameter_text taken.written)
 
--- ---- parameters within a number of them
+-- ---- a limited number of parameters
 
 ended : (n : ℕ) (bytes : List ℕ) → list_all is_space bytes ≡ true → parameters_within n bytes ≡ Some []
 unfolding parameters_within
@@ -35,7 +35,7 @@ one_within : (n : ℕ) (bytes : List ℕ) (x : Parameter × List ℕ) → list_a
 unfolding parameters_within
 one_within n bytes x more cut = rw (more, cut) refl
 
--- a larger number changes nothing
+-- a larger limit changes nothing
 pub enough : (n m : ℕ) (bytes : List ℕ) → length bytes ≤ n → length bytes ≤ m → parameters_within n bytes ≡ parameters_within m bytes
 enough zero m bytes few_n few_m = elim (cases_Bool (list_all is_space bytes)) [
   | inl spaces ↦ ended zero bytes spaces ∙ sym (ended m bytes spaces)
@@ -61,7 +61,7 @@ enough (suc n) (suc m) bytes few_n few_m = elim (cases_Bool (list_all is_space b
   ]
 ]
 
--- these parameters stand in front, and those of the rest behind them
+-- these parameters come first, followed by those of the rest
 abbrev pub GoOn : List ℕ → List Parameter → List ℕ → Type 0
 GoOn bytes front rest =
     parameters_within (length bytes) bytes ≡ option_map (λ others. front ++ others) (parameters_within (length rest) rest)
@@ -88,8 +88,8 @@ pub none_of : (bytes rest : List ℕ) (front : List Parameter) → list_all is_s
 none_of bytes rest front more none so_far =
     sym (so_far ∙ ap (λ (o : Option (List Parameter)). option_map (λ others. front ++ others) o) (none_within (length rest) rest more none))
 
--- a media type, by its type, its subtype and the parameters that were found behind them
-pub type_told : (text rest : List ℕ) (kind subkind : List ℕ × List ℕ) (found : Option (List Parameter)) → run_at is_token_byte (skip is_space text) ≡ Some kind → behind (codes "/") kind.1 ≡ Some rest → run_at is_token_byte rest ≡ Some subkind
+-- a media type, from its type, its subtype and the parameters found after them
+pub type_told : (text rest : List ℕ) (kind subkind : List ℕ × List ℕ) (found : Option (List Parameter)) → run_at is_token_byte (skip is_space text) ≡ Some kind → strip_prefix (codes "/") kind.1 ≡ Some rest → run_at is_token_byte rest ≡ Some subkind
     → found ≡ parameters_within (length subkind.1) subkind.1 → option_map (λ (all : List Parameter). record { kind = kind.0; subkind = subkind.0; parameters = all }) found ≡ media_type_of text
 unfolding media_type_of
 type_told text rest kind subkind found e0 e1 e2 e3 =

@@ -1,12 +1,12 @@
--- A part that is written is read.
+-- A written part is read back.
 use Rattle.std.proofs.Common.{◌≡◌, ℕ, zero, suc, ◌<◌, ◌≤◌, true, false, not, List, [], ◌∷◌, ◌++◌, length, map, Option, Some, None, option_map, All, refl, ap, ◌∙◌, arith, append_assoc, append-nil, length-append, ◌==◌, ltb}
 use Rattle.std.specs.Prelude.{IsTrue, ◌&&◌}
 use Rattle.std.specs.List.{list_all, flat_map}
 use Rattle.std.proofs.lemmas.Bool.{and_parts, ltb-true, ne_eqb}
 use Rattle.std.proofs.lemmas.List.Elements.{All-head, All-tail}
-use Rattle.as4_values.specs.Payload.{is_space}
-use Rattle.byte_forms.specs.Cuts.{skip, behind}
-use Rattle.byte_forms.proofs.CutLemmas.{take_again, skip_again, run_again, behind_again}
+use Rattle.byte_forms.specs.Classes.{is_space}
+use Rattle.byte_forms.specs.Cuts.{skip, strip_prefix}
+use Rattle.byte_forms.proofs.CutLemmas.{take_again, skip_again, run_again, strip_prefix_again}
 use Rattle.mime_fields.specs.Fields.{Field, crlf, is_name_byte, is_line_byte, begins_with_space, lines_within, field_at, fields_within, max_fields}
 use Rattle.mime_fields.specs.Loops.{goes_on, content_at}
 use Rattle.mime_fields.specs.WrittenParts.{WrittenField, WrittenPart, field_text, content_text, part_text, field_meant, content_meant, IsLine, IsField, IsPart, HasFields}
@@ -16,8 +16,8 @@ use Rattle.mime_fields.proofs.PartTakes.{IsFolded, folds, unfolded_meant, field_
 
 -- ---- lines
 
-line_cut : (line next : List ℕ) → IsLine line → behind crlf (skip is_line_byte (line ++ (crlf ++ next))) ≡ Some next
-line_cut line next is = ap (behind crlf) (skip_again is_line_byte line (crlf ++ next) is refl) ∙ behind_again crlf next
+line_cut : (line next : List ℕ) → IsLine line → strip_prefix crlf (skip is_line_byte (line ++ (crlf ++ next))) ≡ Some next
+line_cut line next is = ap (strip_prefix crlf) (skip_again is_line_byte line (crlf ++ next) is refl) ∙ strip_prefix_again crlf next
 
 goes_on_so : (line rest : List ℕ) → begins_with_space line ≡ true → begins_with_space (line ++ rest) ≡ true
 goes_on_so [] rest is = absurd cc
@@ -49,7 +49,7 @@ field_again f rest is ends =
     rw (
       field_text-append f rest,
       run_again is_name_byte f.name (58 ∷ lines) (is.some, is.name) refl,
-      behind_again (58 ∷ []) lines,
+      strip_prefix_again (58 ∷ []) lines,
       lines_again (length lines) f.line f.folded rest few is.line is.folded ends,
       unfolded_meant f.line f.folded is.line is.folded,
     ) refl
@@ -59,7 +59,7 @@ field_again f rest is ends =
 name_above : (b : ℕ) → is_name_byte b ≡ true → 32 < b
 name_above b is = ltb-true 32 b (and_parts (ltb 32 b) (ltb b 127) (and_parts (ltb 32 b && ltb b 127) (not (b == 58)) is).0).0
 
--- a byte of a name is no space, and doesn't begin an empty line
+-- a name byte is no space, and doesn't begin an empty line
 no_space : (b : ℕ) → 32 < b → is_space b ≡ false
 no_space b above = rw (ne_eqb b 32 (λ is. omega arith), ne_eqb b 9 (λ is. omega arith)) refl
 
@@ -80,7 +80,7 @@ field_goes_on f rest is =
     let begins = name_begins f rest is in
     ap goes_on begins.2 ∙ rw (ne_eqb begins.0 13 (λ cr. omega (arith, begins.3))) refl
 
--- behind a field stands another, an empty line or nothing
+-- a field is followed by another field, an empty line or the end
 no_line_on : (fields : List WrittenField) (content : Option (List ℕ)) → All IsField fields → begins_with_space (flat_map field_text fields ++ content_text content) ≡ false
 no_line_on [] None each = refl
 no_line_on [] (Some content) each = refl
@@ -95,7 +95,7 @@ content_ends (Some content) = refl
 content_again : (content : Option (List ℕ)) → content_at (content_text content) ≡ Some (content_meant content)
 unfolding content_at
 content_again None = refl
-content_again (Some content) = behind_again crlf content
+content_again (Some content) = strip_prefix_again crlf content
 
 fields_again : (n : ℕ) (fields : List WrittenField) (content : Option (List ℕ)) → length fields ≤ n → All IsField fields
     → fields_within n (flat_map field_text fields ++ content_text content) ≡ Some (map field_meant fields, content_meant content)
@@ -109,7 +109,7 @@ fields_again (suc n) (f ∷ fields) content few each =
     ∙ one_within n (field_text f ++ more) (field_meant f, more) (field_goes_on f more is) (field_again f more is (no_line_on fields content others))
     ∙ ap (λ (o : Option (List Field × List ℕ)). option_map (with_fields (field_meant f ∷ [])) o) (fields_again n fields content (omega arith) others)
 
--- what is written so is read
+-- a written head is read back
 pub part_again : (w : WrittenPart) → IsPart w → fields_within max_fields (part_text w) ≡ Some (map field_meant w.fields, content_meant w.content)
 part_again w is = fields_again max_fields w.fields w.content is.few is.fields
 

@@ -1,11 +1,11 @@
--- A part, by its head, its known fields and what they say.
+-- A part, from its head, its known fields and their values.
 use Rattle.std.proofs.Common.{◌≡◌, ℕ, List, Option, Some, None, refl, sym, ◌∙◌}
 use Rattle.std.specs.Prelude.{codes}
 use Rattle.byte_forms.specs.Cuts.{◌>>=◌}
 use Rattle.mime_fields.specs.Fields.{Field, PartValue, max_fields, fields_within, value_of, part_of}
 use Rattle.mime_fields.specs.Known.{KnownValues, known_of, part_with}
 
--- what is made of three values, by way of a record of them
+-- a part made from three values, by way of a record of them
 three : (a b c : Option (Option (List ℕ))) (made : KnownValues → Option PartValue)
     → (a >>= λ id. b >>= λ media. c >>= λ encoding. made (record { id = id; media = media; encoding = encoding }))
     ≡ ((a >>= λ id. b >>= λ media. c >>= λ encoding. Some (record { id = id; media = media; encoding = encoding })) >>= made)

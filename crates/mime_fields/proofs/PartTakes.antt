@@ -1,23 +1,23 @@
--- A part's fields and content that are read are written so.
+-- The fields and the content that are read from a part were written there.
 use Rattle.std.proofs.Common.{◌≡◌, ℕ, zero, suc, ◌≤◌, true, List, [], ◌∷◌, ◌++◌, length, map, Option, Some, None, option_map, All, refl, sym, ap, subst, ◌∙◌, arith, inl, inr, append_assoc, append-nil}
 use Rattle.std.specs.Prelude.{IsTrue}
 use Rattle.std.specs.List.{list_all, take_while, flat_map, filter}
 use Rattle.std.proofs.lemmas.Bool.{cases_Bool, and_parts}
 use Rattle.std.proofs.lemmas.Option.{same_Some}
 use Rattle.std.proofs.lemmas.List.Elements.{All-nil, All-cons, All-head, All-tail, filter-append}
-use Rattle.byte_forms.specs.Cuts.{skip, run_at, behind}
-use Rattle.byte_forms.proofs.CutLemmas.{cases_option, bind_some, run_passes, run_takes, behind_takes}
+use Rattle.byte_forms.specs.Cuts.{skip, run_at, strip_prefix}
+use Rattle.byte_forms.proofs.CutLemmas.{cases_option, bind_some, run_passes, run_takes, strip_prefix_takes}
 use Rattle.mime_fields.specs.Fields.{Field, crlf, is_name_byte, is_line_byte, begins_with_space, lines_within, trimmed, unfolded, field_at, fields_within, max_fields}
 use Rattle.mime_fields.specs.Loops.{goes_on, content_at}
 use Rattle.mime_fields.specs.WrittenParts.{WrittenField, field_text, content_text, field_meant, content_meant, IsLine, IsField, HasFields}
 use Rattle.mime_fields.proofs.LineLemmas.{within_none, lines_none, lines_last, lines_more, with_line, lines_whole}
 use Rattle.mime_fields.proofs.FieldLemmas.{with_fields, with_none, ended, too_many, one_within, none_within}
 
--- a line that goes on a field
+-- a line that continues a field
 abbrev pub IsFolded : List ℕ → Type 0
 IsFolded line = IsLine line × IsTrue (begins_with_space line)
 
--- lines behind line ends
+-- lines, each after a line end
 abbrev pub folds : List (List ℕ) → List ℕ
 folds folded = flat_map (λ line. crlf ++ line) folded
 
@@ -30,7 +30,7 @@ record LinesTaken (x : List ℕ × List ℕ) : Type 0 where
   each : All IsFolded folded
   text : x.0 ≡ line ++ folds folded
 
--- what begins with a space does so by its first line
+-- lines that begin with a space have it in their first line
 line_begins : (line : List ℕ) (folded : List (List ℕ)) (rest : List ℕ) → begins_with_space ((line ++ folds folded) ++ (crlf ++ rest)) ≡ true → begins_with_space line ≡ true
 line_begins [] [] rest is = absurd cc
 line_begins [] (next ∷ folded) rest is = absurd cc
@@ -52,7 +52,7 @@ more_taken bytes next (Some y) x begins taken whole e =
 
 lines_take : (n : ℕ) (bytes : List ℕ) (x : List ℕ × List ℕ) → lines_within n bytes ≡ Some x → LinesTaken x
 lines_take zero bytes x e = let none = within_none bytes in absurd cc
-lines_take (suc n) bytes x e = elim (cases_option (behind crlf (skip is_line_byte bytes))) [
+lines_take (suc n) bytes x e = elim (cases_option (strip_prefix crlf (skip is_line_byte bytes))) [
   | inl none ↦ let nothing = lines_none (suc n) bytes none in absurd cc
   | inr some ↦ elim (cases_Bool (begins_with_space some.0)) [
     | inl more ↦ more_taken bytes some.0 (lines_within n some.0) x more (lines_take n some.0) (lines_whole n some.0) (sym (lines_more n bytes some.0 some.1 more) ∙ e)
@@ -77,7 +77,7 @@ filter-folds [] each = refl
 filter-folds (line ∷ folded) each =
     filter-append is_line_byte line (folds folded) ∙ rw (filter-line line (All-head IsFolded line folded each).0, filter-folds folded (All-tail IsFolded line folded each)) refl
 
--- the lines in one
+-- the unfolded lines
 pub unfolded_meant : (line : List ℕ) (folded : List (List ℕ)) → IsLine line → All IsFolded folded → unfolded (line ++ folds folded) ≡ trimmed (line ++ flat_map (λ line. line) folded)
 unfolding unfolded
 unfolded_meant line folded is each =
@@ -101,10 +101,10 @@ field_takes : (bytes : List ℕ) (x : Field × List ℕ) → field_at bytes ≡ 
 unfolding field_at
 field_takes bytes x e =
     bind_some (run_at is_name_byte bytes) _ x e λ name e0 f0.
-    bind_some (behind (58 ∷ []) name.1) _ x f0 λ rest e1 f1.
+    bind_some (strip_prefix (58 ∷ []) name.1) _ x f0 λ rest e1 f1.
     bind_some (lines_within (length rest) rest) _ x f1 λ lines e2 f2.
     let t0 = run_takes is_name_byte bytes name e0 in
-    let t1 = behind_takes (58 ∷ []) name.1 rest e1 in
+    let t1 = strip_prefix_takes (58 ∷ []) name.1 rest e1 in
     let t2 = lines_take (length rest) rest lines e2 in
     let f : WrittenField = record { name = name.0; line = t2.line; folded = t2.folded } in
     let last : rest ≡ t2.line ++ (folds t2.folded ++ (crlf ++ lines.1)) = lines_whole (length rest) rest lines e2 ∙ ap (λ (r : List ℕ). r ++ (crlf ++ lines.1)) t2.text ∙ append_assoc t2.line (folds t2.folded) (crlf ++ lines.1) in
@@ -127,7 +127,7 @@ record ContentTaken (bytes content : List ℕ) : Type 0 where
 content_takes : (bytes content : List ℕ) → content_at bytes ≡ Some content → ContentTaken bytes content
 unfolding content_at
 content_takes [] content e = record { written = None; means = same_Some [] content e; whole = refl }
-content_takes (b ∷ bytes) content e = record { written = Some content; means = refl; whole = behind_takes crlf (b ∷ bytes) content e }
+content_takes (b ∷ bytes) content e = record { written = Some content; means = refl; whole = strip_prefix_takes crlf (b ∷ bytes) content e }
 
 record FieldsTaken (most : ℕ) (bytes : List ℕ) (x : List Field × List ℕ) : Type 0 where
   fields : List WrittenField
@@ -171,7 +171,7 @@ fields_take (suc n) bytes x e = elim (cases_Bool (goes_on bytes)) [
   | inr ends ↦ no_fields (suc n) bytes (content_at bytes) x (content_takes bytes) (sym (ended (suc n) bytes ends) ∙ e)
 ]
 
--- what is read is written so
+-- a head that is read was written there
 pub head_takes : (bytes : List ℕ) (fields : List Field) (content : List ℕ) → fields_within max_fields bytes ≡ Some (fields, content) → HasFields bytes fields content
 head_takes bytes fields content e =
     let taken = fields_take max_fields bytes (fields, content) e in

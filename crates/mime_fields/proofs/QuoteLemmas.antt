@@ -1,4 +1,4 @@
--- Quoted strings, up to the quote that ends them.
+-- Quoted strings, up to the closing quote.
 use Rattle.std.proofs.Common.{eq-eqb, ◌≡◌, ℕ, suc, ◌+◌, ◌<◌, ◌≤◌, true, false, ltb, List, [], ◌∷◌, ◌++◌, length, get_or, take, drop, Option, Some, None, option_map, refl, sym, ap, ◌∙◌, arith, inl, inr, ◌⊎◌, ◌==◌, append_assoc, append-nil}
 use Rattle.std.proofs.lemmas.Bool.{cases_Bool, ltb-true, ltb-false}
 use Rattle.std.proofs.lemmas.List.{drop_more, drop_all}
@@ -6,21 +6,21 @@ use Rattle.mime_fields.specs.MediaTypes.{quoted_at}
 use Rattle.mime_fields.specs.Lent.{unescaped}
 use Rattle.mime_fields.specs.Loops.{quoted_len, meant_at}
 
--- one byte more
+-- one more byte
 take_next : (n b : ℕ) (bytes : List ℕ) → take (n + 1) (b ∷ bytes) ≡ b ∷ take n bytes
 take_next n b bytes = let next : n + 1 ≡ suc n = omega arith in rw next refl
 
 drop_next : (n b : ℕ) (bytes : List ℕ) → drop (n + 1) (b ∷ bytes) ≡ drop n bytes
 drop_next n b bytes = let next : n + 1 ≡ suc n = omega arith in rw next refl
 
--- two bytes more
+-- two more bytes
 take_two : (n b c : ℕ) (bytes : List ℕ) → take (n + 2) (b ∷ c ∷ bytes) ≡ b ∷ c ∷ take n bytes
 take_two n b c bytes = let next : n + 2 ≡ suc (suc n) = omega arith in rw next refl
 
 drop_two : (n b c : ℕ) (bytes : List ℕ) → drop (n + 2 + 1) (b ∷ c ∷ bytes) ≡ drop (n + 1) bytes
 drop_two n b c bytes = let next : n + 2 + 1 ≡ suc (suc (n + 1)) = omega arith in rw next refl
 
--- ---- what a quoted string means
+-- ---- the meaning of a quoted string
 
 unescaped_plain : (b : ℕ) (bytes : List ℕ) → (b == 92) ≡ false → unescaped (b ∷ bytes) ≡ b ∷ unescaped bytes
 unfolding unescaped
@@ -35,7 +35,7 @@ unescaped_last : (b : ℕ) → unescaped (b ∷ []) ≡ b ∷ unescaped []
 unfolding unescaped
 unescaped_last b = refl
 
--- ---- what ends it
+-- ---- its closing quote
 
 ends_plain : (b : ℕ) (bytes : List ℕ) → (b == 34) ≡ false → (b == 92) ≡ false → quoted_len (b ∷ bytes) ≡ option_map (λ n. n + 1) (quoted_len bytes)
 unfolding quoted_len
@@ -59,7 +59,7 @@ no_end_last : (b : ℕ) → (b == 34) ≡ false → quoted_len (b ∷ []) ≡ No
 unfolding quoted_len
 no_end_last b other = rw other refl
 
--- what is meant and what stands behind, by the place of the quote
+-- the meaning and the rest, by the index of the quote
 abbrev cut_at : List ℕ → ℕ → List ℕ × List ℕ
 cut_at bytes n = (unescaped (take n bytes), drop (n + 1) bytes)
 
@@ -75,7 +75,7 @@ nothing_before : (b : ℕ) (bytes : List ℕ) → cut_at (b ∷ bytes) 0 ≡ ([]
 unfolding unescaped
 nothing_before b bytes = refl
 
--- a quoted string, by the place of the quote that ends it
+-- a quoted string, by the index of its closing quote
 pub by_len : (bytes : List ℕ) → quoted_at bytes ≡ option_map (λ n. (unescaped (take n bytes), drop (n + 1) bytes)) (quoted_len bytes)
 unfolding quoted_at
 by_len [] = rw no_end refl
@@ -91,9 +91,9 @@ by_len (b ∷ c ∷ bytes) = elim (cases_Bool (b == 34)) [
   ]
 ]
 
--- ---- as loops go over it
+-- ---- as loops pass over it
 
--- how the byte stands that is meant at a place
+-- how the byte at a place of the meaning is spelled
 abbrev Stands : List ℕ → ℕ → Type 0
 Stands bytes at =
     ((get_or bytes at 0 == 92) ≡ true) × (at + 1 < length bytes) × (meant_at bytes at ≡ at + 1)
@@ -109,7 +109,7 @@ stands bytes at = elim (cases_Bool (get_or bytes at 0 == 92)) [
   | inr other ↦ inr (inr (other, rw other refl))
 ]
 
--- the byte here and those behind
+-- the byte at this index and those after it
 here : (bytes : List ℕ) (at : ℕ) → at < length bytes → drop at bytes ≡ get_or bytes at 0 ∷ drop (at + 1) bytes
 here bytes at short = drop_more bytes at 0 short
 
@@ -120,7 +120,7 @@ meant_here bytes at short = ap unescaped (here bytes at short) ∙ (elim (stands
   | inr (inr s) ↦ rw s.1 (unescaped_plain (get_or bytes at 0) (drop (at + 1) bytes) s.0)
 ])
 
--- the bytes so far stand before those of the rest
+-- the bytes so far precede those of the rest
 abbrev pub MeantSoFar : List ℕ → List ℕ → ℕ → Type 0
 MeantSoFar quoted front at = unescaped quoted ≡ front ++ unescaped (drop at quoted)
 
@@ -136,7 +136,7 @@ add_up : (at k m : ℕ) (o : Option ℕ) → at + k ≡ m → option_map (λ n. 
 add_up at k m None e = refl
 add_up at k m (Some n) e = let sum : n + k + at ≡ n + m = omega arith in rw sum refl
 
--- the quote that ends the rest ends all of them
+-- the closing quote of the rest is that of the whole
 abbrev pub EndsBehind : List ℕ → ℕ → Type 0
 EndsBehind bytes at = quoted_len bytes ≡ option_map (λ n. n + at) (quoted_len (drop at bytes))
 

@@ -6,8 +6,7 @@ use Rattle.std.proofs.lemmas.Bool.Decides.{nat_tests}
 use Rattle.std.proofs.lemmas.List.Elements.{filter-append, filter_more}
 use Rattle.std.specs.Prelude.{reverse}
 use Rattle.std.specs.List.{filter, prefix_len}
-use Rattle.as4_values.specs.Payload.{is_space}
-use Rattle.as4_values.specs.Texts.{is_blank}
+use Rattle.byte_forms.specs.Classes.{is_blank, is_space}
 use Rattle.byte_forms.specs.Cuts.{skip}
 use Rattle.mime_fields.specs.Fields.{is_line_byte, trimmed, unfolded, media_of}
 use Rattle.mime_fields.specs.Loops.{end_trimmed}
@@ -22,7 +21,7 @@ skip_in class b bytes is =
 skip_out : (class : ℕ → Bool) (b : ℕ) (bytes : List ℕ) → class b ≡ false → skip class (b ∷ bytes) ≡ b ∷ bytes
 skip_out class b bytes other = rw other refl
 
--- ---- the other way round
+-- ---- in reverse
 
 reverse-cons : (b : ℕ) (bytes : List ℕ) → reverse (b ∷ bytes) ≡ reverse bytes ++ b ∷ []
 reverse-cons b bytes = reverse-append (b ∷ []) bytes
@@ -38,9 +37,9 @@ filter-reverse class (b ∷ bytes) =
       | inr other ↦ rw (other, filter-reverse class bytes) (append-nil (reverse (filter class bytes)))
     ])
 
--- ---- the lines in one
+-- ---- unfolding
 
--- spaces of the unfolded lines, and blanks and line ends of the lines
+-- skipping spaces after unfolding equals skipping blanks and line ends before it
 skip-filter : (bytes : List ℕ) → skip is_space (filter is_line_byte bytes) ≡ filter is_line_byte (skip is_blank bytes)
 skip-filter [] = refl
 skip-filter (b ∷ bytes) = elim (cases_Bool (b == 13)) [

@@ -1,19 +1,19 @@
--- A media type that is written is read.
+-- A written media type is read back.
 use Rattle.std.proofs.Common.{◌≡◌, ◌≢◌, ℕ, zero, suc, ◌≤◌, Bool, true, false, List, [], ◌∷◌, ◌++◌, length, map, Option, Some, option_map, All, refl, ap, subst, ◌∙◌, inl, inr, append_assoc, length-append, arith, ◌⊎◌, ◌==◌}
 use Rattle.std.specs.Prelude.{IsTrue, ◌&&◌}
 use Rattle.std.specs.List.{list_all, flat_map}
 use Rattle.std.proofs.lemmas.Bool.{eqb-true, ne_eqb, and_parts, or_cases, false_from_ne_true}
 use Rattle.std.proofs.lemmas.List.Folds.{list_all-append}
 use Rattle.std.proofs.lemmas.List.Elements.{All-head, All-tail}
-use Rattle.as4_values.specs.Payload.{is_space}
-use Rattle.byte_forms.proofs.CutLemmas.{Stops, IsRun, skip_again, run_again, behind_again}
+use Rattle.byte_forms.specs.Classes.{is_space}
+use Rattle.byte_forms.proofs.CutLemmas.{Stops, IsRun, skip_again, run_again, strip_prefix_again}
 use Rattle.mime_fields.specs.MediaTypes.{MediaType, is_token_byte, quoted_at, value_at, parameter_at, parameters_within, media_type_of}
 use Rattle.mime_fields.specs.WrittenTypes.{QuotedByte, WrittenValue, token, quoted, WrittenParameter, WrittenType, quoted_text, value_text, parameter_text, type_text, value_meant, parameter_meant, type_meant, IsQuoted, IsValue, IsParameter, IsWritten, IsMediaType}
 use Rattle.mime_fields.proofs.TypeTakes.{parameter_text-append, length-parameter_text}
 
--- ---- classes apart
+-- ---- distinct classes
 
--- a fact of each space
+-- a fact about each space
 of_spaces : (P : ℕ → Type 0) → P 32 → P 9 → (b : ℕ) → is_space b ≡ true → P b
 of_spaces P s t b is = elim (or_cases (b == 32) (b == 9) is) [
   | inl e ↦ rw (eqb-true b 32 e) s
@@ -32,12 +32,12 @@ token_no_quote b is = false_from_ne_true (b == 34) (λ quote. let at : is_token_
 head_of_all : (class : ℕ → Bool) (b : ℕ) (bytes : List ℕ) → IsTrue (list_all class (b ∷ bytes)) → class b ≡ true
 head_of_all class b bytes pass = (and_parts (class b) (list_all class bytes) pass).0
 
--- what is at the front of a token is no space
+-- the first byte of a token is no space
 token_stops : (front rest : List ℕ) → IsRun is_token_byte front → Stops is_space (front ++ rest)
 token_stops [] rest run = absurd (omega (arith, run.0))
 token_stops (b ∷ front) rest run = token_no_space b (head_of_all is_token_byte b front run.1)
 
--- what stands behind spaces goes on no token
+-- the bytes after spaces don't continue a token
 spaces_stop : (front rest : List ℕ) → IsTrue (list_all is_space front) → Stops is_token_byte rest → Stops is_token_byte (front ++ rest)
 spaces_stop [] rest pass stops = stops
 spaces_stop (b ∷ front) rest pass stops = space_no_token b (head_of_all is_space b front pass)
@@ -92,10 +92,10 @@ parameter_again p rest is stops =
     rw (
       parameter_text-append p rest,
       skip_again is_space p.before (59 ∷ (p.after ++ named)) is.before refl,
-      behind_again (59 ∷ []) (p.after ++ named),
+      strip_prefix_again (59 ∷ []) (p.after ++ named),
       skip_again is_space p.after named is.after (token_stops p.name (61 ∷ valued) is.name),
       run_again is_token_byte p.name (61 ∷ valued) is.name refl,
-      behind_again (61 ∷ []) valued,
+      strip_prefix_again (61 ∷ []) valued,
       value_again p.value rest is.value stops,
     ) refl
 
@@ -115,7 +115,7 @@ beside_false : (b : Bool) → (b && false) ≡ false
 beside_false true = refl
 beside_false false = refl
 
--- where `;` stands there aren't spaces alone
+-- bytes that contain `;` are not only spaces
 no_blanks : (before rest : List ℕ) → list_all is_space (before ++ (59 ∷ rest)) ≡ false
 no_blanks before rest = list_all-append is_space before (59 ∷ rest) ∙ beside_false (list_all is_space before)
 
@@ -138,7 +138,7 @@ length-parameters (p ∷ ps) =
 
 -- ---- media types
 
--- what is written so is read
+-- a written media type is read back
 pub type_again : (w : WrittenType) → IsWritten w → media_type_of (type_text w) ≡ Some (type_meant w)
 unfolding media_type_of
 type_again w is =
@@ -149,7 +149,7 @@ type_again w is =
     rw (
       skip_again is_space w.before kinded is.before (token_stops w.kind (47 ∷ subkinded) is.kind),
       run_again is_token_byte w.kind (47 ∷ subkinded) is.kind refl,
-      behind_again (47 ∷ []) subkinded,
+      strip_prefix_again (47 ∷ []) subkinded,
       run_again is_token_byte w.subkind last is.subkind (parameters_stop w.parameters w.after is.parameters (blank_stops w.after is.after)),
       parameters_again (length (type_text w)) w.parameters w.after len is.parameters is.after,
     ) refl

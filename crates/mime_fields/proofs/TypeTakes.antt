@@ -1,23 +1,23 @@
--- A media type that is read is written so.
+-- A media type that is read was written there.
 use Rattle.std.proofs.Common.{◌≡◌, ◌<◌, ℕ, zero, suc, true, false, List, [], ◌∷◌, ◌++◌, length, map, Option, Some, None, option_map, All, refl, sym, ap, subst, ◌∙◌, inl, inr, append_assoc, length-append, arith, ◌==◌}
 use Rattle.std.specs.Prelude.{IsTrue}
 use Rattle.std.specs.List.{list_all, take_while, flat_map}
 use Rattle.std.proofs.lemmas.Bool.{eqb-true, eqb-false, cases_Bool}
 use Rattle.std.proofs.lemmas.Option.{same_Some, cond_some}
 use Rattle.std.proofs.lemmas.List.Elements.{All-nil, All-cons}
-use Rattle.as4_values.specs.Payload.{is_space}
-use Rattle.byte_forms.specs.Cuts.{skip, run_at, behind}
-use Rattle.byte_forms.proofs.CutLemmas.{bind_some, run_whole, run_passes, run_takes, behind_takes}
+use Rattle.byte_forms.specs.Classes.{is_space}
+use Rattle.byte_forms.specs.Cuts.{skip, run_at, strip_prefix}
+use Rattle.byte_forms.proofs.CutLemmas.{bind_some, run_whole, run_passes, run_takes, strip_prefix_takes}
 use Rattle.mime_fields.specs.MediaTypes.{Parameter, MediaType, is_token_byte, quoted_at, value_at, parameter_at, parameters_within, media_type_of}
 use Rattle.mime_fields.specs.WrittenTypes.{QuotedByte, WrittenValue, token, quoted, WrittenParameter, WrittenType, quoted_text, value_text, parameter_text, type_text, value_meant, parameter_meant, type_meant, IsQuoted, IsValue, IsParameter, IsWritten, IsMediaType}
 
--- bytes in two parts, of which the second is as well
+-- replaces the second of two parts by an equal one
 onto : (bytes front middle rest : List ℕ) → bytes ≡ front ++ middle → middle ≡ rest → bytes ≡ front ++ rest
 onto bytes front middle rest e f = e ∙ ap (λ (r : List ℕ). front ++ r) f
 
 -- ---- values
 
--- bytes of a quoted string, up to the quote that ends it
+-- the bytes of a quoted string, up to its closing quote
 record QuotedTaken (bytes : List ℕ) (x : List ℕ × List ℕ) : Type 0 where
   parts : List QuotedByte
   each : All IsQuoted parts
@@ -99,13 +99,13 @@ pub record ParameterTaken (bytes : List ℕ) (x : Parameter × List ℕ) : Type 
 pub parameter_takes : (bytes : List ℕ) (x : Parameter × List ℕ) → parameter_at bytes ≡ Some x → ParameterTaken bytes x
 unfolding parameter_at
 parameter_takes bytes x e =
-    bind_some (behind (59 ∷ []) (skip is_space bytes)) _ x e λ rest e0 f0.
+    bind_some (strip_prefix (59 ∷ []) (skip is_space bytes)) _ x e λ rest e0 f0.
     bind_some (run_at is_token_byte (skip is_space rest)) _ x f0 λ name e1 f1.
-    bind_some (behind (61 ∷ []) name.1) _ x f1 λ valued e2 f2.
+    bind_some (strip_prefix (61 ∷ []) name.1) _ x f1 λ valued e2 f2.
     bind_some (value_at valued) _ x f2 λ value e3 f3.
-    let t0 = behind_takes (59 ∷ []) (skip is_space bytes) rest e0 in
+    let t0 = strip_prefix_takes (59 ∷ []) (skip is_space bytes) rest e0 in
     let t1 = run_takes is_token_byte (skip is_space rest) name e1 in
-    let t2 = behind_takes (61 ∷ []) name.1 valued e2 in
+    let t2 = strip_prefix_takes (61 ∷ []) name.1 valued e2 in
     let t3 = value_takes valued value e3 in
     let p : WrittenParameter = record { before = take_while is_space bytes; after = take_while is_space rest; name = name.0; value = t3.written } in
     let last : name.1 ≡ 61 ∷ (value_text p.value ++ value.1) = t2 ∙ ap (λ (r : List ℕ). 61 ∷ r) t3.whole in
@@ -159,16 +159,16 @@ parameters_take (suc n) bytes parameters e = elim (cases_Bool (list_all is_space
 
 -- ---- media types
 
--- what is read is written so
+-- a media type that is read was written there
 pub type_takes : (text : List ℕ) (m : MediaType) → media_type_of text ≡ Some m → IsMediaType text m
 unfolding media_type_of
 type_takes text m e =
     bind_some (run_at is_token_byte (skip is_space text)) _ m e λ kind e0 f0.
-    bind_some (behind (47 ∷ []) kind.1) _ m f0 λ rest e1 f1.
+    bind_some (strip_prefix (47 ∷ []) kind.1) _ m f0 λ rest e1 f1.
     bind_some (run_at is_token_byte rest) _ m f1 λ subkind e2 f2.
     bind_some (parameters_within (length text) subkind.1) _ m f2 λ parameters e3 f3.
     let t0 = run_takes is_token_byte (skip is_space text) kind e0 in
-    let t1 = behind_takes (47 ∷ []) kind.1 rest e1 in
+    let t1 = strip_prefix_takes (47 ∷ []) kind.1 rest e1 in
     let t2 = run_takes is_token_byte rest subkind e2 in
     let t3 = parameters_take (length text) subkind.1 parameters e3 in
     let w : WrittenType = record { before = take_while is_space text; kind = kind.0; subkind = subkind.0; parameters = t3.written; after = t3.after } in

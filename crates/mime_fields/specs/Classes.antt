@@ -1,7 +1,6 @@
--- The classes of bytes that the code goes over.
+-- The code's classes of bytes.
 use Rattle.std.specs.Prelude.{ℕ, Bool}
-use Rattle.as4_values.specs.Payload.{is_space}
-use Rattle.as4_values.specs.Texts.{is_blank}
+use Rattle.byte_forms.specs.Classes.{is_blank, is_space}
 use Rattle.mime_fields.specs.Fields.{is_name_byte, is_line_byte}
 use Rattle.mime_fields.specs.MediaTypes.{is_token_byte}
 use Rattle.mime_fields.specs.declared.class.Class.{Class}

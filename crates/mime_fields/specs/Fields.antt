@@ -1,18 +1,18 @@
--- How the head of a part is read: fields (RFC 2822, section 2.2) and the content behind them (RFC 2046, section 5.1).
+-- How the head of a part is read: fields (RFC 2822, section 2.2) followed by the content (RFC 2046, section 5.1).
 use Rattle.std.specs.Prelude.{ℕ, zero, suc, ◌-◌, List, [], ◌∷◌, ◌++◌, Bool, true, false, not, ◌&&◌, ◌||◌, ◌==◌, nat_lt, nat_le, nat_eq, if◌then◌else◌, Option, Some, None, option_map, codes, length, reverse, take, drop}
 use Rattle.std.specs.List.{filter, list_all, take_while, starts_with, ends_with}
 use Rattle.std.specs.Str.{str_eq_ignore_ascii_case}
-use Rattle.as4_values.specs.Payload.{is_space}
+use Rattle.byte_forms.specs.Classes.{is_space}
 use Rattle.as4_values.specs.Word.{allows}
 use Rattle.as4_values.specs.declared.word.Word.TheVariants.{Identifier}
-use Rattle.byte_forms.specs.Cuts.{◌>>=◌, skip, run_at, behind}
+use Rattle.byte_forms.specs.Cuts.{◌>>=◌, skip, run_at, strip_prefix}
 
 -- a field, with its value unfolded and trimmed
 pub record Field : Type 0 where
   pub name : List ℕ
   pub value : List ℕ
 
--- what a part says of itself: its Content-ID, its media text, whether its content stands as it is, and the content
+-- the values of a part: its Content-ID, its media text, whether its content is sent unencoded, and the content
 pub record PartValue : Type 0 where
   pub id : Option (List ℕ)
   pub media : List ℕ
@@ -22,7 +22,7 @@ pub record PartValue : Type 0 where
 abbrev pub crlf : List ℕ
 crlf = 13 ∷ 10 ∷ []
 
--- a graphic character of ASCII but the colon
+-- a graphic ASCII character other than the colon
 abbrev pub is_name_byte : ℕ → Bool
 is_name_byte b = nat_lt 32 b && nat_lt b 127 && not (b == 58)
 
@@ -33,46 +33,46 @@ abbrev pub begins_with_space : List ℕ → Bool
 begins_with_space [] = false
 begins_with_space (b ∷ bytes) = is_space b
 
--- lines, of which each but the first begins with a space or tab (section 2.2.3), and what stands behind the CRLF that
--- ends them; they are at most so many
+-- at most n lines, each of which after the first begins with a space or tab (section 2.2.3), and the bytes after the
+-- CRLF that ends them
 unfoldable pub lines_within : ℕ → List ℕ → Option (List ℕ × List ℕ)
 lines_within zero bytes = None
 lines_within (suc n) bytes = do
-  next ← behind crlf (skip is_line_byte bytes)
+  next ← strip_prefix crlf (skip is_line_byte bytes)
   if begins_with_space next
       then option_map (λ more. (take_while is_line_byte bytes ++ (crlf ++ more.0), more.1)) (lines_within n next)
       else Some (take_while is_line_byte bytes, next)
 
--- the same lines in one, without blanks at both ends
+-- the unfolded lines, without blanks at both ends
 unfoldable pub trimmed : List ℕ → List ℕ
 trimmed bytes = reverse (skip is_space (reverse (skip is_space bytes)))
 
 unfoldable pub unfolded : List ℕ → List ℕ
 unfolded lines = trimmed (filter is_line_byte lines)
 
--- a field, and what stands behind it
+-- a field, and the bytes after it
 unfoldable pub field_at : List ℕ → Option (Field × List ℕ)
 field_at bytes = do
   name ← run_at is_name_byte bytes
-  rest ← behind (codes ":") name.1
+  rest ← strip_prefix (codes ":") name.1
   lines ← lines_within (length rest) rest
   Some (record { name = name.0; value = unfolded lines.0 }, lines.1)
 
--- how many fields a part has at most: a limit of this reader
+-- the maximum number of fields of a part: a limit of this reader
 abbrev pub max_fields : ℕ
 max_fields = 64
 
--- fields, at most so many, and the content, which is empty where nothing stands behind them
+-- at most n fields, and the content, which is empty if nothing follows the fields
 unfoldable pub fields_within : ℕ → List ℕ → Option (List Field × List ℕ)
 fields_within zero [] = Some ([], [])
-fields_within zero (b ∷ bytes) = option_map (λ content. ([], content)) (behind crlf (b ∷ bytes))
+fields_within zero (b ∷ bytes) = option_map (λ content. ([], content)) (strip_prefix crlf (b ∷ bytes))
 fields_within (suc n) [] = Some ([], [])
 fields_within (suc n) (b ∷ bytes) =
-    if b == 13 then option_map (λ content. ([], content)) (behind crlf (b ∷ bytes)) else (
+    if b == 13 then option_map (λ content. ([], content)) (strip_prefix crlf (b ∷ bytes)) else (
     field_at (b ∷ bytes) >>= λ first. option_map (λ others. (first.0 ∷ others.0, others.1)) (fields_within n first.1)
     )
 
--- the one field of this name, where there is one; nothing at all where there are more
+-- the value of the field of this name, if there is one; `None` if there are several
 abbrev pub at_most_one : List Field → Option (Option (List ℕ))
 at_most_one [] = Some None
 at_most_one (field ∷ []) = Some (Some field.value)
@@ -81,7 +81,7 @@ at_most_one (field ∷ other ∷ others) = None
 unfoldable pub value_of : List ℕ → List Field → Option (Option (List ℕ))
 value_of name fields = at_most_one (filter (λ field. str_eq_ignore_ascii_case field.name name) fields)
 
--- what stands between angle brackets, or the bytes themselves
+-- the bytes between angle brackets, or the bytes themselves if they have none
 abbrev pub without_brackets : List ℕ → List ℕ
 without_brackets bytes =
     if starts_with nat_eq bytes (codes "<") && (ends_with nat_eq bytes (codes ">") && nat_lt 1 (length bytes))
@@ -99,12 +99,12 @@ abbrev pub id_of : Option (List ℕ) → Option (Option (List ℕ))
 id_of None = Some None
 id_of (Some value) = option_map Some (content_id value)
 
--- a media text of at most 1,024 bytes, empty where there is none: a limit of this reader
+-- a media text of at most 1,024 bytes, empty if there is none: a limit of this reader
 abbrev pub media_of : Option (List ℕ) → Option (List ℕ)
 media_of None = Some []
 media_of (Some value) = if nat_le (length value) 1024 then Some value else None
 
--- whether the content stands as it is (RFC 2045, section 6.2)
+-- whether the content is sent unencoded (RFC 2045, section 6.2)
 abbrev pub is_identity : Option (List ℕ) → Bool
 is_identity None = true
 is_identity (Some value) =

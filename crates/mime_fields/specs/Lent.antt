@@ -1,4 +1,4 @@
--- What is lent from bytes, without where it lies in memory.
+-- Borrowed bytes as values, without their address in memory.
 use Rattle.std.specs.Prelude.{ℕ, List, [], ◌∷◌, ◌==◌, if◌then◌else◌, map}
 use Rattle.mime_fields.specs.Fields.{Field, PartValue, unfolded}
 use Rattle.mime_fields.specs.MediaTypes.{Parameter, MediaType}
@@ -10,7 +10,7 @@ use Rattle.mime_fields.specs.declared.value.Value.TheVariants as value
 use Rattle.mime_fields.specs.declared.media_type.Parameter.{Parameter as LentParameter}
 use Rattle.mime_fields.specs.declared.media_type.MediaType.{MediaType as LentType}
 
--- what stands between the quotes, without the backslashes, each of which takes the next byte
+-- the bytes between the quotes, without backslashes; each backslash escapes the next byte
 unfoldable pub unescaped : List ℕ → List ℕ
 unescaped [] = []
 unescaped (b ∷ []) = b ∷ []

@@ -1,3 +1,4 @@
+-- How media types and the heads of parts are read and written.
 pub mod Classes
 pub mod Fields
 pub mod Known

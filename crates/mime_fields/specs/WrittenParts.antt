@@ -1,15 +1,16 @@
--- How a part is written: its fields, and its content behind an empty line (RFC 2046, section 5.1; RFC 2822, section 2.2).
+-- How a part is written: its fields, and its content after an empty line (RFC 2046, section 5.1; RFC 2822, section
+-- 2.2).
 use Rattle.std.specs.Prelude.{◌≡◌, ℕ, ◌<◌, ◌≤◌, List, [], ◌∷◌, ◌++◌, Option, Some, None, IsTrue, All, length, map}
 use Rattle.std.specs.List.{list_all, flat_map}
 use Rattle.mime_fields.specs.Fields.{Field, crlf, is_name_byte, is_line_byte, begins_with_space, trimmed, max_fields}
 
--- a field: its name, the line behind the colon, and the lines that go on with it
+-- a field: its name, the line after the colon, and the lines that continue it
 pub record WrittenField : Type 0 where
   pub name : List ℕ
   pub line : List ℕ
   pub folded : List (List ℕ)
 
--- the fields, and where an empty line stands behind them, the content
+-- the fields, and the content, if an empty line follows the fields
 pub record WrittenPart : Type 0 where
   pub fields : List WrittenField
   pub content : Option (List ℕ)
@@ -25,7 +26,7 @@ content_text (Some content) = crlf ++ content
 abbrev pub part_text : WrittenPart → List ℕ
 part_text w = flat_map field_text w.fields ++ content_text w.content
 
--- What each means: the lines of a field in one, without blanks at both ends, and no content where none stands there.
+-- The meaning of each: the unfolded lines of a field, without blanks at both ends, and empty content if there is none.
 abbrev pub field_meant : WrittenField → Field
 field_meant f = record { name = f.name; value = trimmed (f.line ++ flat_map (λ line. line) f.folded) }
 
@@ -33,7 +34,7 @@ abbrev pub content_meant : Option (List ℕ) → List ℕ
 content_meant None = []
 content_meant (Some content) = content
 
--- What each may hold.
+-- The valid ones of each.
 abbrev pub IsLine : List ℕ → Type 0
 IsLine line = IsTrue (list_all is_line_byte line)
 

@@ -1,10 +1,10 @@
 -- How a media type is written (RFC 2045, section 5.1; quoted strings: RFC 2822, section 3.2.5).
 use Rattle.std.specs.Prelude.{◌≡◌, ◌≢◌, ℕ, ◌<◌, ◌⊎◌, List, ◌∷◌, [], ◌++◌, Bool, true, if◌then◌else◌, IsTrue, All, length, map}
 use Rattle.std.specs.List.{list_all, flat_map}
-use Rattle.as4_values.specs.Payload.{is_space}
+use Rattle.byte_forms.specs.Classes.{is_space}
 use Rattle.mime_fields.specs.MediaTypes.{Parameter, MediaType, is_token_byte}
 
--- a byte of a quoted string, by itself or behind a backslash
+-- a byte of a quoted string, with or without a backslash before it
 pub record QuotedByte : Type 0 where
   pub escaped : Bool
   pub byte : ℕ
@@ -42,7 +42,7 @@ parameter_text p = p.before ++ (59 ∷ (p.after ++ (p.name ++ (61 ∷ value_text
 abbrev pub type_text : WrittenType → List ℕ
 type_text w = w.before ++ (w.kind ++ (47 ∷ (w.subkind ++ (flat_map parameter_text w.parameters ++ w.after))))
 
--- What each means.
+-- The meaning of each.
 abbrev pub value_meant : WrittenValue → List ℕ
 value_meant (token bytes) = bytes
 value_meant (quoted bytes) = map (λ q. q.byte) bytes
@@ -53,14 +53,14 @@ parameter_meant p = record { name = p.name; value = value_meant p.value }
 abbrev pub type_meant : WrittenType → MediaType
 type_meant w = record { kind = w.kind; subkind = w.subkind; parameters = map parameter_meant w.parameters }
 
--- What each may hold.
+-- The valid ones of each.
 abbrev pub AreBlanks : List ℕ → Type 0
 AreBlanks bytes = IsTrue (list_all is_space bytes)
 
 abbrev pub IsToken : List ℕ → Type 0
 IsToken bytes = (0 < length bytes) × IsTrue (list_all is_token_byte bytes)
 
--- a quote and a backslash stand behind a backslash
+-- a quote and a backslash need a backslash before them
 abbrev pub IsQuoted : QuotedByte → Type 0
 IsQuoted q = (q.escaped ≡ true) ⊎ ((q.byte ≢ 34) × (q.byte ≢ 92))
 

@@ -1,7 +1,9 @@
-//! The classes of bytes that texts and heads are made of.
+//! The classes of bytes of which texts and heads consist.
 
 ghost use Rattle.std.specs.Prelude.{◌≡◌, ◌==◌, codes};
 ghost use Rattle.std.specs.List.{list_any};
+
+use byte_forms::{ByteClass, is_blank, is_space};
 
 /// A class of bytes.
 #[derive(Clone, Copy)]
@@ -10,24 +12,23 @@ pub enum Class {
     Space,
     /// A space, a tab, CR or LF.
     Blank,
-    /// A byte of a token (RFC 2045, section 5.1): a graphic character of ASCII that isn't a separator.
+    /// A byte of a token (RFC 2045, section 5.1): a graphic ASCII character other than the separators.
     Token,
-    /// A byte of a field's name (RFC 2822, section 2.2): a graphic character of ASCII but the colon.
+    /// A byte of a field's name (RFC 2822, section 2.2): a graphic ASCII character other than the colon.
     Name,
-    /// A byte of a line: any but CR and LF.
+    /// A byte of a line: any except CR and LF.
     Line,
 }
 
-impl Class {
+impl ByteClass for Class {
     ghost use Rattle.mime_fields.specs.Classes.{has};
 
-    /// Whether the byte is of this class.
-    pub fn has(self, byte: u8) -> bool
-        ensures { result ≡ has self byte }
-    {
+    ghost contains = { has };
+
+    fn has(&self, byte: u8) -> bool {
         match self {
-            Class::Space => matches!(byte, b' ' | b'\t'),
-            Class::Blank => matches!(byte, b' ' | b'\t' | b'\n' | b'\r'),
+            Class::Space => is_space(byte),
+            Class::Blank => is_blank(byte),
             Class::Token => byte > 32 && byte < 127 && !is_separator(byte),
             Class::Name => byte > 32 && byte < 127 && byte != b':',
             Class::Line => byte != b'\r' && byte != b'\n',

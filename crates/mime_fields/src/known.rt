@@ -1,4 +1,4 @@
-//! What the three known fields of a part say: Content-ID, Content-Type and Content-Transfer-Encoding (RFC 2045,
+//! The values of a part's three known fields: Content-ID, Content-Type and Content-Transfer-Encoding (RFC 2045,
 //! sections 5 to 7).
 ghost use Rattle.std.specs.Prelude.{◌≡◌, ◌↔◌, IfOk, IfSome, IsTrue, Some, map, option_map};
 ghost use Rattle.as4_values.specs.Payload.{IsContentId, is_media_text};
@@ -12,7 +12,7 @@ use crate::unfolded::unfolded_value;
 use as4_values::{NoMemory, Octets, Word};
 use std::alloc::Global;
 
-/// The lines of the known fields, where a head has them.
+/// The lines of the known fields, if a head has them.
 #[derive(Clone, Copy)]
 pub struct KnownLines<'a> {
     pub id: Option<&'a [u8]>,
@@ -20,7 +20,7 @@ pub struct KnownLines<'a> {
     pub encoding: Option<&'a [u8]>,
 }
 
-/// Finds the known fields; nothing where one of them stands twice.
+/// Finds the known fields; `None` if one of them occurs twice.
 #[tactic(auto, unfolding(crate::specs::Known::known_of))]
 pub fn known_lines<'a>(fields: &[RawField<'a>]) -> Option<KnownLines<'a>>
     ensures { option_map known_values result ≡ known_of (map field_of fields.now) }
@@ -35,7 +35,7 @@ pub fn known_lines<'a>(fields: &[RawField<'a>]) -> Option<KnownLines<'a>>
     })
 }
 
-/// The Content-ID without its angle brackets, where there is one; nothing at all where it is no identifier.
+/// The Content-ID without its angle brackets, if there is one; `None` if it is no identifier.
 #[tactic(auto, using(crate::proofs::KnownLemmas::long_id))]
 pub fn id_in(alloc: Global, lines: Option<&[u8]>) -> Result<Option<Option<Octets>>, NoMemory>
     ensures value { IfOk result (λ found. found ≡ id_of (value_in lines.entry)) }
@@ -53,7 +53,7 @@ pub fn id_in(alloc: Global, lines: Option<&[u8]>) -> Result<Option<Option<Octets
     Ok(Some(Some(id)))
 }
 
-/// The media text, empty where there is none; nothing where it is too long.
+/// The media text, empty if there is none; `None` if it is too long.
 #[tactic(auto, using(crate::proofs::MediaLemmas::is_media, crate::proofs::MediaLemmas::no_media))]
 pub fn media_in(alloc: Global, lines: Option<&[u8]>) -> Result<Option<Octets>, NoMemory>
     ensures value { IfOk result (λ found. found ≡ media_of (value_in lines.entry)) }
@@ -68,7 +68,7 @@ pub fn media_in(alloc: Global, lines: Option<&[u8]>) -> Result<Option<Octets>, N
     Ok(Some(Octets::of(value)))
 }
 
-/// Whether the content stands as it is.
+/// Whether the content is sent unencoded.
 #[tactic(auto, using(crate::proofs::KnownLemmas::long_encoding))]
 pub fn identity_in(alloc: Global, lines: Option<&[u8]>) -> Result<bool, NoMemory>
     ensures { IfOk result (λ identity. identity ≡ is_identity (value_in lines.entry)) }
@@ -82,7 +82,7 @@ pub fn identity_in(alloc: Global, lines: Option<&[u8]>) -> Result<bool, NoMemory
     Ok(is_identity(value.as_slice()))
 }
 
-/// What stands between angle brackets, or the bytes themselves where they don't stand between such.
+/// The bytes between angle brackets, or the bytes themselves if they have none.
 pub fn without_brackets(bytes: &[u8]) -> &[u8]
     ensures { result.now ≡ without_brackets bytes.now }
 {

@@ -1,4 +1,4 @@
-//! Whether the names of parameters differ, in time that their number doesn't square.
+//! Whether the names of parameters are distinct, in less than quadratic time.
 ghost use Rattle.std.specs.Prelude.{◌≡◌, ◌↔◌, IfOk, IsTrue, bytes_eq, map};
 ghost use Rattle.std.specs.List.{IsDistinct, list_any};
 ghost use Rattle.std.specs.Str.{str_to_ascii_lowercase};
@@ -9,11 +9,11 @@ use crate::media_type::{MediaType, Parameter};
 use as4_values::NoMemory;
 use std::alloc::{AllocError, Global};
 
-/// So many names are compared in pairs, and more are put in order.
+/// Up to this many names are compared in pairs; more are sorted.
 const FEW: usize = 16;
 
 impl MediaType<'_> {
-    /// Whether no two parameters have one name, in any case.
+    /// Whether no two parameters have the same name, in any case.
     pub fn names_differ(&self, alloc: Global) -> Result<bool, NoMemory>
         ensures { IfOk result (λ differ. differ ≡ names_differ (type_of self.now).parameters) }
     {
@@ -66,7 +66,7 @@ fn lowercase(alloc: Global, name: &[u8]) -> Result<Vec<u8>, AllocError>
     Ok(lower)
 }
 
-// Whether no two of the names are the same. It puts them in order.
+// Whether the names are distinct. Sorts them.
 fn all_differ(names: &mut [Vec<u8>]) -> bool
     ensures { IsTrue result ↔ IsDistinct bytes_eq (map (λ name. name.items) names.old) }
 {

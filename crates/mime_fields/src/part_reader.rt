@@ -1,4 +1,4 @@
-//! Reads a part: its fields, and what the known ones of them say.
+//! Reads a part: its fields, and the values of the known ones.
 ghost use Rattle.std.specs.Prelude.{◌≡◌, IfOk, option_map};
 ghost use Rattle.mime_fields.specs.Fields.{part_of};
 ghost use Rattle.mime_fields.specs.Known.{known_values, part_with};
@@ -10,8 +10,8 @@ use crate::part::Part;
 use as4_values::NoMemory;
 use std::alloc::Global;
 
-/// Reads a part; nothing where the bytes spell none: a head of more than 64 fields, a field that isn't written as one
-/// is, a known field that stands twice, a Content-ID that is no identifier, or a Content-Type of more than 1,024 bytes.
+/// Reads a part; `None` if the bytes spell none. They don't if the head has more than 64 fields, a field is malformed,
+/// a known field occurs twice, a Content-ID is no identifier, or a Content-Type has more than 1,024 bytes.
 pub fn read_part<'a>(alloc: Global, bytes: &'a [u8]) -> Result<Option<Part<'a>>, NoMemory>
     ensures { IfOk result (λ found. option_map part_value found ≡ part_of bytes.now) }
 {
@@ -24,7 +24,7 @@ pub fn read_part<'a>(alloc: Global, bytes: &'a [u8]) -> Result<Option<Part<'a>>,
     part_with(alloc, known, head.content)
 }
 
-// The part whose known fields and content are these.
+// The part with these known fields and this content.
 #[tactic(auto, unfolding(crate::specs::Known::part_with))]
 fn part_with<'a>(
     alloc: Global,

@@ -5,14 +5,14 @@ ghost use Rattle.mime_fields.specs.Fields.{is_line_byte, media_of, unfolded};
 ghost use Rattle.mime_fields.specs.Loops.{end_trimmed};
 
 use crate::class::Class;
-use crate::runs::skip;
 use as4_values::NoMemory;
+use byte_forms::{ByteClass, skip};
 use std::alloc::Global;
 
 /// The longest value that is read, in bytes.
 const MAX_VALUE: usize = 1024;
 
-/// The lines in one, without spaces and tabs at both ends; nothing where that is longer than `MAX_VALUE`.
+/// The unfolded lines, without spaces and tabs at both ends; `None` if they are longer than `MAX_VALUE`.
 #[tactic(auto, using(crate::proofs::TrimLemmas::unfolded_is))]
 pub fn unfolded_value(alloc: Global, lines: &[u8]) -> Result<Option<Vec<u8>>, NoMemory>
     ensures { IfOk result (λ value. option_map (λ v. v.items) value ≡ media_of (Some (unfolded lines.now))) }
@@ -20,7 +20,7 @@ pub fn unfolded_value(alloc: Global, lines: &[u8]) -> Result<Option<Vec<u8>>, No
     line_bytes(alloc, end_trimmed(skip(Class::Blank, lines)))
 }
 
-// The bytes but the line ends; nothing where they are more than `MAX_VALUE`.
+// The bytes except the line ends; `None` if they are more than `MAX_VALUE`.
 #[tactic(auto, using(crate::proofs::TrimLemmas::too_long))]
 fn line_bytes(alloc: Global, bytes: &[u8]) -> Result<Option<Vec<u8>>, NoMemory>
     ensures { IfOk result (λ value. option_map (λ v. v.items) value ≡ media_of (Some (filter is_line_byte bytes.now))) }
@@ -37,7 +37,7 @@ fn line_bytes(alloc: Global, bytes: &[u8]) -> Result<Option<Vec<u8>>, NoMemory>
     Ok(Some(value))
 }
 
-// The bytes without the blanks and line ends behind them.
+// The bytes without trailing blanks and line ends.
 fn end_trimmed(bytes: &[u8]) -> &[u8]
     ensures { result.now ≡ end_trimmed bytes.now }
 {

@@ -5,21 +5,21 @@ ghost use Rattle.mime_fields.specs.Lent.{unescaped, value_meant_by};
 ghost use Rattle.mime_fields.specs.Loops.{meant_at, quoted_len};
 
 use crate::class::Class;
-use crate::runs::run_at;
 use as4_values::NoMemory;
+use byte_forms::run_at;
 use std::alloc::Global;
 
-/// A parameter's value as it stands.
+/// A parameter's value as written.
 #[derive(Clone, Copy)]
 pub enum Value<'a> {
     /// A token, which means itself.
     Token(&'a [u8]),
-    /// What stands between the quotes of a quoted string, backslashes and all.
+    /// The bytes between the quotes of a quoted string, including backslashes.
     Quoted(&'a [u8]),
 }
 
 impl Value<'_> {
-    /// The bytes that it means: in a quoted string, a backslash takes the next byte.
+    /// The bytes that it means: in a quoted string, a backslash escapes the next byte.
     pub fn meant(&self, alloc: Global) -> Result<Vec<u8>, NoMemory>
         ensures { IfOk result (λ bytes. bytes.items ≡ value_meant_by self.now) }
     {
@@ -30,7 +30,7 @@ impl Value<'_> {
     }
 }
 
-/// A quoted string or a token, and what stands behind it.
+/// A quoted string or a token, and the bytes after it.
 #[tactic(auto, unfolding(crate::specs::MediaTypes::value_at))]
 pub fn value_at(bytes: &[u8]) -> Option<(Value<'_>, &[u8])>
     ensures { option_map (λ x. (value_meant_by x.0, x.1.now)) result ≡ value_at bytes.now }
@@ -48,7 +48,7 @@ pub fn value_at(bytes: &[u8]) -> Option<(Value<'_>, &[u8])>
     }
 }
 
-// What stands up to the quote that ends a quoted string, and what stands behind that.
+// The bytes up to the closing quote of a quoted string, and the bytes after it.
 #[tactic(auto, using(crate::proofs::QuoteLemmas::by_len))]
 fn quoted_at(bytes: &[u8]) -> Option<(&[u8], &[u8])>
     ensures { option_map (λ x. (unescaped x.0.now, x.1.now)) result ≡ quoted_at bytes.now }
@@ -57,7 +57,7 @@ fn quoted_at(bytes: &[u8]) -> Option<(&[u8], &[u8])>
     Some((&bytes[..len], &bytes[len + 1..]))
 }
 
-// How many bytes stand before the quote that ends a quoted string.
+// The number of bytes before the closing quote of a quoted string.
 #[tactic(auto, using(crate::proofs::QuoteLemmas::ends_more, crate::proofs::QuoteLemmas::ends_there, crate::proofs::QuoteLemmas::ends_nowhere))]
 fn quoted_len(bytes: &[u8]) -> Option<usize>
     ensures value { result ≡ quoted_len bytes.now }
@@ -88,7 +88,7 @@ fn unescaped(alloc: Global, quoted: &[u8]) -> Result<Vec<u8>, NoMemory>
     Ok(bytes)
 }
 
-// Where the byte stands that is meant at this place: behind a backslash, if one is here.
+// The index of the byte that is meant at this index: after a backslash, if there is one.
 fn meant_at(quoted: &[u8], at: usize) -> usize
     requires { at < length quoted.now }
     ensures value { result ≡ meant_at quoted.now at }

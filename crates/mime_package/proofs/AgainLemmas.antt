@@ -1,4 +1,4 @@
--- A body whose pieces spell parts is read.
+-- A body whose pieces spell parts is read as these parts.
 use Rattle.std.proofs.Common.{◌≡◌, ℕ, zero, suc, ◌+◌, ◌≤◌, List, [], ◌∷◌, ◌++◌, Some, length, drop, map, sym, ap, subst, ◌∙◌, arith}
 use Rattle.std.specs.Prelude.{Ok, IsTrue}
 use Rattle.mime_fields.specs.Fields.{PartValue, crlf, part_of}
@@ -16,11 +16,11 @@ piece_cut boundary piece line rest x no_cr is begins found =
     up_to_again (ending_at boundary) piece (line ++ rest) x found
     (subst (λ (l : List ℕ). NoneIn (ending_at boundary) piece l) (sym (line_begins line rest begins)) (piece_again boundary piece (begins.tail ++ rest) no_cr is))
 
--- what each piece spells
+-- each piece spells its part
 abbrev pub Spelled : List (List ℕ) → List PartValue → Type 0
 Spelled pieces parts = map (λ piece. part_of (drop 2 piece)) pieces ≡ map Some parts
 
--- the parts behind a delimiter
+-- the parts after a delimiter
 parts_again : (pieces : List (List ℕ)) (parts : List PartValue) (n index : ℕ) (boundary bytes : List ℕ) → NoCr boundary → AreParts boundary pieces bytes → length pieces ≤ n → Spelled pieces parts
     → parts_within n index boundary bytes ≡ Ok parts
 parts_again [] parts n index boundary bytes no_cr are few spelled = absurd are
@@ -40,7 +40,7 @@ parts_again (piece ∷ other ∷ pieces) (part ∷ parts) (suc n) index boundary
     let more = parts_again (other ∷ pieces) parts n (index + 1) boundary tail.1 no_cr tail.5 (omega (arith, few)) spelled_more in
     next_part n index boundary bytes piece tail.1 part cut (cc) ∙ ap (also part) more
 
--- behind the first delimiter
+-- after the first delimiter
 pub first_again : (boundary body rest : List ℕ) → NoCr boundary → (first : StandBehindFirst boundary body rest) → up_to (delimiter_at boundary) (crlf ++ body) ≡ Some (first.front, rest)
 first_again boundary body rest no_cr first =
     let begins = delimiter_line boundary first.line no_cr first.is_line in

@@ -1,4 +1,4 @@
--- The first part that isn't read is where the pieces of a body break off.
+-- The first part that isn't read is at the place where the pieces of a body break off.
 use Rattle.std.proofs.Common.{◌≡◌, ℕ, zero, suc, ◌+◌, ◌≤◌, List, [], ◌∷◌, ◌++◌, ◌⊎◌, Some, None, length, drop, refl, sym, ap, subst, ◌∙◌, arith, inl, inr, ◌↔◌}
 use Rattle.std.specs.Prelude.{Result, Ok, Err, IsTrue}
 use Rattle.mime_fields.specs.Fields.{PartValue, crlf, part_of}
@@ -17,12 +17,12 @@ use Rattle.mime_package.proofs.WindowLemmas.{Taken, up_to_taken}
 
 -- ---- the refusals of a body
 
--- a part in front of others changes no refusal
+-- a part before others doesn't change the refusal
 also_refused : (part : PartValue) (others : Result (List PartValue) MimeRefusal) (e : MimeRefusal) → also part others ≡ Err e → others ≡ Err e
 also_refused part (Ok parts) e is = absurd cc
 also_refused part (Err other) e is = cc
 
--- behind a delimiter a part alone is refused
+-- after a delimiter, a refusal is always BadPart
 pub refused_within : (n index : ℕ) (boundary bytes : List ℕ) (e : MimeRefusal) → parts_within n index boundary bytes ≡ Err e → (k : ℕ) × (e ≡ BadPart k)
 unfolding parts_within
 refused_within zero index boundary bytes e is = (index, cc)
@@ -40,7 +40,7 @@ refused_within (suc n) index boundary bytes e is = elim (cases_option (up_to (en
     by_ending piece (next rest) part cut spelled more =
         more rest (also_refused part (parts_within n (index + 1) boundary rest) e (sym (next_part n index boundary bytes piece rest part cut spelled) ∙ is))
 
--- a body has no boundary where no delimiter stands
+-- a body has no boundary exactly if it contains no delimiter
 pub no_boundary : (boundary body : List ℕ) → ((parts_of boundary body ≡ Err NoBoundary) ↔ (¬ (Holds (IsDelimiter boundary) (crlf ++ body))))
 no_boundary boundary body = (taken, again)
   where
@@ -58,11 +58,11 @@ no_boundary boundary body = (taken, again)
 
 -- ---- the first part that isn't read
 
--- why no part is read behind so many
+-- why no part is read after n others
 abbrev Breaks : ℕ → ℕ → List ℕ → List ℕ → Type 0
 Breaks count n boundary behind = (count ≡ n) ⊎ (HasNoEnd boundary behind ⊎ HasBadPiece boundary behind)
 
--- where the pieces behind a delimiter break off, with the index of the first of them
+-- where the pieces after a delimiter break off, given the index of the first of them
 record AreBroken (n index : ℕ) (boundary bytes : List ℕ) (k : ℕ) : Type 0 where
   pub pieces : List (List ℕ)
   pub parts : List PartValue
@@ -111,7 +111,7 @@ bad_piece boundary bytes piece (next rest) no_cr goes taken none =
       no_part = none;
     }
 
--- one piece more in front
+-- one more piece before them
 breaks_behind : (n index : ℕ) (boundary bytes piece rest : List ℕ) (part : PartValue) (k : ℕ) → NoCr boundary → GoesOn bytes → Taken (ending_at boundary) bytes (piece, next rest)
     → part_of (drop 2 piece) ≡ Some part → (GoesOn rest → AreBroken n (index + 1) boundary rest k) → AreBroken (suc n) index boundary bytes k
 breaks_behind n index boundary bytes piece rest part k no_cr goes taken spelled others =
@@ -134,7 +134,7 @@ breaks_behind n index boundary bytes piece rest part k no_cr goes taken spelled 
     longer (inl same) = inl (ap suc same)
     longer (inr x) = inr x
 
--- by what ends the first part
+-- by the end of the first part
 by_end : (n index : ℕ) (boundary bytes piece : List ℕ) (x : Ending) (part : PartValue) (k : ℕ) → NoCr boundary → GoesOn bytes → up_to (ending_at boundary) bytes ≡ Some (piece, x)
     → part_of (drop 2 piece) ≡ Some part → parts_within (suc n) index boundary bytes ≡ Err (BadPart k)
     → ((rest : List ℕ) → GoesOn rest → parts_within n (index + 1) boundary rest ≡ Err (BadPart k) → AreBroken n (index + 1) boundary rest k) → AreBroken (suc n) index boundary bytes k
@@ -143,7 +143,7 @@ by_end n index boundary bytes piece (next rest) part k no_cr goes is spelled e m
     breaks_behind n index boundary bytes piece rest part k no_cr goes (up_to_taken (ending_at boundary) bytes (piece, next rest) is) spelled
     (λ goes_on. more rest goes_on (also_refused part (parts_within n (index + 1) boundary rest) (BadPart k) (sym (next_part n index boundary bytes piece rest part is spelled) ∙ e)))
 
--- behind a delimiter
+-- after a delimiter
 broken_taken : (n index : ℕ) (boundary bytes : List ℕ) (k : ℕ) → NoCr boundary → GoesOn bytes → parts_within n index boundary bytes ≡ Err (BadPart k) → AreBroken n index boundary bytes k
 unfolding parts_within
 broken_taken zero index boundary bytes k no_cr goes e = breaks_here zero index boundary bytes k (cc) (inl refl)
@@ -159,9 +159,9 @@ broken_taken (suc n) index boundary bytes k no_cr goes e = elim (cases_option (u
   ]
 ]
 
--- ---- and the other way
+-- ---- and the converse
 
--- where the next piece is bad, its part isn't read
+-- if the next piece is bad, its part isn't read
 bad_again : (n index : ℕ) (boundary bytes : List ℕ) → NoCr boundary → HasBadPiece boundary bytes → parts_within (suc n) index boundary bytes ≡ Err (BadPart index)
 bad_again n index boundary bytes no_cr bad = by_line bad.ended
   where
@@ -175,7 +175,7 @@ bad_again n index boundary bytes no_cr bad = by_line bad.ended
         let cut = piece_cut boundary bad.piece bad.line bad.rest last no_cr bad.is_piece (last_line boundary bad.line no_cr is.0) found in
         no_part n index boundary bytes (bad.piece, last) (ap (up_to (ending_at boundary)) bad.bytes_are ∙ cut) bad.no_part
 
--- behind a delimiter
+-- after a delimiter
 broken_again : (pieces : List (List ℕ)) (parts : List PartValue) (n index : ℕ) (boundary bytes behind : List ℕ) → NoCr boundary → ArePieces boundary pieces bytes behind → length pieces ≤ n
     → Spelled pieces parts → Breaks (length pieces) n boundary behind → parts_within n index boundary bytes ≡ Err (BadPart (index + length pieces))
 unfolding parts_within
@@ -202,7 +202,7 @@ broken_again (piece ∷ pieces) (part ∷ parts) (suc n) index boundary bytes be
     shorter (inl full) = inl (omega (arith, full))
     shorter (inr x) = inr x
 
--- the pieces of a body break off where a part isn't read
+-- if a part isn't read, the pieces of the body break off there
 pub body_breaks : (boundary body : List ℕ) (k : ℕ) → IsTrue (is_boundary boundary) → parts_of boundary body ≡ Err (BadPart k) → BreaksAt boundary body k
 body_breaks boundary body k is e = elim (cases_option (up_to (delimiter_at boundary) (crlf ++ body))) [
   | inl none ↦ let no = no_delimiter boundary body none in absurd cc
@@ -225,7 +225,7 @@ body_breaks boundary body k is e = elim (cases_option (up_to (delimiter_at bound
       }
 ]
 
--- and a part isn't read where they break off
+-- if they break off, the part there isn't read
 pub broken_body : (boundary body : List ℕ) (k : ℕ) → IsTrue (is_boundary boundary) → BreaksAt boundary body k → parts_of boundary body ≡ Err (BadPart k)
 broken_body boundary body k is breaks =
     let no_cr = no_cr_boundary boundary is in

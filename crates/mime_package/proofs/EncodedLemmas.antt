@@ -1,4 +1,4 @@
--- What each refusal of a package tells.
+-- What each refusal of a package implies.
 use Rattle.std.proofs.Common.{◌≡◌, ℕ, suc, ◌+◌, Bool, true, false, cond, List, [], ◌∷◌, ◌++◌, Option, Some, None, refl, sym, ap, subst, ◌∙◌, arith, inl, inr, not}
 use Rattle.std.specs.Prelude.{Result, Ok, Err, IsTrue, codes, if◌then◌else◌}
 use Rattle.std.proofs.lemmas.Bool.{cases_Bool}
@@ -16,7 +16,7 @@ use Rattle.mime_package.proofs.TakenLemmas.{cases_result, body_taken}
 
 -- ---- the first part that is encoded
 
--- one that isn't encoded in front
+-- a part that isn't encoded, put before the others
 one_further : (part : PartValue) (parts : List PartValue) (j : ℕ) → part.identity ≡ true → IsFirstEncoded parts j → IsFirstEncoded (part ∷ parts) (suc j)
 one_further part parts j plain first = record {
   before = part ∷ first.before;
@@ -28,7 +28,7 @@ one_further part parts j plain first = record {
   encoded = first.encoded;
 }
 
--- counted from a number
+-- counting from a given index
 encoded_taken : (index : ℕ) (parts : List PartValue) (k : ℕ) → encoded_at index parts ≡ Some k → (j : ℕ) × (index + j ≡ k) × IsFirstEncoded parts j
 unfolding encoded_at
 encoded_taken index [] k e = absurd cc
@@ -43,16 +43,16 @@ encoded_taken index (part ∷ parts) k e = elim (cases_Bool part.identity) [
       (suc further.0, omega (arith, further.1), one_further part parts further.0 plain further.2)
 ]
 
--- counted from 0
+-- counting from 0
 first_encoded : (parts : List PartValue) (k : ℕ) → encoded_at 0 parts ≡ Some k → IsFirstEncoded parts k
 first_encoded parts k e =
     let taken = encoded_taken 0 parts k e in
     let same : taken.0 ≡ k = omega (arith, taken.1) in
     subst (λ j. IsFirstEncoded parts j) same taken.2
 
--- ---- what a refusal tells
+-- ---- what a refusal implies
 
--- a boundary that is named is one
+-- a boundary that is named is valid
 boundary_is : (parameters : List Parameter) (boundary : List ℕ) → boundary_of parameters ≡ Some boundary → IsTrue (is_boundary boundary)
 unfolding boundary_of
 boundary_is parameters boundary e =
@@ -60,7 +60,7 @@ boundary_is parameters boundary e =
     let held = cond_some (is_boundary value) value boundary chosen in
     subst (λ (l : List ℕ). IsTrue (is_boundary l)) held.1 held.0
 
--- what a refusal tells of a media text and a body: never that memory ran out
+-- what a refusal implies about a media text and a body; it is never NoMemory
 abbrev Tells : List ℕ → List ℕ → MimeRefusal → Type 0
 Tells media body BadType = Unit {0}
 Tells media body NoBoundary = Unit {0}
@@ -69,31 +69,31 @@ Tells media body NoRoot = Unit {0}
 Tells media body (Encoding index) = EncodedAt media body index
 Tells media body NoMemory = ⊥
 
--- by the refusal that was given
+-- by equality with a given refusal
 told : {A : Type 0} (media body : List ℕ) (given e : MimeRefusal) → ◌≡◌ {A = Result A MimeRefusal} (Err given) (Err e) → Tells media body given → Tells media body e
 told media body given e is held =
     let same : given ≡ e = cc in
     subst (λ r. Tells media body r) same held
 
--- by a choice
+-- by cases of a test
 by_choice : {A P : Type 0} (b : Bool) (x y z : A) → cond b x y ≡ z → (x ≡ z → P) → (y ≡ z → P) → P
 by_choice true x y z e f g = f e
 by_choice false x y z e f g = g e
 
--- the answer by the first part that is encoded
+-- the result, given the first part that is encoded
 abbrev answer : PackageValue → Option ℕ → Result PackageValue MimeRefusal
 answer given o = elim o [
   | None ↦ Ok given
   | Some index ↦ Err (Encoding index)
 ]
 
--- of parts whose root holds an envelope
+-- parts whose root holds an envelope
 rooted_tells : (media body : List ℕ) (given : PackageValue) (o : Option ℕ) (e : MimeRefusal) → answer given o ≡ Err e
     → ((k : ℕ) → o ≡ Some k → EncodedAt media body k) → Tells media body e
 rooted_tells media body given None e is held = absurd cc
 rooted_tells media body given (Some k) e is held = told media body (Encoding k) e is (held k refl)
 
--- of parts that stand in the body
+-- parts of a body
 root_tells : (media body : List ℕ) (parts : List PartValue) (found : Option (PartValue × List PartValue)) (e : MimeRefusal) → with_root parts found ≡ Err e
     → ((k : ℕ) → IsFirstEncoded parts k → EncodedAt media body k) → Tells media body e
 root_tells media body parts None e is held = told media body NoRoot e is tt
@@ -102,7 +102,7 @@ root_tells media body parts (Some found) e is held =
     (λ rooted. rooted_tells media body (record { root = found.0.content; parts = found.1 }) (encoded_at 0 parts) e rooted (λ k at. held k (first_encoded parts k at)))
     (λ no. told media body NoRoot e no tt)
 
--- of a body that isn't cut into parts
+-- a body that isn't cut into parts
 parts_tell : (media boundary body : List ℕ) (e : MimeRefusal) → parts_of boundary body ≡ Err e → Tells media body e
 parts_tell media boundary body e is = elim (cases_option (up_to (delimiter_at boundary) (crlf ++ body))) [
   | inl none ↦ told media body NoBoundary e (sym (no_delimiter boundary body none) ∙ is) tt
@@ -111,7 +111,7 @@ parts_tell media boundary body e is = elim (cases_option (up_to (delimiter_at bo
       subst (λ r. Tells media body r) (sym bad.1) tt
 ]
 
--- of a package
+-- a package
 related_tells : (media body : List ℕ) (kind : MediaType) (e : MimeRefusal) → media_type_of media ≡ Some kind → related kind.parameters body ≡ Err e → Tells media body e
 unfolding related
 related_tells media body kind e media_is is = elim (cases_option (boundary_of kind.parameters)) [
@@ -136,7 +136,7 @@ related_tells media body kind e media_is is = elim (cases_option (boundary_of ki
       ]
 ]
 
--- of a media text and a body
+-- a media text and a body
 tells : (media body : List ℕ) (e : MimeRefusal) → package_of media body ≡ Err e → Tells media body e
 unfolding package_of
 tells media body e is = elim (cases_option (media_type_of media)) [
@@ -151,10 +151,10 @@ tells media body e is = elim (cases_option (media_type_of media)) [
       (λ no. told media body BadType e no tt)))
 ]
 
--- a part that is told of as encoded is the first that is
+-- a part that is reported as encoded is the first encoded part
 pub encoded_part : (media body : List ℕ) (k : ℕ) → package_of media body ≡ Err (Encoding k) → EncodedAt media body k
 encoded_part media body k is = tells media body (Encoding k) is
 
--- no media text and body mean that memory ran out
+-- no media text and body mean NoMemory
 pub never_memory : (media body : List ℕ) → package_of media body ≡ Err NoMemory → ⊥
 never_memory media body is = tells media body NoMemory is

@@ -1,4 +1,4 @@
--- Where no delimiter stands.
+-- Bytes without a delimiter.
 use Rattle.std.proofs.Common.{◌≡◌, ℕ, List, [], ◌++◌, ◌⊎◌, Some, None, ap, inl, inr}
 use Rattle.mime_fields.specs.Fields.{crlf}
 use Rattle.mime_package.specs.Reading.{Ending, last, next, delimiter_at, ending_at}
@@ -6,7 +6,7 @@ use Rattle.mime_package.specs.Pieces.{IsDelimiter, IsLastDelimiter, Holds, GoesO
 use Rattle.mime_package.proofs.LineLemmas.{NoCr, IsLine, delimiter_line, last_line, delimiter_taken, delimiter_again, last_taken, last_again, delimiter_not_last, ending_last, ending_next, is_last, is_next}
 use Rattle.mime_package.proofs.WindowLemmas.{front_begins, Finds, NoneIn, free_from_none, none_from_free}
 
--- a delimiter is found, and what is found is one
+-- each delimiter is found, and what is found is a delimiter
 pub delimiters_found : (boundary : List ℕ) → NoCr boundary → Finds (IsDelimiter boundary) (delimiter_at boundary)
 delimiters_found boundary no_cr = record {
   lines = λ line is. delimiter_line boundary line no_cr is;
@@ -18,7 +18,7 @@ delimiters_found boundary no_cr = record {
 abbrev IsEnding : List ℕ → List ℕ → Type 0
 IsEnding boundary line = IsDelimiter boundary line ⊎ IsLastDelimiter boundary line
 
--- what ends a part is such a line
+-- the end of a part is such a line
 ending_taken : (boundary bytes : List ℕ) (x : Ending) → ending_at boundary bytes ≡ Some x → (line : List ℕ) × (rest : List ℕ) × IsEnding boundary line × ((rest ≡ []) ⊎ GoesOn rest) × (bytes ≡ line ++ rest)
 ending_taken boundary bytes last is = let taken = last_taken boundary bytes (is_last boundary bytes is) in (taken.0, taken.1, inr taken.2, taken.3, taken.4)
 ending_taken boundary bytes (next rest) is =
@@ -30,17 +30,17 @@ pub next_again : (boundary line rest : List ℕ) → IsDelimiter boundary line �
 next_again boundary line rest is goes =
     ending_next boundary (line ++ rest) rest (delimiter_not_last boundary line rest is goes) (delimiter_again boundary line rest is goes)
 
--- such a line is found before a CRLF
+-- such a line is found if a CRLF follows it
 ending_again : (boundary line rest : List ℕ) → IsEnding boundary line → GoesOn rest → ending_at boundary (line ++ rest) ≡ None → ⊥
 ending_again boundary line rest (inl is) goes none = let found = next_again boundary line rest is goes in cc
 ending_again boundary line rest (inr is) goes none = let found = ending_last boundary (line ++ rest) (last_again boundary line rest is (inr goes)) in cc
 
--- its first byte alone is a CR
+-- only its first byte is a CR
 ending_line : (boundary line : List ℕ) → NoCr boundary → IsEnding boundary line → IsLine line
 ending_line boundary line no_cr (inl is) = delimiter_line boundary line no_cr is
 ending_line boundary line no_cr (inr is) = last_line boundary line no_cr is
 
--- what ends a part is found, and what is found ends one
+-- each end of a part is found, and what is found is one
 endings_found : (boundary : List ℕ) → NoCr boundary → Finds (IsEnding boundary) (ending_at boundary)
 endings_found boundary no_cr = record {
   lines = λ line is. ending_line boundary line no_cr is;
@@ -48,7 +48,7 @@ endings_found boundary no_cr = record {
   again = λ line rest is goes none. ending_again boundary line rest is goes none;
 }
 
--- a line of a kind is one of each wider kind
+-- a line of one kind is a line of each wider kind
 held_by : (is other : List ℕ → Type 0) (bytes : List ℕ) → ((line : List ℕ) → is line → other line) → Holds is bytes → Holds other bytes
 held_by is other bytes kept holds = record {
   front = holds.front;
@@ -58,12 +58,12 @@ held_by is other bytes kept holds = record {
   bytes_are = holds.bytes_are;
 }
 
--- a line of two kinds is of one of them
+-- a line of either kind is of one of them
 of_two : (is other : List ℕ → Type 0) (bytes front line back : List ℕ) → bytes ≡ front ++ (line ++ (crlf ++ back)) → is line ⊎ other line → Holds is bytes ⊎ Holds other bytes
 of_two is other bytes front line back e (inl held) = inl (record { front = front; line = line; back = back; is_line = held; bytes_are = e })
 of_two is other bytes front line back e (inr held) = inr (record { front = front; line = line; back = back; is_line = held; bytes_are = e })
 
--- a piece is what stands before the first end of a part
+-- a piece is the bytes before the first end of a part
 pub piece_taken : (boundary piece more left : List ℕ) → NoCr boundary → piece ++ (crlf ++ more) ≡ crlf ++ left → NoneIn (ending_at boundary) piece (crlf ++ more) → IsPiece boundary piece
 piece_taken boundary piece more left no_cr e none =
     let free = free_from_none (IsEnding boundary) (ending_at boundary) (endings_found boundary no_cr) piece more none in
@@ -73,7 +73,7 @@ piece_taken boundary piece more left no_cr e none =
       not_last = λ holds. free (held_by (IsLastDelimiter boundary) (IsEnding boundary) (piece ++ crlf) (λ line is. inr is) holds);
     }
 
--- nothing ends a part within a piece
+-- no part ends within a piece
 pub piece_again : (boundary piece more : List ℕ) → NoCr boundary → IsPiece boundary piece → NoneIn (ending_at boundary) piece (crlf ++ more)
 piece_again boundary piece more no_cr is = none_from_free (IsEnding boundary) (ending_at boundary) (endings_found boundary no_cr) piece more free
   where

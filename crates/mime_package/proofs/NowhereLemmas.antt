@@ -1,4 +1,4 @@
--- What is found nowhere stands nowhere.
+-- What isn't found doesn't occur.
 use Rattle.std.proofs.Common.{◌≡◌, ℕ, List, [], ◌∷◌, ◌++◌, Option, Some, None, refl, sym, ap, ◌∙◌, arith, append_assoc, inl, inr}
 use Rattle.mime_fields.specs.Fields.{crlf}
 use Rattle.mime_package.specs.Pieces.{IsDelimiter, IsLastDelimiter, Holds, HasNoEnd}
@@ -9,12 +9,12 @@ use Rattle.mime_package.proofs.LineLemmas.{LineEnds, delimiter_taken, delimiter_
 use Rattle.mime_package.proofs.UpToLemmas.{behind_front, up_to_here, up_to_behind}
 use Rattle.mime_package.proofs.WindowLemmas.{front_begins, end_with_crlf, split_front, up_to_taken}
 
--- nothing is found behind a front
+-- nothing is found after a prefix
 none_behind : {X : Type 0} (front : List ℕ) (cut : Option (List ℕ × X)) → behind_front front cut ≡ None → cut ≡ None
 none_behind front None none = refl
 none_behind front (Some cut) none = absurd cc
 
--- what is found nowhere isn't found behind any front
+-- what isn't found in the bytes isn't found after any prefix of them
 found_nowhere : {X : Type 0} (found : List ℕ → Option X) (front rest : List ℕ) → up_to found (front ++ rest) ≡ None → found rest ≡ None
 found_nowhere found [] rest none = elim (cases_option (found rest)) [
   | inl here ↦ here
@@ -27,14 +27,14 @@ found_nowhere found (b ∷ front) rest none = elim (cases_option (found (b ∷ (
 
 -- ---- the first delimiter
 
--- a delimiter that isn't found stands nowhere
+-- a delimiter that isn't found doesn't occur
 pub delimiter_nowhere : (boundary bytes : List ℕ) → up_to (delimiter_at boundary) bytes ≡ None → Holds (IsDelimiter boundary) bytes → ⊥
 delimiter_nowhere boundary bytes none holds =
     let here = found_nowhere (delimiter_at boundary) holds.front (holds.line ++ (crlf ++ holds.back)) (sym (ap (up_to (delimiter_at boundary)) holds.bytes_are) ∙ none) in
     let found = delimiter_again boundary holds.line (crlf ++ holds.back) holds.is_line (holds.back, refl) in
     cc
 
--- one that is found behind a front stands there
+-- a delimiter that is found after a prefix occurs there
 held_at : (boundary bytes front found rest : List ℕ) → bytes ≡ front ++ found → delimiter_at boundary found ≡ Some rest → Holds (IsDelimiter boundary) bytes
 held_at boundary bytes front found rest whole is =
     let line = delimiter_taken boundary found rest is in
@@ -46,21 +46,21 @@ held_at boundary bytes front found rest whole is =
       bytes_are = whole ∙ ap (λ (l : List ℕ). front ++ l) (line.3 ∙ ap (λ (l : List ℕ). line.0 ++ l) line.2.1);
     }
 
--- the first one, too
+-- so does the first delimiter
 pub delimiter_held : (boundary bytes : List ℕ) (cut : List ℕ × List ℕ) → up_to (delimiter_at boundary) bytes ≡ Some cut → Holds (IsDelimiter boundary) bytes
 delimiter_held boundary bytes cut is =
     let taken = up_to_taken (delimiter_at boundary) bytes cut is in
     held_at boundary bytes cut.0 taken.0 cut.1 taken.1 taken.2
 
--- ---- what ends a part
+-- ---- the end of a part
 
--- a last delimiter before a CRLF that is put behind the bytes stands in them, at the end or with a line behind it
+-- a last delimiter before an appended CRLF is at the end of the bytes, or followed by a line in them
 last_within : (boundary bytes : List ℕ) (holds : Holds (IsLastDelimiter boundary) (bytes ++ crlf)) → (rest : List ℕ) × (bytes ≡ holds.front ++ (holds.line ++ rest)) × LineEnds rest
 last_within boundary bytes holds =
     let split = split_front bytes crlf (holds.front ++ holds.line) (crlf ++ holds.back) (holds.bytes_are ∙ sym (append_assoc holds.front holds.line (crlf ++ holds.back))) (omega arith) in
     (split.0, split.1 ∙ append_assoc holds.front holds.line split.0, front_begins split.0 [] holds.back split.2)
 
--- where nothing that ends a part is found, nothing ends one
+-- if no end of a part is found, there is none
 pub end_nowhere : (boundary bytes : List ℕ) → up_to (ending_at boundary) bytes ≡ None → HasNoEnd boundary bytes
 end_nowhere boundary bytes none = record {
   no_delimiter = λ holds.
@@ -74,7 +74,7 @@ end_nowhere boundary bytes none = record {
       cc;
 }
 
--- a last delimiter at the end, or with a line behind it, stands before a CRLF when one is put behind the bytes
+-- a last delimiter at the end, or followed by a line, precedes a CRLF once one is appended
 last_held : (boundary bytes front line rest : List ℕ) → IsLastDelimiter boundary line → LineEnds rest → bytes ≡ front ++ (line ++ rest) → Holds (IsLastDelimiter boundary) (bytes ++ crlf)
 last_held boundary bytes front line rest is ends whole =
     let back = end_with_crlf rest ends in
@@ -88,7 +88,7 @@ last_held boundary bytes front line rest is ends whole =
           ∙ ap (λ (l : List ℕ). front ++ l) (append_assoc line rest crlf ∙ ap (λ (l : List ℕ). line ++ l) back.1);
     }
 
--- where nothing ends a part, nothing is found that does
+-- if there is no end of a part, none is found
 pub end_not_found : (boundary bytes : List ℕ) → HasNoEnd boundary bytes → up_to (ending_at boundary) bytes ≡ None
 end_not_found boundary bytes has = elim (cases_option (up_to (ending_at boundary) bytes)) [
   | inl none ↦ none

@@ -9,13 +9,13 @@ use Rattle.mime_fields.specs.declared.media_type.Parameter.{Parameter}
 use Rattle.mime_fields.specs.MediaTypes.{is_named}
 use Rattle.mime_package.specs.Reading.{parameter, is_charset}
 
--- the next one has the name
+-- the next parameter has the name
 pub named_here : (name : List ℕ) (xs : List Parameter) (k : ℕ) (d : Parameter) → k < length xs → is_named name (parameter_of (get_or xs k d)) ≡ true
     → parameter name (map parameter_of (drop k xs)) ≡ Some (value_meant_by (get_or xs k d).value)
 unfolding parameter
 named_here name xs k d within is = rw (drop-cons xs k d, is) refl
 
--- it has another
+-- the next parameter has another name
 pub named_further : (name : List ℕ) (xs : List Parameter) (k : ℕ) (d : Parameter) → k < length xs → is_named name (parameter_of (get_or xs k d)) ≡ false
     → parameter name (map parameter_of (drop k xs)) ≡ parameter name (map parameter_of (drop (k + 1) xs))
 unfolding parameter
@@ -23,12 +23,12 @@ named_further name xs k d within is =
     let next : k + 1 ≡ suc k = omega arith in
     rw (next, drop-cons xs k d, is) refl
 
--- none is left
+-- no parameter remains
 pub named_nowhere : (name : List ℕ) (xs : List Parameter) (k : ℕ) → length xs ≤ k → parameter name (map parameter_of (drop k xs)) ≡ None
 unfolding parameter
 named_nowhere name xs k over = rw (drop_of_length-le xs over) refl
 
--- one names a character set that isn't read
+-- a parameter names a character set that isn't supported
 pub charset_fails : (xs : List Parameter) (k : ℕ) (d : Parameter) → k < length xs → is_named (codes "charset") (parameter_of (get_or xs k d)) ≡ true → is_charset (parameter_of (get_or xs k d)).value ≡ false
     → list_all (λ p. not (is_named (codes "charset") p) || is_charset p.value) (map parameter_of xs) ≡ false
 charset_fails xs k d within is fails =

@@ -12,9 +12,9 @@ use Rattle.mime_fields.specs.MediaTypes.{media_type_of}
 use Rattle.mime_package.specs.Reading.{encoded_at, has_id, is_root, only_one, root_of}
 use Rattle.mime_package.specs.Steps.{is_id, taken_out}
 
--- ---- the one part
+-- ---- the only part with a property
 
--- the place in a list with one more in front
+-- the index in a list with one more item at its start
 further : {X : Type 0} (is : X → Bool) (i : ℕ) (xs : List X) → position_from is (i + 1) xs ≡ option_map suc (position_from is i xs)
 further is i [] = refl
 further is i (x ∷ xs) = elim (cases_Bool (is x)) [
@@ -22,11 +22,11 @@ further is i (x ∷ xs) = elim (cases_Bool (is x)) [
   | inr not_held ↦ rw not_held (further is (i + 1) xs)
 ]
 
--- taken out at the first place, where nothing behind is so
+-- the item at the first index, taken out if no later item has the property
 abbrev one_at : {X Y : Type 0} → (X → Bool) → (X → Y) → List X → Option ℕ → Option (Y × List Y)
 one_at is view xs place = place >>= λ at. if list_any is (drop (at + 1) xs) then None else taken_out at (map view xs)
 
--- the same with one more in front
+-- the same with one more item at the start
 one_further : {X Y : Type 0} (is : X → Bool) (view : X → Y) (x : X) (xs : List X) (place : Option ℕ)
     → one_at is view (x ∷ xs) (option_map suc place) ≡ option_map (λ found. (found.0, view x ∷ found.1)) (one_at is view xs place)
 unfolding taken_out
@@ -38,12 +38,12 @@ one_further is view x xs (Some at) =
       | inr none ↦ rw (next, none) refl
     ]
 
--- the same test of what is lent
+-- the same test on the borrowed parts
 any_lent : (is : PartValue → Bool) (test : Part → Bool) (parts : List Part) → ((p : Part) → test p ≡ is (part_value p)) → list_any is (map part_value parts) ≡ list_any test parts
 any_lent is test [] same = refl
 any_lent is test (part ∷ parts) same = rw (same part, any_lent is test parts same) refl
 
--- the one part, by the first place and the parts behind it
+-- the only part, from the first index and the parts after it
 only_at : (is : PartValue → Bool) (test : Part → Bool) (parts : List Part) → ((p : Part) → test p ≡ is (part_value p)) → only_one is (map part_value parts) ≡ one_at test part_value parts (position_from test 0 parts)
 unfolding only_one taken_out
 only_at is test [] same = refl
@@ -58,36 +58,36 @@ only_at is test (part ∷ parts) same = elim (cases_Bool (test part)) [
 same_id : (id : List ℕ) (part : PartValue) → is_id id part.id ≡ has_id id part
 same_id id part = refl
 
--- the one part with a Content-ID
+-- the only part with a Content-ID
 placed : (id : List ℕ) (parts : List Part) (place : Option ℕ) → place ≡ position (λ p. is_id id p.id) parts
     → only_one (has_id id) (map part_value parts) ≡ one_at (λ p. is_id id p.id) part_value parts place
 placed id parts place is =
     only_at (has_id id) (λ p. is_id id p.id) parts (λ p. same_id id (part_value p))
     ∙ ap (one_at (λ p. is_id id p.id) part_value parts) (sym (is ∙ position_from-zero (λ p. is_id id p.id) parts))
 
--- no part has it
+-- no part has the Content-ID
 pub none_has_id : (id : List ℕ) (parts : List Part) → None ≡ position (λ p. is_id id p.id) parts → only_one (has_id id) (map part_value parts) ≡ None
 none_has_id id parts is = placed id parts None is
 
--- more than one has it
+-- several parts have it
 pub two_have_id : (id : List ℕ) (parts : List Part) (at : ℕ) → Some at ≡ position (λ p. is_id id p.id) parts → list_any (λ p. is_id id p.id) (drop (at + 1) parts) ≡ true
     → only_one (has_id id) (map part_value parts) ≡ None
 two_have_id id parts at is other = placed id parts (Some at) is ∙ rw other refl
 
--- one has it
+-- one part has it
 pub one_has_id : (id : List ℕ) (parts : List Part) (at : ℕ) → Some at ≡ position (λ p. is_id id p.id) parts → list_any (λ p. is_id id p.id) (drop (at + 1) parts) ≡ false
     → only_one (has_id id) (map part_value parts) ≡ taken_out at (map part_value parts)
 one_has_id id parts at is none = placed id parts (Some at) is ∙ rw none refl
 
 -- ---- the first part
 
--- where no part is named it is the first
+-- if no part is named, the root is the first one
 pub first_root : (parts : List PartValue) → root_of None parts ≡ taken_out 0 parts
 unfolding root_of taken_out
 first_root [] = refl
 first_root (part ∷ parts) = refl
 
--- the first content that is encoded, counted from a number
+-- the first encoded content, counting from an index
 encoded_from : (index : ℕ) (parts : List Part) → position_from (λ p. not p.identity) index parts ≡ encoded_at index (map part_value parts)
 unfolding encoded_at
 encoded_from index [] = refl
@@ -96,19 +96,19 @@ encoded_from index (part ∷ parts) = elim (cases_Bool part.identity) [
   | inr encoded ↦ rw encoded refl
 ]
 
--- counted from 0
+-- counting from 0
 pub encoded_first : (parts : List Part) → position (λ p. not p.identity) parts ≡ encoded_at 0 (map part_value parts)
 encoded_first parts = position_from-zero (λ p. not p.identity) parts ∙ encoded_from 0 parts
 
 -- ---- the root
 
--- a media text that spells no type is not that of a root
+-- a part whose media text spells no type is no root
 pub no_root_type : (part : PartValue) → media_type_of part.media ≡ None → is_root part ≡ false
 no_root_type part none = rw (none, is_root) refl
 
--- ---- what is taken out
+-- ---- taking out an item
 
--- what is taken out is what stands there, and the others are what is left
+-- the item taken out is the one at the index, and the others remain
 pub taken_removed : {X Y : Type 0} (view : X → Y) (xs : List X) (at : ℕ) (d : X) → at < length xs → taken_out at (map view xs) ≡ Some (view (get_or xs at d), map view (remove xs at))
 unfolding taken_out
 taken_removed view [] at d within = absurd (omega (arith, within))

@@ -1,4 +1,4 @@
--- The root at its place, and the package that it makes.
+-- The root at its index, and the package that results.
 use Rattle.std.proofs.Common.{◌≡◌, ℕ, ◌<◌, true, false, List, length, get_or, map, Some, None, not, refl, sym, ap, ◌∙◌}
 use Rattle.std.specs.Prelude.{Ok, Err, position}
 use Rattle.std.specs.List.{remove}
@@ -10,13 +10,13 @@ use Rattle.mime_package.specs.Reading.{encoded_at, is_root, with_root}
 use Rattle.mime_package.specs.Steps.{package_at, taken_out}
 use Rattle.mime_package.proofs.RootLemmas.{encoded_first, taken_removed}
 
--- the part that stands there, and the others
+-- the part at the index, and the others
 stands : (parts : List Part) (at : ℕ) (root : Part) → at < length parts → root ≡ get_or parts at root
     → taken_out at (map part_value parts) ≡ Some (part_value root, map part_value (remove parts at))
 stands parts at root within is =
     taken_removed part_value parts at root within ∙ ap (λ p. Some (part_value p, map part_value (remove parts at))) (sym is)
 
--- it is no root
+-- the part is no root
 pub not_rooted : (parts : List Part) (at : ℕ) (root : Part) → at < length parts → root ≡ get_or parts at root → is_root (part_value root) ≡ false
     → with_root (map part_value parts) (taken_out at (map part_value parts)) ≡ Err NoRoot
 not_rooted parts at root within is fails =
@@ -29,7 +29,7 @@ encoded_there parts at index root within is held found =
     let encoded : encoded_at 0 (map part_value parts) ≡ Some index = sym (encoded_first parts) ∙ found in
     ap (with_root (map part_value parts)) (stands parts at root within is) ∙ cond-true (is_root (part_value root)) _ _ held ∙ rw encoded refl
 
--- none is
+-- no content is encoded
 pub rooted_there : (parts : List Part) (at : ℕ) (root : Part) → at < length parts → root ≡ get_or parts at root → is_root (part_value root) ≡ true → position (λ p. not p.identity) parts ≡ None
     → with_root (map part_value parts) (taken_out at (map part_value parts)) ≡ Ok (package_at at (map part_value parts))
 unfolding package_at
@@ -38,7 +38,7 @@ rooted_there parts at root within is held found =
     let taken = stands parts at root within is in
     ap (with_root (map part_value parts)) taken ∙ cond-true (is_root (part_value root)) _ _ held ∙ rw (none, taken, package_at) refl
 
--- the package is made of the part that is taken out and of the others
+-- the package consists of the part that is taken out and of the others
 pub package_of_removed : (parts : List Part) (at : ℕ) (root : Part) → at < length parts → root ≡ get_or parts at root
     → package_at at (map part_value parts) ≡ record { root = root.content.now; parts = map part_value (remove parts at) }
 unfolding package_at

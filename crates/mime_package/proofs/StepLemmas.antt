@@ -1,4 +1,4 @@
--- The parts behind a delimiter, as a loop reads them.
+-- The parts after a delimiter, as a loop reads them.
 use Rattle.std.proofs.Common.{◌≡◌, ℕ, suc, ◌+◌, ◌-◌, ◌<◌, List, [], ◌∷◌, ◌++◌, Option, Some, None, drop, refl, sym, ap, ◌∙◌, arith, inl, inr, append_assoc}
 use Rattle.std.specs.Prelude.{Result, Ok, Err, option_map, unwrap_or}
 use Rattle.byte_forms.proofs.CutLemmas.{cases_option}
@@ -8,12 +8,12 @@ use Rattle.mime_package.specs.declared.read.MimeRefusal.TheVariants.{BadPart}
 use Rattle.mime_package.specs.Reading.{Ending, last, next, ending_at, up_to, max_parts, also, parts_within}
 use Rattle.mime_package.specs.Steps.{part_at, with_part}
 
--- parts in front of those that are read behind them
+-- parts put before those that are read after them
 abbrev pub before : List PartValue → Result (List PartValue) MimeRefusal → Result (List PartValue) MimeRefusal
 before front (Ok parts) = Ok (front ++ parts)
 before front (Err refusal) = Err refusal
 
--- the same by the first part
+-- the parts, given the first of them
 abbrev from_part : ℕ → ℕ → List ℕ → Option (PartValue × Ending) → Result (List PartValue) MimeRefusal
 from_part n index boundary None = Err (BadPart index)
 from_part n index boundary (Some x) = elim x.1 [
@@ -21,7 +21,7 @@ from_part n index boundary (Some x) = elim x.1 [
   | next rest ↦ also x.0 (parts_within n (index + 1) boundary rest)
 ]
 
--- both are one
+-- both definitions agree
 by_part : (n index : ℕ) (boundary bytes : List ℕ) → parts_within (suc n) index boundary bytes ≡ from_part n index boundary (part_at boundary bytes)
 unfolding parts_within part_at
 by_part n index boundary bytes = elim (cases_option (up_to (ending_at boundary) bytes)) [
@@ -32,23 +32,23 @@ by_part n index boundary bytes = elim (cases_option (up_to (ending_at boundary) 
   ]
 ]
 
--- one part more in front
+-- one more part before them
 one_before : (front : List PartValue) (part : PartValue) (parts : Result (List PartValue) MimeRefusal) → before front (also part parts) ≡ before (front ++ part ∷ []) parts
 one_before front part (Ok parts) = ap Ok (sym (append_assoc front (part ∷ []) parts))
 one_before front part (Err refusal) = refl
 
--- the same where there is room for one more
+-- the same if one more part fits
 here : (index : ℕ) (boundary rest : List ℕ) → index < max_parts → parts_within (max_parts - index) index boundary rest ≡ from_part (max_parts - (index + 1)) index boundary (part_at boundary rest)
 here index boundary rest few =
     let more : max_parts - index ≡ suc (max_parts - (index + 1)) = omega arith in
     ap (λ n. parts_within n index boundary rest) more ∙ by_part (max_parts - (index + 1)) index boundary rest
 
--- the same behind the parts so far
+-- the same after the parts so far
 step : (front : List PartValue) (index : ℕ) (boundary rest : List ℕ) (x : Option (PartValue × Ending)) → index < max_parts → part_at boundary rest ≡ x
     → before front (parts_within (max_parts - index) index boundary rest) ≡ before front (from_part (max_parts - (index + 1)) index boundary x)
 step front index boundary rest x few is = ap (before front) (here index boundary rest few ∙ ap (from_part (max_parts - (index + 1)) index boundary) is)
 
--- both halves of a pair
+-- both components of a pair
 parted : (a c : List PartValue) (b d : Ending) → ◌≡◌ {A = Option (List PartValue × Ending)} (Some (a, b)) (Some (c, d)) → (a ≡ c) × (b ≡ d)
 parted a c b d e =
     let p : List PartValue × Ending = (a, b) in
@@ -58,12 +58,12 @@ parted a c b d e =
 from_last : (front : List PartValue) (n index : ℕ) (boundary : List ℕ) (x : PartValue × Ending) → x.1 ≡ last → before front (from_part n index boundary (Some x)) ≡ Ok (front ++ x.0 ∷ [])
 from_last front n index boundary x is = rw is refl
 
--- a part before others
+-- a part followed by others
 from_next : (front : List PartValue) (n index : ℕ) (boundary behind : List ℕ) (x : PartValue × Ending) → x.1 ≡ next behind
     → before front (from_part n index boundary (Some x)) ≡ before (front ++ x.0 ∷ []) (parts_within n (index + 1) boundary behind)
 from_next front n index boundary behind x is = rw is (one_before front x.0 (parts_within n (index + 1) boundary behind))
 
--- no part stands there
+-- no part is there
 pub loop_refuses : (front : List PartValue) (index : ℕ) (boundary rest : List ℕ) → index < max_parts → option_map (with_part front) (part_at boundary rest) ≡ None
     → before front (parts_within (max_parts - index) index boundary rest) ≡ Err (BadPart index)
 loop_refuses front index boundary rest few is = elim (cases_option (part_at boundary rest)) [
@@ -81,7 +81,7 @@ loop_ends front all index boundary rest few is = elim (cases_option (part_at bou
       step front index boundary rest (Some some.0) few some.1 ∙ from_last front (max_parts - (index + 1)) index boundary some.0 same.1 ∙ ap Ok same.0
 ]
 
--- a part before others
+-- a part followed by others
 pub loop_goes_on : (front all : List PartValue) (index : ℕ) (boundary rest behind : List ℕ) → index < max_parts → option_map (with_part front) (part_at boundary rest) ≡ Some (all, next behind)
     → before front (parts_within (max_parts - index) index boundary rest) ≡ before all (parts_within (max_parts - (index + 1)) (index + 1) boundary behind)
 loop_goes_on front all index boundary rest behind few is = elim (cases_option (part_at boundary rest)) [

@@ -1,4 +1,4 @@
--- What is read of a body are the parts that its pieces spell.
+-- The parts that are read from a body are those that its pieces spell.
 use Rattle.std.proofs.Common.{◌≡◌, ℕ, zero, suc, ◌+◌, ◌≤◌, List, [], ◌∷◌, ◌++◌, ◌⊎◌, Some, length, drop, refl, sym, ap, subst, ◌∙◌, arith, inl, inr}
 use Rattle.std.specs.Prelude.{Result, Ok, Err, IsTrue}
 use Rattle.mime_fields.specs.Fields.{PartValue, crlf, part_of}
@@ -11,19 +11,19 @@ use Rattle.mime_package.proofs.LineLemmas.{NoCr, IsLine, no_cr_boundary, delimit
 use Rattle.mime_package.proofs.PartsLemmas.{no_ending, no_part, last_part, next_part, no_delimiter, parts_behind}
 use Rattle.mime_package.proofs.WindowLemmas.{NoneIn, Taken, free_from_none, up_to_taken}
 
--- parts that were read behind a delimiter
+-- the parts that were read after a delimiter
 record AreRead (n : ℕ) (boundary bytes : List ℕ) (parts : List PartValue) : Type 0 where
   pub pieces : List (List ℕ)
   pub are : AreParts boundary pieces bytes
   pub few : length pieces ≤ n
   pub spelled : Spelled pieces parts
 
--- a result is one of two
+-- a result is Ok or Err
 pub cases_result : {A E : Type 0} (r : Result A E) → ((x : A) × (r ≡ Ok x)) ⊎ ((e : E) × (r ≡ Err e))
 cases_result (Ok x) = inl (x, refl)
 cases_result (Err e) = inr (e, refl)
 
--- what stands before a line that ends a part is a piece
+-- the bytes before a line that ends a part are a piece
 pub piece_of : (boundary bytes piece line rest whole : List ℕ) → NoCr boundary → GoesOn bytes → IsLine line → bytes ≡ piece ++ whole → whole ≡ line ++ rest → NoneIn (ending_at boundary) piece whole → IsPiece boundary piece
 piece_of boundary bytes piece line rest whole no_cr goes begins is whole_is none =
     let front = whole_is ∙ line_begins line rest begins in
@@ -42,7 +42,7 @@ one_read n boundary bytes piece part no_cr goes taken spelled =
       spelled = ap (λ o. o ∷ []) spelled;
     }
 
--- a part before others
+-- a part followed by others
 more_read : (n : ℕ) (boundary bytes piece rest : List ℕ) (part : PartValue) (parts : List PartValue) → NoCr boundary → GoesOn bytes → Taken (ending_at boundary) bytes (piece, next rest)
     → part_of (drop 2 piece) ≡ Some part → (GoesOn rest → AreRead n boundary rest parts) → AreRead (suc n) boundary bytes (part ∷ parts)
 more_read n boundary bytes piece rest part parts no_cr goes taken spelled others =
@@ -60,7 +60,7 @@ more_read n boundary bytes piece rest part parts no_cr goes taken spelled others
       spelled = cc;
     }
 
--- by what ends the first part
+-- by the end of the first part
 by_ending : (n index : ℕ) (boundary bytes piece : List ℕ) (x : Ending) (part : PartValue) (parts : List PartValue) → NoCr boundary → GoesOn bytes → Taken (ending_at boundary) bytes (piece, x)
     → up_to (ending_at boundary) bytes ≡ Some (piece, x) → part_of (drop 2 piece) ≡ Some part → parts_within (suc n) index boundary bytes ≡ Ok parts
     → ((rest : List ℕ) (others : List PartValue) → GoesOn rest → parts_within n (index + 1) boundary rest ≡ Ok others → AreRead n boundary rest others) → AreRead (suc n) boundary bytes parts
@@ -79,7 +79,7 @@ by_ending n index boundary bytes piece (next rest) part parts no_cr goes taken i
           (more_read n boundary bytes piece rest part others.0 no_cr goes taken spelled (λ goes_on. more rest others.0 goes_on others.1))
     ]
 
--- the parts behind a delimiter
+-- the parts after a delimiter
 parts_taken : (n index : ℕ) (boundary bytes : List ℕ) (parts : List PartValue) → NoCr boundary → GoesOn bytes → parts_within n index boundary bytes ≡ Ok parts → AreRead n boundary bytes parts
 unfolding parts_within
 parts_taken zero index boundary bytes parts no_cr goes e = absurd cc
@@ -93,7 +93,7 @@ parts_taken (suc n) index boundary bytes parts no_cr goes e = elim (cases_option
   ]
 ]
 
--- what is found first
+-- the first delimiter that is found
 pub first_taken : (boundary body : List ℕ) (cut : List ℕ × List ℕ) → NoCr boundary → up_to (delimiter_at boundary) (crlf ++ body) ≡ Some cut → StandBehindFirst boundary body cut.1
 first_taken boundary body cut no_cr is =
     let taken = up_to_taken (delimiter_at boundary) (crlf ++ body) cut is in

@@ -1,4 +1,4 @@
--- A line that begins before a CRLF also ends before it, since its first byte alone is a CR.
+-- A line that begins before a CRLF also ends before it, since only its first byte is a CR.
 use Rattle.std.proofs.Common.{◌≡◌, ℕ, ◌<◌, ◌≤◌, List, [], ◌∷◌, ◌++◌, ◌⊎◌, Option, Some, None, length, drop, refl, sym, ap, subst, ◌∙◌, arith, append_assoc, length-append, inl, inr}
 use Rattle.std.specs.Prelude.{unwrap_or}
 use Rattle.byte_forms.proofs.OnceLemmas.{first_byte, apart}
@@ -9,7 +9,7 @@ use Rattle.byte_forms.proofs.CutLemmas.{cases_option}
 use Rattle.mime_package.proofs.LineLemmas.{NoCr, IsLine, LineEnds}
 use Rattle.mime_package.proofs.UpToLemmas.{behind_front, up_to_here, up_to_behind}
 
--- bytes up to a CRLF, where bytes with a CRLF in front are cut
+-- bytes before a CRLF are empty or begin with a CRLF, if the whole does
 pub front_begins : (front more left : List ℕ) → front ++ (crlf ++ more) ≡ crlf ++ left → (front ≡ []) ⊎ GoesOn front
 front_begins [] more left e = inl refl
 front_begins (c ∷ []) more left e = absurd (apart (first_byte (ap (drop 1) e)) refl)
@@ -18,20 +18,20 @@ front_begins (c ∷ d ∷ front) more left e =
     let lf : d ≡ 10 = first_byte (ap (drop 1) e) in
     inr (front, cc)
 
--- with a CRLF put behind it, the end of a line begins with one
+-- a line end followed by a CRLF begins with a CRLF
 pub end_with_crlf : (rest : List ℕ) → LineEnds rest → (back : List ℕ) × (rest ++ crlf ≡ crlf ++ back)
 end_with_crlf rest (inl none) = ([], ap (λ (l : List ℕ). l ++ crlf) none)
 end_with_crlf rest (inr goes) = (goes.0 ++ crlf, ap (λ (l : List ℕ). l ++ crlf) goes.1)
 
--- and so a CRLF at the end is theirs too
+-- so do the bytes before it, once a CRLF is appended to them
 both_ends : (b more left : List ℕ) → b ++ (crlf ++ more) ≡ crlf ++ left → (back : List ℕ) × (b ++ crlf ≡ crlf ++ back)
 both_ends b more left e = end_with_crlf b (front_begins b more left e)
 
--- bytes with a CRLF are some
+-- bytes that contain a CRLF aren't empty
 no_end : (b more : List ℕ) → b ++ (crlf ++ more) ≡ [] → ⊥
 no_end b more e = omega (arith, ap length e, length-append b (crlf ++ more))
 
--- a line behind its CRLF
+-- a line after its CRLF
 tail_within : (tail b more rest : List ℕ) → NoCr tail → b ++ (crlf ++ more) ≡ tail ++ rest → LineEnds rest → (back : List ℕ) × (b ++ crlf ≡ tail ++ (crlf ++ back))
 tail_within [] b more rest none e (inl end) = absurd (no_end b more (e ∙ end))
 tail_within [] b more rest none e (inr goes) = both_ends b more goes.0 (e ∙ goes.1)
@@ -55,17 +55,17 @@ line_within line (c ∷ d ∷ b) more rest is some e ends =
 
 -- ---- lines that are found
 
--- what is found is such a line, and such a line is found
+-- each such line is found, and what is found is such a line
 pub record Finds {X : Type 0} (is : List ℕ → Type 0) (found : List ℕ → Option X) : Type 0 where
   pub lines : (line : List ℕ) → is line → IsLine line
   pub taken : (bytes : List ℕ) (x : X) → found bytes ≡ Some x → (line : List ℕ) × (rest : List ℕ) × is line × LineEnds rest × (bytes ≡ line ++ rest)
   pub again : (line rest : List ℕ) → is line → GoesOn rest → found (line ++ rest) ≡ None → ⊥
 
--- nothing is found within the front
+-- nothing is found within the prefix
 pub record NoneIn {X : Type 0} (found : List ℕ → Option X) (front rest : List ℕ) : Type 0 where
   pub none : (a b : List ℕ) → front ≡ a ++ b → 0 < length b → found (b ++ rest) ≡ None
 
--- the front of a whole, where the second part is at least as long as what was put behind
+-- splits the prefix, if the second part is at least as long as what was appended
 pub split_front : (front end a z : List ℕ) → front ++ end ≡ a ++ z → length end ≤ length z → (b : List ℕ) × (front ≡ a ++ b) × (b ++ end ≡ z)
 split_front front end [] z e long = (front, refl, e)
 split_front [] end (x ∷ a) z e long = absurd (omega (arith, ap length e, length-append a z))
@@ -74,7 +74,7 @@ split_front (y ∷ front) end (x ∷ a) z e long =
     let same : y ≡ x = first_byte e in
     (further.0, ap (λ (l : List ℕ). y ∷ l) further.1 ∙ ap (λ c. c ∷ (a ++ further.0)) same, further.2)
 
--- where nothing is found, no such line stands
+-- if nothing is found, there is no such line
 pub free_from_none : {X : Type 0} (is : List ℕ → Type 0) (found : List ℕ → Option X) → Finds is found → (front more : List ℕ) → NoneIn found front (crlf ++ more) → Holds is (front ++ crlf) → ⊥
 free_from_none is found finds front more none holds =
     let line = finds.lines holds.line holds.is_line in
@@ -85,7 +85,7 @@ free_from_none is found finds front more none holds =
     sym (append_assoc split.0 crlf more) ∙ ap (λ (l : List ℕ). l ++ more) split.2 ∙ append_assoc holds.line (crlf ++ holds.back) more in
     finds.again holds.line (crlf ++ (holds.back ++ more)) holds.is_line (holds.back ++ more, refl) (sym (ap found here) ∙ none.none holds.front split.0 split.1 some)
 
--- where no such line stands, nothing is found
+-- if there is no such line, nothing is found
 pub none_from_free : {X : Type 0} (is : List ℕ → Type 0) (found : List ℕ → Option X) → Finds is found → (front more : List ℕ) → (Holds is (front ++ crlf) → ⊥) → NoneIn found front (crlf ++ more)
 none_from_free is found finds front more free = record {
   none = λ a b e some. elim (cases_option (found (b ++ (crlf ++ more)))) [
@@ -109,13 +109,13 @@ none_from_free is found finds front more free = record {
 abbrev pub Taken : {X : Type 0} → (List ℕ → Option X) → List ℕ → List ℕ × X → Type 0
 Taken found bytes cut = (rest : List ℕ) × (bytes ≡ cut.0 ++ rest) × (found rest ≡ Some cut.1) × NoneIn found cut.0 rest
 
--- the same cut
+-- two such cuts are the same
 one_cut : {X : Type 0} (found : List ℕ → Option X) (bytes : List ℕ) (cut other : List ℕ × X) → Taken found bytes cut → Some cut ≡ Some other → Taken found bytes other
 one_cut {X} found bytes cut other taken e =
     let same : cut ≡ other = ap (λ o. unwrap_or o cut) e in
     subst (λ (c : List ℕ × X). Taken found bytes c) same taken
 
--- nor with one byte more in front
+-- also with one more byte at the start
 none_in_longer : {X : Type 0} (found : List ℕ → Option X) (b : ℕ) (front rest : List ℕ) → found (b ∷ (front ++ rest)) ≡ None → NoneIn found front rest → NoneIn found (b ∷ front) rest
 none_in_longer found b front rest none further = record { none = by_split }
   where
@@ -146,7 +146,7 @@ up_to_taken found (b ∷ bytes) cut e = elim (cases_option (found (b ∷ bytes))
   ]
 ]
 
--- what stands first is found
+-- the first one is found
 pub up_to_again : {X : Type 0} (found : List ℕ → Option X) (front rest : List ℕ) (x : X) → found rest ≡ Some x → NoneIn found front rest → up_to found (front ++ rest) ≡ Some (front, x)
 up_to_again found [] rest x is none = up_to_here found rest x is
 up_to_again found (b ∷ front) rest x is none =

@@ -1,9 +1,9 @@
--- What a reader returned, and what its definition gives.
+-- What a reader returned, compared with its definition.
 use Rattle.std.specs.Prelude.{◌≡◌, Result, Ok, Err}
 use Rattle.mime_package.specs.declared.read.MimeRefusal.{MimeRefusal}
 use Rattle.mime_package.specs.declared.read.MimeRefusal.TheVariants.{BadType, NoBoundary, BadPart, NoRoot, Encoding, NoMemory}
 
--- the answer by the definition, unless memory ran out
+-- the result is the definition's, unless memory ran out
 abbrev pub Answers : {X Y : Type 0} → (X → Y) → Result X MimeRefusal → Result Y MimeRefusal → Type 0
 Answers view (Ok x) means = means ≡ Ok (view x)
 Answers view (Err BadType) means = means ≡ Err BadType

@@ -1,4 +1,4 @@
--- The part that a package is refused for, since its content is encoded for transfer.
+-- The part for which a package is refused because its content is encoded for transfer.
 use Rattle.std.specs.Prelude.{◌≡◌, ℕ, List, ◌∷◌, ◌++◌, Some, IsTrue, length, not}
 use Rattle.std.specs.List.{list_all}
 use Rattle.mime_fields.specs.Fields.{PartValue}
@@ -6,7 +6,7 @@ use Rattle.mime_fields.specs.MediaTypes.{MediaType, media_type_of}
 use Rattle.mime_package.specs.Pieces.{HasParts}
 use Rattle.mime_package.specs.Reading.{boundary_of}
 
--- the part of this index is the first whose content doesn't stand as it is
+-- the part at this index is the first whose content is encoded
 pub record IsFirstEncoded (parts : List PartValue) (index : ℕ) : Type 0 where
   pub before : List PartValue
   pub part : PartValue

@@ -1,4 +1,4 @@
--- What lent values are, without where they lie in memory.
+-- Borrowed values, without their addresses in memory.
 use Rattle.std.specs.Prelude.{map}
 use Rattle.mime_fields.specs.Lent.{part_value}
 use Rattle.mime_package.specs.Reading.{PackageValue, Ending, last, next}

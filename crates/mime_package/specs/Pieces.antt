@@ -1,21 +1,21 @@
--- A body by its pieces (RFC 2046, section 5.1.1): delimiters and parts, which joined are the body.
+-- A body as the sequence of its pieces (RFC 2046, section 5.1.1): delimiters and parts, which joined are the body.
 use Rattle.std.specs.Prelude.{◌≡◌, ℕ, ◌≤◌, List, [], ◌∷◌, ◌++◌, ◌⊎◌, Some, None, IsTrue, codes, length, drop, map}
 use Rattle.std.specs.List.{list_all}
-use Rattle.as4_values.specs.Payload.{is_space}
+use Rattle.byte_forms.specs.Classes.{is_space}
 use Rattle.mime_fields.specs.Fields.{PartValue, crlf, part_of}
 use Rattle.mime_package.specs.Reading.{max_parts}
 
--- a line, behind the CRLF that begins it: the boundary behind two hyphens, and blanks
+-- a line after the CRLF that begins it: two hyphens, the boundary, and blanks
 pub record IsDelimiter (boundary line : List ℕ) : Type 0 where
   pub blanks : List ℕ
   pub blank : IsTrue (list_all is_space blanks)
   pub is : line ≡ crlf ++ (codes "--" ++ (boundary ++ blanks))
 
--- the same with two hyphens behind the boundary
+-- the same with two hyphens after the boundary
 abbrev pub IsLastDelimiter : List ℕ → List ℕ → Type 0
 IsLastDelimiter boundary line = IsDelimiter (boundary ++ codes "--") line
 
--- such a line stands somewhere in the bytes, with its CRLF
+-- such a line, followed by a CRLF, occurs in the bytes
 pub record Holds (is : List ℕ → Type 0) (bytes : List ℕ) : Type 0 where
   pub front : List ℕ
   pub line : List ℕ
@@ -27,14 +27,15 @@ pub record Holds (is : List ℕ → Type 0) (bytes : List ℕ) : Type 0 where
 abbrev pub GoesOn : List ℕ → Type 0
 GoesOn bytes = (more : List ℕ) × (bytes ≡ crlf ++ more)
 
--- what stands between two delimiters: a part behind its CRLF, or nothing where the two share one. With the CRLF of the
--- second it holds no delimiter and no last delimiter
+-- the bytes between two delimiters: a part after its CRLF, or empty if the two share one. Together with the CRLF of the
+-- second delimiter they contain neither a delimiter nor a last delimiter
 pub record IsPiece (boundary piece : List ℕ) : Type 0 where
   pub begins : (piece ≡ []) ⊎ GoesOn piece
   pub whole : ¬ (Holds (IsDelimiter boundary) (piece ++ crlf))
   pub not_last : ¬ (Holds (IsLastDelimiter boundary) (piece ++ crlf))
 
--- behind a delimiter these pieces stand, parted by delimiters; then the last delimiter, at the end or with a line behind it
+-- after a delimiter come these pieces, separated by delimiters; then the last delimiter, at the end or followed by a
+-- line
 abbrev pub AreParts : List ℕ → List (List ℕ) → List ℕ → Type 0
 AreParts boundary [] bytes = ⊥
 AreParts boundary (piece ∷ []) bytes =
@@ -44,7 +45,7 @@ AreParts boundary (piece ∷ other ∷ others) bytes =
     IsPiece boundary piece
     × ((line : List ℕ) × (rest : List ℕ) × IsDelimiter boundary line × GoesOn rest × (bytes ≡ piece ++ (line ++ rest)) × AreParts boundary (other ∷ others) rest)
 
--- what stands before the first delimiter holds none; the CRLF of a delimiter is left out at the body's first byte
+-- the bytes before the first delimiter contain none; a delimiter at the body's first byte has no CRLF before it
 pub record IsCut (boundary body : List ℕ) (pieces : List (List ℕ)) : Type 0 where
   pub front : List ℕ
   pub line : List ℕ
@@ -62,19 +63,20 @@ pub record HasParts (boundary body : List ℕ) (parts : List PartValue) : Type 0
   pub few : length pieces ≤ max_parts
   pub spelled : map (λ piece. part_of (drop 2 piece)) pieces ≡ map Some parts
 
--- behind a delimiter these pieces stand, each ended by a delimiter; behind the last of these stand other bytes, from its CRLF on
+-- after a delimiter come these pieces, each ended by a delimiter; the bytes after the last piece's delimiter begin with
+-- its CRLF
 abbrev pub ArePieces : List ℕ → List (List ℕ) → List ℕ → List ℕ → Type 0
 ArePieces boundary [] bytes behind = bytes ≡ behind
 ArePieces boundary (piece ∷ pieces) bytes behind =
     IsPiece boundary piece
     × ((line : List ℕ) × (rest : List ℕ) × IsDelimiter boundary line × GoesOn rest × (bytes ≡ piece ++ (line ++ rest)) × ArePieces boundary pieces rest behind)
 
--- no delimiter stands in these bytes, nor the last delimiter, which may also end them: a CRLF is put behind them for it
+-- these bytes contain neither a delimiter nor a last delimiter, even at their end: hence the appended CRLF
 pub record HasNoEnd (boundary bytes : List ℕ) : Type 0 where
   pub no_delimiter : ¬ (Holds (IsDelimiter boundary) bytes)
   pub no_last : ¬ (Holds (IsLastDelimiter boundary) (bytes ++ crlf))
 
--- these bytes begin with a piece that a delimiter or the last delimiter ends, and that spells no part
+-- these bytes begin with a piece that is ended by either kind of delimiter, and that spells no part
 pub record HasBadPiece (boundary bytes : List ℕ) : Type 0 where
   pub piece : List ℕ
   pub line : List ℕ
@@ -84,7 +86,7 @@ pub record HasBadPiece (boundary bytes : List ℕ) : Type 0 where
   pub bytes_are : bytes ≡ piece ++ (line ++ rest)
   pub no_part : part_of (drop 2 piece) ≡ None
 
--- these bytes stand behind the first delimiter, from its CRLF on
+-- these bytes follow the first delimiter, from its CRLF on
 pub record StandBehindFirst (boundary body rest : List ℕ) : Type 0 where
   pub front : List ℕ
   pub line : List ℕ
@@ -93,8 +95,8 @@ pub record StandBehindFirst (boundary body rest : List ℕ) : Type 0 where
   pub body_is : crlf ++ body ≡ front ++ (line ++ rest)
   pub none_before : ¬ (Holds (IsDelimiter boundary) (front ++ crlf))
 
--- so many pieces stand behind the first delimiter, each of which spells a part and is ended by a delimiter; and then they
--- are as many as a package has at most, or nothing ends what stands behind them, or the next piece spells no part
+-- after the first delimiter come `count` pieces, each of which spells a part and is ended by a delimiter; and either
+-- that is the maximum of a package, or nothing ends the bytes after them, or the next piece spells no part
 pub record BreaksAt (boundary body : List ℕ) (count : ℕ) : Type 0 where
   pub rest : List ℕ
   pub first : StandBehindFirst boundary body rest

@@ -1,10 +1,10 @@
--- How a package is read (RFC 2046, section 5.1; RFC 2387, section 3): its media text names the boundary at which its body
--- is cut into parts, and the part that is the root.
+-- How a package is read (RFC 2046, section 5.1; RFC 2387, section 3): its media text names the boundary that cuts its
+-- body into parts, and the part that is the root.
 use Rattle.std.specs.Prelude.{ℕ, zero, suc, ◌+◌, List, [], ◌∷◌, ◌++◌, Bool, false, not, ◌&&◌, ◌||◌, ◌==◌, nat_lt, nat_le, nat_eq, if◌then◌else◌, Option, Some, None, option_map, Result, Ok, Err, bytes_eq, codes, length, drop}
 use Rattle.std.specs.List.{list_all, list_any, starts_with, ends_with}
 use Rattle.std.specs.Str.{str_eq_ignore_ascii_case}
-use Rattle.as4_values.specs.Payload.{is_space}
-use Rattle.byte_forms.specs.Cuts.{◌>>=◌, skip, behind}
+use Rattle.byte_forms.specs.Classes.{is_space}
+use Rattle.byte_forms.specs.Cuts.{◌>>=◌, skip, strip_prefix}
 use Rattle.mime_fields.specs.MediaTypes.{Parameter, MediaType, media_type_of, is_type, is_named, names_differ}
 use Rattle.mime_fields.specs.Fields.{PartValue, crlf, part_of, without_brackets}
 use Rattle.mime_package.specs.declared.read.MimeRefusal.{MimeRefusal}
@@ -26,13 +26,13 @@ parameter name (p ∷ others) = if is_named name p then Some p.value else parame
 abbrev pub is_charset : List ℕ → Bool
 is_charset value = str_eq_ignore_ascii_case value (codes "utf-8") || str_eq_ignore_ascii_case value (codes "us-ascii")
 
--- the media type of an envelope in a character set that is read
+-- the media type of an envelope in a supported character set
 unfoldable pub is_envelope : MediaType → Bool
 is_envelope m =
     is_type (codes "application") (codes "soap+xml") m
     && list_all (λ p. not (is_named (codes "charset") p) || is_charset p.value) m.parameters
 
--- a boundary has 1 to 70 characters, of which the last is no space (RFC 2046, section 5.1.1)
+-- a boundary has 1 to 70 characters, the last of which is no space (RFC 2046, section 5.1.1)
 abbrev pub is_boundary_byte : ℕ → Bool
 is_boundary_byte b =
     (nat_le 48 b && nat_le b 57) || (nat_le 65 b && nat_le b 90) || (nat_le 97 b && nat_le b 122)
@@ -50,26 +50,26 @@ boundary_of parameters = do
 
 -- Delimiters.
 
--- a line that begins with this front, behind its CRLF: what stands behind it, from its own CRLF on
+-- the end of a line after blanks: the bytes after the blanks, which begin with the line's CRLF
 unfoldable pub line_end : List ℕ → Option (List ℕ)
-line_end bytes = option_map (λ more. skip is_space bytes) (behind crlf (skip is_space bytes))
+line_end bytes = option_map (λ more. skip is_space bytes) (strip_prefix crlf (skip is_space bytes))
 
--- a delimiter at the front: CRLF, the boundary behind two hyphens, and blanks. What is given stands behind it and begins
--- with its CRLF, which the next delimiter may share
+-- a delimiter: CRLF, two hyphens, the boundary, and blanks. The result is the rest, which begins with the delimiter's
+-- CRLF; the next delimiter may share it
 unfoldable pub delimiter_at : List ℕ → List ℕ → Option (List ℕ)
-delimiter_at boundary bytes = behind (crlf ++ (codes "--" ++ boundary)) bytes >>= line_end
+delimiter_at boundary bytes = strip_prefix (crlf ++ (codes "--" ++ boundary)) bytes >>= line_end
 
--- the last delimiter has two hyphens more, and may stand at the end of the body
+-- the last delimiter has two more hyphens, and may be at the end of the body
 abbrev pub is_line_end : List ℕ → Bool
 is_line_end bytes = (length bytes == 0) || starts_with nat_eq bytes crlf
 
 unfoldable pub is_last_at : List ℕ → List ℕ → Bool
-is_last_at boundary bytes = elim (behind (crlf ++ (codes "--" ++ (boundary ++ codes "--"))) bytes) [
+is_last_at boundary bytes = elim (strip_prefix (crlf ++ (codes "--" ++ (boundary ++ codes "--"))) bytes) [
   | None ↦ false
   | Some rest ↦ is_line_end (skip is_space rest)
 ]
 
--- what ends a part: the last delimiter, or a delimiter, with what stands behind it
+-- the end of a part: the last delimiter, or a delimiter with the bytes after it
 pub data Ending : Type 0 where
   last : Ending
   next : List ℕ → Ending
@@ -77,7 +77,7 @@ pub data Ending : Type 0 where
 unfoldable pub ending_at : List ℕ → List ℕ → Option Ending
 ending_at boundary bytes = if is_last_at boundary bytes then Some last else option_map next (delimiter_at boundary bytes)
 
--- what stands before the first place where something is found, and what is found there
+-- the bytes before the first place where something is found, and the result there
 unfoldable pub up_to : {X : Type 0} → (List ℕ → Option X) → List ℕ → Option (List ℕ × X)
 up_to found [] = option_map (λ x. ([], x)) (found [])
 up_to found (b ∷ bytes) = elim (found (b ∷ bytes)) [
@@ -87,7 +87,7 @@ up_to found (b ∷ bytes) = elim (found (b ∷ bytes)) [
 
 -- Parts.
 
--- how many parts a package has at most: a limit of this reader
+-- the maximum number of parts of a package: a limit of this reader
 abbrev pub max_parts : ℕ
 max_parts = 256
 
@@ -95,8 +95,7 @@ abbrev pub also : PartValue → Result (List PartValue) MimeRefusal → Result (
 also part (Ok parts) = Ok (part ∷ parts)
 also part (Err refusal) = Err refusal
 
--- the parts behind a delimiter, the first of which has this index, and at most so many; the bytes begin with the
--- delimiter's CRLF
+-- at most n parts after a delimiter, the first of which has this index; the bytes begin with the delimiter's CRLF
 unfoldable pub parts_within : ℕ → ℕ → List ℕ → List ℕ → Result (List PartValue) MimeRefusal
 parts_within zero index boundary bytes = Err (BadPart index)
 parts_within (suc n) index boundary bytes = elim (up_to (ending_at boundary) bytes) [
@@ -110,7 +109,7 @@ parts_within (suc n) index boundary bytes = elim (up_to (ending_at boundary) byt
   ]
 ]
 
--- the parts of a body; the CRLF of a delimiter is left out at the body's first byte
+-- the parts of a body; a delimiter at the body's first byte has no CRLF before it
 unfoldable pub parts_of : List ℕ → List ℕ → Result (List PartValue) MimeRefusal
 parts_of boundary body = elim (up_to (delimiter_at boundary) (crlf ++ body)) [
   | None ↦ Err NoBoundary
@@ -126,7 +125,7 @@ has_id id part = elim part.id [
   | Some own ↦ bytes_eq own id
 ]
 
--- the one part of which something is so, and the others before and behind it
+-- the only part that passes the test, and the others before and after it
 unfoldable pub only_one : (PartValue → Bool) → List PartValue → Option (PartValue × List PartValue)
 only_one is [] = None
 only_one is (part ∷ parts) =
@@ -146,7 +145,7 @@ is_root part = elim (media_type_of part.media) [
   | Some m ↦ is_envelope m
 ]
 
--- the index of the first part whose content doesn't stand as it is
+-- the index of the first part whose content is encoded
 unfoldable pub encoded_at : ℕ → List PartValue → Option ℕ
 encoded_at index [] = None
 encoded_at index (part ∷ parts) = if part.identity then encoded_at (index + 1) parts else Some index

@@ -4,7 +4,7 @@ ghost use Rattle.std.specs.Prelude.{◌≡◌, codes, nat_eq};
 ghost use Rattle.std.specs.List.{list_all, ends_with};
 ghost use Rattle.mime_package.specs.Reading.{is_boundary, is_boundary_byte};
 
-/// Whether the bytes may be a boundary: 1 to 70 of its characters, of which the last is no space.
+/// Whether the bytes may be a boundary: 1 to 70 of its characters, the last of which is no space.
 #[tactic(auto, unfolding(crate::specs::Reading::is_boundary))]
 pub fn is_boundary(bytes: &[u8]) -> bool
     ensures { result ≡ is_boundary bytes.now }

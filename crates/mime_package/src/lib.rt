@@ -1,8 +1,7 @@
-//! Packages: an envelope and payloads as one body of parts (RFC 2046, section 5.1; RFC 2387), lent from the input.
+//! Packages: an envelope and payloads as one body of parts (RFC 2046, section 5.1; RFC 2387), borrowed from the input.
 #![tactic(auto)]
 
 mod boundary;
-mod cuts;
 mod delimiters;
 mod laws;
 mod package;

@@ -11,7 +11,7 @@ use as4_values::NoMemory;
 use mime_fields::{MediaType, Parameter, Value};
 use std::alloc::Global;
 
-/// What the first parameter of this name means.
+/// The meaning of the first parameter of this name.
 pub fn meant(
     alloc: Global,
     name: &[u8],
@@ -41,7 +41,7 @@ pub fn boundary_of(alloc: Global, parameters: &[Parameter<'_>]) -> Result<Option
     }
 }
 
-/// Whether it is the media type of an envelope (SOAP 1.2, part 2, section 7) in a character set that is read.
+/// Whether it is the media type of an envelope (SOAP 1.2, part 2, section 7) in a supported character set.
 #[tactic(auto, unfolding(crate::specs::Reading::is_envelope))]
 pub fn is_envelope(alloc: Global, media: &MediaType<'_>) -> Result<bool, NoMemory>
     ensures { IfOk result (λ is. is ≡ is_envelope (type_of media.now)) }
@@ -52,7 +52,7 @@ pub fn is_envelope(alloc: Global, media: &MediaType<'_>) -> Result<bool, NoMemor
     are_charsets(alloc, media.parameters.as_slice())
 }
 
-// Whether each parameter that names a character set names one that is read.
+// Whether each parameter that names a character set names a supported one.
 fn are_charsets(alloc: Global, parameters: &[Parameter<'_>]) -> Result<bool, NoMemory>
     ensures { IfOk result (λ all. all ≡ list_all (λ p. not (is_named (codes "charset") p) || is_charset p.value) (map parameter_of parameters.now)) }
 {

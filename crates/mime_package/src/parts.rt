@@ -15,10 +15,10 @@ use as4_values::NoMemory;
 use mime_fields::{Part, read_part};
 use std::alloc::{AllocError, Global};
 
-/// How many parts a package has at most.
+/// The maximum number of parts of a package.
 const MAX_PARTS: usize = 256;
 
-/// The parts of a body, in their order: at least one, and at most `MAX_PARTS`.
+/// The parts of a body, in order: at least one, and at most `MAX_PARTS`.
 pub fn parts_of<'a>(
     alloc: Global,
     boundary: &[u8],
@@ -32,7 +32,7 @@ pub fn parts_of<'a>(
     parts
 }
 
-// What each delimiter begins with.
+// The prefix of each delimiter.
 fn delimiter_start(alloc: Global, boundary: &[u8]) -> Result<Vec<u8>, AllocError>
     ensures { IfOk result (λ start. start.items ≡ crlf ++ (codes "--" ++ boundary.now)) }
 {
@@ -56,7 +56,7 @@ fn parts_from<'a>(
     }
 }
 
-// The parts behind a delimiter, from its second CRLF on.
+// The parts after a delimiter, from its second CRLF on.
 fn parts_within<'a>(
     alloc: Global,
     search: &Search<'_>,
@@ -84,7 +84,7 @@ fn parts_within<'a>(
     Err(MimeRefusal::BadPart { index: MAX_PARTS })
 }
 
-// Reads the first part behind a delimiter, puts it behind the parts so far and gives what ends it.
+// Reads the first part after a delimiter, appends it to the parts so far and returns its end.
 fn next_part<'a>(
     alloc: Global,
     search: &Search<'_>,
@@ -103,7 +103,7 @@ fn next_part<'a>(
     }
 }
 
-// The first part behind a delimiter, and what ends it.
+// The first part after a delimiter, and its end.
 #[tactic(auto, unfolding(crate::specs::Steps::part_at))]
 fn part_at<'a>(
     alloc: Global,
@@ -121,7 +121,7 @@ fn part_at<'a>(
     Ok(Some((part, ending)))
 }
 
-// What stands behind the CRLF of a delimiter, or nothing where the next one shares it.
+// The bytes after the CRLF of a delimiter, or no bytes if the next delimiter shares the CRLF.
 fn behind_line_end(piece: &[u8]) -> &[u8]
     ensures { result.now ≡ drop 2 piece.now }
 {

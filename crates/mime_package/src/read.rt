@@ -1,4 +1,4 @@
-//! Reads a package from its media text and its body (RFC 2387; RFC 2046, section 5.1), or tells why they are none.
+//! Reads a package from its media text and its body (RFC 2387; RFC 2046, section 5.1), or reports why they are none.
 
 ghost use Rattle.std.specs.Prelude.{◌≡◌, ◌<◌, Ok, codes, length, map, option_map};
 ghost use Rattle.mime_fields.specs.Lent.{parameter_of, type_of, part_value};
@@ -15,17 +15,17 @@ use crate::root::checked_root;
 use mime_fields::{MediaType, Parameter, Part, read_media_type};
 use std::alloc::{AllocError, AllocFailed, Global};
 
-/// Why a media text and a body are no package.
+/// Why a media text and a body are not a package.
 #[derive(Clone, Copy, Debug, PartialEq, Eq)]
 pub enum MimeRefusal {
-    /// The media text isn't spelled, has a parameter twice, or is neither that of an envelope in a character set that
-    /// is read nor that of a package.
+    /// The media text is malformed, has a parameter twice, or is neither that of an envelope in a supported character
+    /// set nor that of a package.
     BadType,
-    /// The media text names no boundary, or the body has no delimiter.
+    /// The media text names no valid boundary, or the body has no delimiter.
     NoBoundary,
-    /// The part of this index, from 0, isn't ended by a delimiter or isn't spelled, or is one too many.
+    /// The part of this index, from 0, has no delimiter at its end, is malformed, or is one too many.
     BadPart { index: usize },
-    /// The media text names no part as the root or more than one, or the root's media text isn't that of an envelope.
+    /// The media text names no part as the root, or several, or the root's media text isn't that of an envelope.
     NoRoot,
     /// The content of the part of this index is encoded for transfer (RFC 2045, section 6).
     Encoding { index: usize },
@@ -57,8 +57,8 @@ impl<T: Drop> From<AllocFailed<T>> for MimeRefusal {
     }
 }
 
-/// Reads a package: its media text names the boundary at which the body is cut into parts, and the root. A bare
-/// envelope is a package without other parts. Contents aren't copied.
+/// Reads a package: its media text names the boundary that cuts the body into parts, and the root. A bare envelope is a
+/// package without other parts. Contents aren't copied.
 #[tactic(auto, unfolding(crate::specs::Reading::package_of))]
 pub fn read_parts<'a>(
     alloc: Global,
@@ -133,7 +133,7 @@ fn rooted<'a>(
     }
 }
 
-// The package whose root stands at this place.
+// The package whose root is at this index.
 fn package_at<'a>(at: usize, mut parts: Vec<Part<'a>>) -> Package<'a>
     requires { at < length parts.items }
     ensures { package_value result ≡ package_at at (map part_value parts.entry.items) }

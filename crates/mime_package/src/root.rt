@@ -13,7 +13,7 @@ use as4_values::NoMemory;
 use mime_fields::{Parameter, Part, read_media_type, without_brackets};
 use std::alloc::Global;
 
-/// The place of the root, which holds an envelope, where no content is encoded.
+/// The index of the root, which must hold an envelope; no content may be encoded.
 pub fn checked_root(
     alloc: Global,
     parameters: &[Parameter<'_>],
@@ -27,7 +27,7 @@ pub fn checked_root(
     checked_place(alloc, place, parts)
 }
 
-// The place of the root that the parameters name.
+// The index of the root that the parameters name.
 fn named_place(
     alloc: Global,
     parameters: &[Parameter<'_>],
@@ -48,7 +48,7 @@ fn named_place(
     }
 }
 
-// The place, where a root stands there and no content is encoded.
+// The index, if a root is there and no content is encoded.
 fn checked_place(
     alloc: Global,
     place: Option<usize>,
@@ -71,7 +71,7 @@ fn checked_place(
     }
 }
 
-// The place of the root: the one part that has the Content-ID `start`, or the first part where there is no `start`.
+// The index of the root: the only part with the Content-ID `start`, or the first part if there is no `start`.
 #[tactic(auto, using(crate::proofs::RootLemmas::first_root), unfolding(crate::specs::Reading::root_of))]
 fn root_place(start: Option<&[u8]>, parts: &[Part<'_>]) -> Option<usize>
     ensures place { root_of (option_map (λ id. id.now) start.entry) (map part_value parts.now)
@@ -103,7 +103,7 @@ fn encoded_at(parts: &[Part<'_>]) -> Option<usize>
     parts.iter().position(|part| !part.identity)
 }
 
-// The place of the one part with this Content-ID.
+// The index of the only part with this Content-ID.
 #[tactic(auto, using(crate::proofs::RootLemmas::none_has_id))]
 fn only_place(id: &[u8], parts: &[Part<'_>]) -> Option<usize>
     ensures place { only_one (has_id id.now) (map part_value parts.now) ≡ taken_at result (map part_value parts.now) }

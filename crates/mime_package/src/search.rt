@@ -1,4 +1,4 @@
-//! The search for delimiters: by their first bytes, and then for the whole line.
+//! The search for delimiters: first for their prefix, then for the whole line.
 
 ghost use Rattle.std.specs.Prelude.{◌≡◌, ◌++◌, codes};
 ghost use Rattle.std.specs.Option.{option_map};
@@ -19,7 +19,7 @@ pub struct Search<'b> {
 }
 
 impl<'b> Search<'b> {
-    /// The search for this boundary, of which each delimiter begins with `start`.
+    /// The search for delimiters with this boundary, each of which begins with `start`.
     pub fn new(boundary: &'b [u8], start: &'b [u8]) -> Search<'b>
         requires { start.now ≡ crlf ++ (codes "--" ++ boundary.now) }
         ensures { result.boundary.now ≡ boundary.now }
@@ -30,7 +30,7 @@ impl<'b> Search<'b> {
         }
     }
 
-    /// What stands behind the first delimiter of a body, whose first CRLF is left out at the body's first byte.
+    /// The bytes after the first delimiter of a body. At the body's first byte a delimiter has no CRLF before it.
     #[tactic(auto, using(crate::proofs::StartLemmas::first_found, crate::proofs::StartLemmas::first_further))]
     pub fn behind_first<'a>(&self, body: &'a [u8]) -> Option<&'a [u8]>
         ensures { option_map (λ rest. rest.now) result ≡ option_map (λ cut. cut.1) (up_to (delimiter_at self.now.boundary.now) (crlf ++ body.now)) }
@@ -41,7 +41,7 @@ impl<'b> Search<'b> {
         }
     }
 
-    /// What stands before the first end of a part, and that end.
+    /// The bytes before the first end of a part, and that end.
     pub fn up_to_ending<'a>(&self, bytes: &'a [u8]) -> Option<(&'a [u8], Ending<'a>)>
         ensures { option_map (λ cut. (cut.0.now, ending_of cut.1)) result ≡ up_to (ending_at self.now.boundary.now) bytes.now }
     {
@@ -58,7 +58,7 @@ impl<'b> Search<'b> {
         None
     }
 
-    // What stands behind the first delimiter.
+    // The bytes after the first delimiter.
     fn behind_delimiter<'a>(&self, bytes: &'a [u8]) -> Option<&'a [u8]>
         ensures { option_map (λ rest. rest.now) result ≡ option_map (λ cut. cut.1) (up_to (delimiter_at self.now.boundary.now) bytes.now) }
     {

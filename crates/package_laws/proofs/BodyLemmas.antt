@@ -1,4 +1,4 @@
--- The body of a package is cut into what is written of its parts.
+-- The body of a package is cut into its written parts.
 use Rattle.std.proofs.Common.{◌≡◌, ℕ, ◌≤◌, List, [], ◌∷◌, ◌++◌, length, map, drop, Some, refl, sym, ap, arith, inr, append_assoc, append-nil, length-append}
 use Rattle.std.specs.Prelude.{codes}
 use Rattle.std.specs.List.{flat_map, AllByRecursion}
@@ -11,15 +11,15 @@ use Rattle.package_laws.proofs.PartLemmas.{part_is_read}
 use Rattle.package_laws.proofs.PieceLemmas.{boundary, piece, dash_is, is_piece}
 use Rattle.package_laws.specs.Written.{payload_part}
 
--- these payloads as parts, and the last delimiter
+-- these payloads as parts, followed by the last delimiter
 abbrev pub body : ℕ → List Payload → List ℕ
 body n parts = flat_map (payload_text n) parts ++ (dash_boundary n ++ (codes "--" ++ crlf))
 
--- no part holds the boundary
+-- no part contains the boundary
 abbrev pub AreFree : ℕ → List Payload → Type 0
 AreFree n = AllByRecursion (λ p. Occurs (dash_boundary n) p.content → ⊥)
 
--- a delimiter, behind its CRLF
+-- a delimiter after its CRLF
 abbrev delimiter : ℕ → List ℕ
 delimiter n = crlf ++ (codes "--" ++ boundary n)
 
@@ -32,7 +32,7 @@ is_last n = record { blanks = []; blank = refl; is = regroup (boundary n) }
     regroup : (b : List ℕ) → (crlf ++ (codes "--" ++ b)) ++ codes "--" ≡ crlf ++ (codes "--" ++ ((b ++ codes "--") ++ []))
     regroup b = simp (append_assoc, append-nil)
 
--- what stands behind a part: the delimiter of the next one, or the last
+-- a part is followed by the delimiter of the next part, or by the last delimiter
 next_is : (n : ℕ) (p : Payload) (parts : List Payload) → crlf ++ body n (p ∷ parts) ≡ delimiter n ++ (piece p ++ (crlf ++ body n parts))
 unfolding payload_text part_text
 next_is n p parts = rw (dash_is n) (regroup (codes "--" ++ boundary n) (part_head p.cid p.media) p.content (flat_map (payload_text n) parts) (codes "--" ++ crlf))
@@ -64,7 +64,7 @@ are_parts n p (q ∷ parts) free = (
   ),
 )
 
--- nothing stands before the first delimiter
+-- no bytes precede the first delimiter
 none_before : (boundary : List ℕ) → Holds (IsDelimiter boundary) crlf → ⊥
 none_before boundary holds =
     omega (arith, ap length holds.bytes_are, length-append holds.front (holds.line ++ (crlf ++ holds.back)), length-append holds.line (crlf ++ holds.back), ap length holds.is_line.is)
@@ -85,7 +85,7 @@ all_spelled : (parts : List Payload) → map (λ piece. part_of (drop 2 piece)) 
 all_spelled [] = refl
 all_spelled (p ∷ parts) = rw (part_is_read p, all_spelled parts) refl
 
--- a body has the parts that are written
+-- a body has the parts that were written
 pub has_parts : (n : ℕ) (p : Payload) (parts : List Payload) → AreFree n (p ∷ parts) → length parts ≤ 255 → HasParts (boundary n) (body n (p ∷ parts)) (map payload_part (p ∷ parts))
 has_parts n p parts free few = record {
   pieces = map piece (p ∷ parts);

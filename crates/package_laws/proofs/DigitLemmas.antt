@@ -1,4 +1,4 @@
--- The digits of a number are of each class that has the sixteen of them.
+-- The digits of a number belong to each class that has all sixteen.
 use Rattle.std.proofs.Common.{◌≡◌, ℕ, zero, suc, ◌+◌, ◌/◌, ◌%◌, ◌<◌, Bool, true, [], ◌∷◌, length, map, arith, refl, ap, subst, ◌∙◌, length-append}
 use Rattle.std.specs.Prelude.{IsTrue, codes}
 use Rattle.std.specs.List.{list_all, range_with_len}
@@ -8,7 +8,7 @@ use Rattle.std.proofs.lemmas.List.Sums.{AllPass-from_list_all}
 use Rattle.byte_forms.specs.Digits.{hex_digit}
 use Rattle.message_model.specs.Package.{hex_digits}
 
--- a class of bytes that has each digit
+-- a class of bytes that contains each digit
 abbrev pub HasDigits : (ℕ → Bool) → Type 0
 HasDigits class = IsTrue (list_all class (codes "0123456789abcdef"))
 

@@ -1,4 +1,4 @@
--- Where a line begins with the bytes of a delimiter.
+-- Lines that begin with the bytes of a delimiter.
 use Rattle.std.proofs.Common.{◌≡◌, ℕ, ◌<◌, false, List, [], ◌∷◌, ◌++◌, length, refl, sym, ap, ◌∙◌, arith, append_assoc, length-append}
 use Rattle.std.specs.Prelude.{IsTrue, codes}
 use Rattle.std.specs.List.{list_all}
@@ -11,13 +11,13 @@ use Rattle.mime_package.specs.Pieces.{IsDelimiter, IsLastDelimiter, Holds}
 abbrev pub InLine : List ℕ → Type 0
 InLine bytes = IsTrue (list_all is_line_byte bytes)
 
--- a line, behind its CRLF, begins with this word
+-- a line, after its CRLF, begins with this word
 pub record HasLine (word bytes : List ℕ) : Type 0 where
   pub front : List ℕ
   pub back : List ℕ
   pub bytes_are : bytes ≡ front ++ (crlf ++ (word ++ back))
 
--- so it is where a delimiter stands
+-- a delimiter is such a line
 pub delimiter_line : (boundary bytes : List ℕ) → Holds (IsDelimiter boundary) bytes → HasLine (codes "--" ++ boundary) bytes
 delimiter_line boundary bytes holds = record {
   front = holds.front;
@@ -39,7 +39,7 @@ last_line boundary bytes holds =
     regroup : (front boundary back : List ℕ) → front ++ (crlf ++ ((codes "--" ++ (boundary ++ codes "--")) ++ back)) ≡ front ++ (crlf ++ ((codes "--" ++ boundary) ++ (codes "--" ++ back)))
     regroup front boundary back = simp append_assoc
 
--- no CR or LF stands in a line
+-- a line contains no CR or LF
 no_line_byte : (b : ℕ) (bytes : List ℕ) (c : ℕ) → is_line_byte c ≡ false → b ≡ c → InLine (b ∷ bytes) → ⊥
 no_line_byte b bytes c other same is =
     false≢true (sym other ∙ ap is_line_byte (sym same) ∙ (and_parts (is_line_byte b) (list_all is_line_byte bytes) is).0)
@@ -47,7 +47,7 @@ no_line_byte b bytes c other same is =
 rest_in_line : (b : ℕ) (bytes : List ℕ) → InLine (b ∷ bytes) → InLine bytes
 rest_in_line b bytes is = (and_parts (is_line_byte b) (list_all is_line_byte bytes) is).1
 
--- what begins behind a line stands behind its end
+-- a word that begins after a line begins after its line end
 behind_line : (word line rest front back : List ℕ) → InLine line → line ++ (crlf ++ rest) ≡ front ++ (crlf ++ (word ++ back)) → HasLine word (crlf ++ rest)
 behind_line word [] rest front back is e = record { front = front; back = back; bytes_are = e }
 behind_line word (b ∷ line) rest [] back is e = absurd (no_line_byte b line 13 refl (cc) is)
@@ -62,7 +62,7 @@ past_line word line rest is other has = by_front has.front has.back has.bytes_ar
     by_front (c ∷ []) back e = absurd cc
     by_front (c ∷ d ∷ front) back e = behind_line word line rest front back is (cc)
 
--- a word of one line in front of a text with its CRLF stands in front of the text
+-- a one-line word with which a text and its CRLF begin is a prefix of the text
 in_front : (word text back : List ℕ) → InLine word → text ++ crlf ≡ word ++ back → (more : List ℕ) × (text ≡ word ++ more)
 in_front [] text back is e = (text, refl)
 in_front (b ∷ word) [] back is e = absurd (no_line_byte b word 13 refl (cc) is)
@@ -79,7 +79,7 @@ within word (c ∷ text) (d ∷ front) back some is e =
     let found = within word text front back some is (cc) in
     (c ∷ found.0, found.1, ap (λ (t : List ℕ). c ∷ t) found.2)
 
--- a line that begins in the last text of all stands there
+-- a word that begins a line of the last text occurs in that text
 pub in_text : (word text : List ℕ) → 0 < length word → InLine word → HasLine word (crlf ++ (text ++ crlf)) → Occurs word text
 in_text word text some is has = by_front has.front has.back has.bytes_are
   where

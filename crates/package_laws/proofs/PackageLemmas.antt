@@ -1,10 +1,10 @@
--- What is written of an envelope and its payloads is read as them.
+-- A written envelope and its payloads are read back.
 use Rattle.std.proofs.Common.{◌≡◌, ◌≢◌, ℕ, ◌≤◌, true, List, [], ◌∷◌, ◌++◌, length, map, Some, None, refl, ap, ◌∙◌, append_assoc}
 use Rattle.std.specs.Prelude.{Ok, codes}
 use Rattle.std.specs.List.{flat_map}
 use Rattle.std.proofs.lemmas.List.Elements.{recursion_from_All}
 use Rattle.as4_values.specs.declared.payload.Payload.{Payload}
-use Rattle.byte_forms.specs.Cuts.{run_at, behind}
+use Rattle.byte_forms.specs.Cuts.{run_at, strip_prefix}
 use Rattle.message_model.specs.Package.{crlf, dash_boundary, root_id, envelope_media, package_media, part_text, payload_text, package_body, Occurs, IsFree}
 use Rattle.mime_fields.specs.Fields.{PartValue}
 use Rattle.mime_fields.specs.MediaTypes.{MediaType, value_at, parameter_at, parameters_within, media_type_of}
@@ -23,10 +23,10 @@ abbrev envelope_type : MediaType
 envelope_type = record { kind = codes "application"; subkind = codes "soap+xml"; parameters = record { name = codes "charset"; value = codes "UTF-8" } ∷ [] }
 
 envelope_media_again : media_type_of envelope_media ≡ Some envelope_type
-unfolding envelope_media media_type_of run_at behind parameters_within parameter_at value_at
+unfolding envelope_media media_type_of run_at strip_prefix parameters_within parameter_at value_at
 envelope_media_again = refl
 
--- what is read of a media text decides how the body is read
+-- the media type that is read decides how the body is read
 by_type : (media body : List ℕ) (m : MediaType) → media_type_of media ≡ Some m → package_of media body ≡ typed body m
 unfolding package_of
 by_type media body m e = rw (e, package_of) refl
@@ -44,7 +44,7 @@ body_is n root payloads = regroup (part_text n (root_id n) envelope_media root +
     regroup : (parts d e : List ℕ) → parts ++ d ++ e ++ crlf ≡ parts ++ (d ++ (e ++ crlf))
     regroup parts d e = simp append_assoc
 
--- a root that is an envelope, where nothing is encoded
+-- the root is an envelope
 is_envelope_root : (part : PartValue) → part.media ≡ envelope_media → is_root part ≡ true
 unfolding is_envelope
 is_envelope_root part e = rw (e, envelope_media_again, is_root) refl
@@ -53,7 +53,7 @@ rooted : (parts others : List PartValue) (part : PartValue) → is_root part ≡
     → with_root parts (Some (part, others)) ≡ Ok (record { root = part.content; parts = others })
 rooted parts others part is none = rw (is, none) refl
 
--- the body's parts by its boundary and its start
+-- the package, from the body's parts
 by_parts : (n : ℕ) (bytes : List ℕ) (parts : List PartValue) → parts_of (boundary n) bytes ≡ Ok parts
     → typed bytes (package_type n) ≡ with_root parts (root_of (Some (bracketed (root_id n))) parts)
 unfolding is_envelope related boundary_of parameter

@@ -1,4 +1,4 @@
--- What is written of a part is read as that part.
+-- A written part is read back.
 use Rattle.std.proofs.Common.{◌≡◌, ℕ, ◌<◌, ◌≤◌, ◌==◌, true, false, List, [], ◌∷◌, ◌++◌, length, Some, refl, sym, ap, ◌∙◌, arith, append_assoc, length-append}
 use Rattle.std.specs.Prelude.{IsTrue, All, codes}
 use Rattle.std.specs.List.{list_all, flat_map}
@@ -19,16 +19,16 @@ use Rattle.package_laws.specs.Written.{payload_part}
 abbrev field : List ℕ → List ℕ → WrittenField
 field name value = record { name = name; line = 32 ∷ value; folded = [] }
 
--- the field of a media text, where there is one
+-- the field of a media text, if there is one
 abbrev media_fields : List ℕ → List WrittenField
 media_fields [] = []
 media_fields (b ∷ media) = field (codes "Content-Type") (b ∷ media) ∷ []
 
--- the field that says that the content stands as it is
+-- the field that says that the content is unencoded
 abbrev encoding_field : WrittenField
 encoding_field = field (codes "Content-Transfer-Encoding") (codes "binary")
 
--- a part by its fields
+-- a part, from its fields
 abbrev written : List ℕ → List ℕ → List ℕ → WrittenPart
 written id media content = record {
   fields = field (codes "Content-ID") (bracketed id) ∷ (media_fields media ++ encoding_field ∷ []);
@@ -37,7 +37,7 @@ written id media content = record {
 
 -- ---- its lines
 
--- lines, each with the CRLF that ends it, and what stands behind them
+-- lines, each followed by its CRLF, and then the rest
 abbrev pub lines_text : List (List ℕ) → List ℕ → List ℕ
 lines_text [] rest = rest
 lines_text (line ∷ lines) rest = line ++ (crlf ++ lines_text lines rest)
@@ -68,7 +68,7 @@ head_is id (b ∷ media) content =
         → a ++ id ++ c ++ crlf ++ (t ++ media ++ crlf) ++ e ++ crlf ++ crlf ++ content ≡ (a ++ (id ++ c)) ++ (crlf ++ ((t ++ media) ++ (crlf ++ (e ++ (crlf ++ (crlf ++ content))))))
     typed a id c t media e = simp append_assoc
 
--- a field in front of others
+-- a field before others
 field_is : (name value : List ℕ) (others : List WrittenField) (rest : List ℕ)
     → flat_map field_text (field name value ∷ others) ++ rest ≡ (name ++ (58 ∷ 32 ∷ value)) ++ (crlf ++ (flat_map field_text others ++ rest))
 field_is name value others rest =
@@ -77,7 +77,7 @@ field_is name value others rest =
     grouped : (name line rest : List ℕ) → (name ++ (line ++ crlf)) ++ rest ≡ (name ++ line) ++ (crlf ++ rest)
     grouped name line rest = simp append_assoc
 
--- behind a line
+-- after a line
 behind : (line : List ℕ) {rest other : List ℕ} → rest ≡ other → line ++ (crlf ++ rest) ≡ line ++ (crlf ++ other)
 behind line e = ap (λ (r : List ℕ). line ++ (crlf ++ r)) e
 
@@ -94,7 +94,7 @@ written_is id media content =
     field_is (codes "Content-ID") (bracketed id) (media_fields media ++ encoding_field ∷ []) (crlf ++ content)
     ∙ behind (codes "Content-ID: " ++ bracketed id) (media_is media content)
 
--- ---- its fields may stand so
+-- ---- its fields are valid
 
 is_field : (name value : List ℕ) → 0 < length name → IsTrue (list_all is_name_byte name) → InLine value → IsField (field name value)
 is_field name value some named is = record { some = some; name = named; line = is; folded = All-nil _ }
@@ -124,7 +124,7 @@ is_part id media content named typed =
       few = omega (arith, few_media media, length-append (media_fields media) (encoding_field ∷ []));
     }
 
--- ---- and are read so
+-- ---- and are read back
 
 binary_is_trimmed : trimmed ((32 ∷ codes "binary") ++ []) ≡ codes "binary"
 binary_is_trimmed = bare_is_trimmed (codes "binary") (record { first = refl; last = refl })

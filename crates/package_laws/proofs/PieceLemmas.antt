@@ -1,4 +1,4 @@
--- What is written of a part holds no delimiter, where its content doesn't hold the boundary.
+-- A written part contains no delimiter if its content doesn't contain the boundary.
 use Rattle.std.proofs.Common.{◌≡◌, ℕ, ◌==◌, List, [], ◌∷◌, ◌++◌, refl, sym, ap, subst, ◌∙◌, arith, inr, append_assoc}
 use Rattle.std.specs.Prelude.{codes}
 use Rattle.std.specs.List.{AllByRecursion}
@@ -24,7 +24,7 @@ dash_is n = refl
 boundary_in_line : (n : ℕ) → InLine (codes "--" ++ boundary n)
 boundary_in_line n = digits_pass is_line_byte refl 16 n
 
--- a line that begins with no hyphen
+-- a line that doesn't begin with a hyphen
 abbrev IsHeadLine : List ℕ → Type 0
 IsHeadLine line = InLine line × Stops (λ b. b == 45) line
 
@@ -38,7 +38,7 @@ past_lines word (line ∷ lines) rest are has =
     past_lines word lines rest are.1
     (past_line (45 ∷ word) line (lines_text lines rest) are.0.0 (λ back e. no_hyphen word line (lines_text lines rest) back are.0.1 e) has)
 
--- the lines of a head begin so
+-- the lines of a head don't
 last_begin : AllByRecursion IsHeadLine last_lines
 last_begin = ((refl, refl), ((refl, tt), tt))
 
@@ -46,7 +46,7 @@ lines_begin : (media : List ℕ) → InLine media → AllByRecursion IsHeadLine 
 lines_begin [] is = last_begin
 lines_begin (b ∷ media) is = ((is, refl), last_begin)
 
--- the part of a payload behind a delimiter, up to the next one's CRLF
+-- the part of a payload after a delimiter, up to the next one's CRLF
 abbrev pub piece : Payload → List ℕ
 piece p = crlf ++ (part_head p.cid p.media ++ p.content)
 

@@ -1,4 +1,4 @@
--- The root is the first part, and the only one of its Content-ID.
+-- The root is the first part, and the only part with its Content-ID.
 use Rattle.std.proofs.Common.{◌≡◌, ◌≢◌, ℕ, ◌+◌, true, false, List, [], ◌∷◌, ◌++◌, length, map, Some, None, refl, arith, length-append}
 use Rattle.std.specs.Prelude.{IsTrue, bytes_eq, codes}
 use Rattle.std.specs.List.{list_any, AllByRecursion}
@@ -36,7 +36,7 @@ root_typed = refl
 abbrev pub root_payload : ℕ → List ℕ → Payload
 root_payload n root = record { cid = root_id n; media = envelope_media; content = root; named = root_named n; typed = root_typed }
 
--- no payload is named as this
+-- no payload has this Content-ID
 none_named : (id : List ℕ) (parts : List Payload) → AllByRecursion (λ p. p.cid ≢ id) parts → list_any (has_id id) (map payload_part parts) ≡ false
 none_named id [] apart = refl
 none_named id (p ∷ parts) apart =

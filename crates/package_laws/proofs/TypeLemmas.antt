@@ -1,4 +1,4 @@
--- The media text of a package is read as it is meant: its boundary, and the Content-ID of its root.
+-- The media text of a package is read as intended: its boundary, and the Content-ID of its root.
 use Rattle.std.proofs.Common.{◌≡◌, ℕ, ◌-◌, Bool, true, false, not, List, [], ◌∷◌, ◌++◌, length, map, take, Some, refl, sym, ap, ◌∙◌, arith, inr, append_assoc, length-append, nat_eq}
 use Rattle.std.specs.Prelude.{IsTrue, All, ◌&&◌, ◌==◌, codes}
 use Rattle.std.specs.List.{list_all, flat_map, ends_with}
@@ -17,7 +17,7 @@ use Rattle.package_laws.proofs.DigitLemmas.{HasDigits, digits_pass, length-hex_d
 use Rattle.package_laws.proofs.PieceLemmas.{boundary}
 use Rattle.package_laws.proofs.ValueLemmas.{bracketed}
 
--- the bytes of a root's Content-ID are of each class that has these
+-- the bytes of a root's Content-ID belong to each class that contains them
 pub root_passes : (class : ℕ → Bool) → HasDigits class → IsTrue (list_all class (codes "root-")) → IsTrue (list_all class (codes "@as4")) → (n : ℕ) → list_all class (root_id n) ≡ true
 unfolding root_id
 root_passes class digits front back n =
@@ -75,7 +75,7 @@ written n = record {
   after = [];
 }
 
--- what it means
+-- its meaning
 abbrev pub package_type : ℕ → MediaType
 package_type n = record {
   kind = codes "multipart";

@@ -1,4 +1,4 @@
--- Values of fields: they stand on one line, and are trimmed to themselves.
+-- Values of fields: they are on one line, and trimming leaves them unchanged.
 use Rattle.std.proofs.Common.{◌≡◌, ℕ, ◌+◌, ◌-◌, ◌<◌, ◌≤◌, Bool, true, false, not, List, [], ◌∷◌, ◌++◌, length, get_or, Some, refl, arith, append-nil, length-append, nat_eq, ltb, leb}
 use Rattle.std.specs.Prelude.{IsTrue, ◌&&◌, ◌||◌, ◌==◌, codes, reverse}
 use Rattle.std.specs.List.{list_all, ends_with}
@@ -8,14 +8,15 @@ use Rattle.std.proofs.lemmas.List.{reverse-append, reverse-reverse, get_or-rever
 use Rattle.std.proofs.lemmas.List.Elements.{All-weaker, All-from_all_within}
 use Rattle.std.proofs.lemmas.List.Sums.{AllPass-from_list_all, list_all-from_AllPass}
 use Rattle.std.proofs.lemmas.Slice.Eq.{ends_is}
-use Rattle.as4_values.specs.Payload.{IsContentId, is_space, is_media_text}
+use Rattle.as4_values.specs.Payload.{IsContentId, is_media_text}
+use Rattle.byte_forms.specs.Classes.{is_space}
 use Rattle.as4_values.specs.Word.{allows}
 use Rattle.as4_values.specs.declared.word.Word.TheVariants.{Identifier}
 use Rattle.byte_forms.proofs.CutLemmas.{Stops, skip_again}
 use Rattle.mime_fields.specs.Fields.{is_line_byte, trimmed, without_brackets, is_word, content_id, media_of}
 use Rattle.package_laws.proofs.LineLemmas.{InLine}
 
--- what passes one test passes a weaker one
+-- bytes that pass a test pass a weaker one
 passes_too : (class other : ℕ → Bool) → ((b : ℕ) → class b ≡ true → other b ≡ true) → (bytes : List ℕ) → list_all class bytes ≡ true → list_all other bytes ≡ true
 passes_too class other weaker bytes pass =
     list_all-from_AllPass other bytes (All-weaker (λ b. class b ≡ true) (λ b. other b ≡ true) weaker bytes (AllPass-from_list_all class bytes pass))
@@ -27,7 +28,7 @@ pub record IsBare (bytes : List ℕ) : Type 0 where
   pub first : Stops is_space bytes
   pub last : Stops is_space (reverse bytes)
 
--- a value behind a space is trimmed to itself
+-- trimming a value after a space leaves the value
 pub bare_is_trimmed : (bytes : List ℕ) → IsBare bytes → trimmed ((32 ∷ bytes) ++ []) ≡ bytes
 unfolding trimmed
 bare_is_trimmed bytes bare =
@@ -42,7 +43,7 @@ stops_at (b ∷ bytes) other = other (omega arith)
 abbrev pub bracketed : List ℕ → List ℕ
 bracketed id = 60 ∷ (id ++ 62 ∷ [])
 
--- the value of its field: in angle brackets, which are taken off
+-- the value of its field: in angle brackets, which the reader removes
 pub bracketed_is_bare : (id : List ℕ) → IsBare (bracketed id)
 bracketed_is_bare id = record { first = refl; last = rw (reverse-append (60 ∷ id) (62 ∷ [])) refl }
 
@@ -70,7 +71,7 @@ id_in_line id is = passes_too (allows Identifier) is_line_byte allowed_in_line i
 
 -- ---- a media text
 
--- what is known of one
+-- facts about a media text
 pub record MediaFacts (media : List ℕ) : Type 0 where
   pub short : length media ≤ 1024
   pub one_line : InLine media
@@ -80,7 +81,7 @@ pub record MediaFacts (media : List ℕ) : Type 0 where
 other_byte : (b : ℕ) → not ((b == 10) || (b == 13)) ≡ true → is_line_byte b ≡ true
 other_byte b is = grind (arith, nat_tests)
 
--- and the ends of one that isn't empty
+-- the ends of a nonempty text
 ends_bare : (text : List ℕ) → not (ltb 0 (length text) && (is_space (get_or text 0 0) || is_space (get_or text (length text - 1) 0))) ≡ true → 0 < length text
     → (is_space (get_or text 0 0) ≡ false) × (is_space (get_or text (length text - 1) 0) ≡ false)
 ends_bare text is some =

@@ -1,1 +1,2 @@
+-- The part of a payload.
 pub mod Written

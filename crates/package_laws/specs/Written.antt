@@ -1,4 +1,4 @@
--- The part that a payload is written as.
+-- The part as which a payload is written.
 use Rattle.std.specs.Prelude.{true, Some}
 use Rattle.as4_values.specs.declared.payload.Payload.{Payload}
 use Rattle.mime_fields.specs.Fields.{PartValue}

@@ -1,4 +1,4 @@
-//! What is written of an envelope and its payloads is read as them.
+//! A written envelope and its payloads are read back.
 #![tactic(auto)]
 
 mod laws;

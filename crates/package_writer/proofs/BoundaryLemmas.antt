@@ -1,4 +1,4 @@
--- Which numbers stand in bytes: those of the boundaries that occur there.
+-- The numbers in bytes are those of the boundaries that occur there.
 use Rattle.std.proofs.Common.{◌≡◌, ℕ, zero, suc, ◌+◌, ◌-◌, ◌^◌, ◌<◌, ◌≤◌, Bool, true, false, nat_eq, List, [], ◌∷◌, ◌++◌, Option, Some, None, length, drop, arith, refl, ap, sym, ◌∙◌, inl, inr, append_assoc, ◌⊎◌}
 use Rattle.std.specs.Prelude.{◌≢◌, All, codes, option_map, slice_index, cond, bytes_eq}
 use Rattle.std.specs.Option.{option_to_list}
@@ -14,25 +14,25 @@ use Rattle.std.proofs.lemmas.Slice.Eq.{bytes_eq-Decides, starts_is}
 use Rattle.memchr.specs.Find.{OccursAt, FindsNeedle}
 use Rattle.as4_values.specs.declared.payload.Payload.{Payload}
 use Rattle.message_model.specs.Package.{hex_digits, dash_boundary, root_id, Occurs, IsFree, IsBoundary}
-use Rattle.byte_forms.specs.Cuts.{◌>>=◌, behind}
-use Rattle.byte_forms.proofs.CutLemmas.{cases_option, bind_some, behind_takes, behind_again}
+use Rattle.byte_forms.specs.Cuts.{◌>>=◌, strip_prefix}
+use Rattle.byte_forms.proofs.CutLemmas.{cases_option, bind_some, strip_prefix_takes, strip_prefix_again}
 use Rattle.package_writer.specs.Numbers.{number_from, number_at, numbers_in, root_number, payload_numbers, taken, IsLeastWithout}
 use Rattle.package_writer.proofs.NumberLemmas.{number_found, number_again}
 
--- a boundary at the front
+-- a boundary at the start
 at_found : (bytes : List ℕ) (n : ℕ) (rest : List ℕ) → number_at bytes ≡ Some (n, rest) → (bytes ≡ dash_boundary n ++ rest) × (n < 2 ^ 64)
 unfolding number_at dash_boundary
 at_found bytes n rest e =
-    bind_some (behind (codes "--as4-") bytes) (number_from 0 16) (n, rest) e λ more is digits.
+    bind_some (strip_prefix (codes "--as4-") bytes) (number_from 0 16) (n, rest) e λ more is digits.
     let found = number_found 0 16 more n rest digits in (
-      behind_takes (codes "--as4-") bytes more is ∙ (ap (λ (xs : List ℕ). codes "--as4-" ++ xs) found.0 ∙ sym (append_assoc (codes "--as4-") (hex_digits 16 n) rest)),
+      strip_prefix_takes (codes "--as4-") bytes more is ∙ (ap (λ (xs : List ℕ). codes "--as4-" ++ xs) found.0 ∙ sym (append_assoc (codes "--as4-") (hex_digits 16 n) rest)),
       omega (arith, found.1),
     )
 
 at_again : (n : ℕ) (rest : List ℕ) → n < 2 ^ 64 → number_at (dash_boundary n ++ rest) ≡ Some (n, rest)
 unfolding number_at dash_boundary
 at_again n rest small =
-    rw (append_assoc (codes "--as4-") (hex_digits 16 n) rest, behind_again (codes "--as4-") (hex_digits 16 n ++ rest)) (number_again 0 16 n rest (omega (arith, small)))
+    rw (append_assoc (codes "--as4-") (hex_digits 16 n) rest, strip_prefix_again (codes "--as4-") (hex_digits 16 n ++ rest)) (number_again 0 16 n rest (omega (arith, small)))
 
 -- the first number
 pub first_number : (bytes : List ℕ) → 0 < length bytes → numbers_in bytes ≡ option_to_list (option_map (λ found. found.0) (number_at bytes)) ++ numbers_in (drop 1 bytes)
@@ -49,7 +49,7 @@ dash_some : (n : ℕ) (back : List ℕ) → 0 < length (dash_boundary n ++ back)
 unfolding dash_boundary
 dash_some n back = omega arith
 
--- what is counted occurs
+-- a number that is counted has a boundary that occurs
 pub number_occurs : (bytes : List ℕ) (n : ℕ) → Contains (numbers_in bytes) n → Occurs (dash_boundary n) bytes × (n < 2 ^ 64)
 unfolding numbers_in
 number_occurs [] n among = absurd (omega (arith, among.1))
@@ -67,7 +67,7 @@ number_occurs (b ∷ bytes) n among =
           ((b ∷ more.0.0, more.0.1, ap (λ (xs : List ℕ). b ∷ xs) more.0.2), more.1)
     ]
 
--- what occurs is counted
+-- a boundary that occurs is counted
 occurs_number : (front back : List ℕ) (n : ℕ) → n < 2 ^ 64 → Contains (numbers_in (front ++ (dash_boundary n ++ back))) n
 unfolding numbers_in
 occurs_number [] back n small =
@@ -83,20 +83,20 @@ counted bytes n small occurs =
 root_found : (cid : List ℕ) (n : ℕ) → root_number cid ≡ Some n → cid ≡ root_id n
 unfolding root_number root_id
 root_found cid n e =
-    bind_some (behind (codes "root-") cid) (λ rest. number_from 0 16 rest >>= λ found. cond (bytes_eq found.1 (codes "@as4")) (Some found.0) None) n e λ rest is more.
+    bind_some (strip_prefix (codes "root-") cid) (λ rest. number_from 0 16 rest >>= λ found. cond (bytes_eq found.1 (codes "@as4")) (Some found.0) None) n e λ rest is more.
     bind_some (number_from 0 16 rest) (λ found. cond (bytes_eq found.1 (codes "@as4")) (Some found.0) None) n more λ found digits last.
     let end = cond_some (bytes_eq found.1 (codes "@as4")) found.0 n last in
     let number = number_found 0 16 rest found.0 found.1 digits in
     let end_is : found.1 ≡ codes "@as4" = (bytes_eq-Decides found.1 (codes "@as4")).0 end.0 in
-    behind_takes (codes "root-") cid rest is
+    strip_prefix_takes (codes "root-") cid rest is
     ∙ (rw (number.0, end_is, end.1) (sym (append_assoc (codes "root-") (hex_digits 16 n) (codes "@as4"))))
 
 root_again : (n : ℕ) → n < 2 ^ 64 → root_number (root_id n) ≡ Some n
 unfolding root_number root_id
 root_again n small =
-    rw (append_assoc (codes "root-") (hex_digits 16 n) (codes "@as4"), behind_again (codes "root-") (hex_digits 16 n ++ codes "@as4"), number_again 0 16 n (codes "@as4") (omega (arith, small))) refl
+    rw (append_assoc (codes "root-") (hex_digits 16 n) (codes "@as4"), strip_prefix_again (codes "root-") (hex_digits 16 n ++ codes "@as4"), number_again 0 16 n (codes "@as4") (omega (arith, small))) refl
 
--- a number that a payload doesn't take, and one that it takes
+-- a number that a payload leaves free, and a number that it takes
 payload_free : (payload : Payload) (n : ℕ) → n < 2 ^ 64 → ¬ (Contains (payload_numbers payload) n) → (Occurs (dash_boundary n) payload.content → ⊥) × (payload.cid ≢ root_id n)
 unfolding payload_numbers
 payload_free payload n small none = (
@@ -116,7 +116,7 @@ payload_takes payload n among free named =
       ]
     ]
 
--- the same of all payloads
+-- the same for all payloads
 abbrev IsFreeIn : ℕ → Payload → Type 0
 IsFreeIn n payload = (Occurs (dash_boundary n) payload.content → ⊥) × (payload.cid ≢ root_id n)
 

@@ -1,4 +1,4 @@
--- The least number that isn't among numbers in order.
+-- The least number that isn't among sorted numbers.
 use Rattle.std.proofs.Common.{◌≡◌, ℕ, zero, suc, ◌+◌, ◌-◌, ◌<◌, ◌≤◌, List, Bool, false, length, get_or, arith, refl, sym, ap, ◌∙◌, inl, inr}
 use Rattle.std.specs.List.{Contains}
 use Rattle.std.specs.List.Sorted.{IsSorted}
@@ -8,7 +8,7 @@ use Rattle.std.proofs.lemmas.Grind.{common_steps}
 use Rattle.std.proofs.lemmas.List.{get_or_default}
 use Rattle.package_writer.specs.Numbers.{IsLeastWithout}
 
--- the first `i` are below the least, and all that is below it is among them
+-- the first `i` numbers are below `least`, and all numbers below `least` are among them
 pub record SoFar (numbers : List ℕ) (i least : ℕ) : Type 0 where
   pub few : least ≤ i
   pub below : (k d : ℕ) → k < i → get_or numbers k d < least
@@ -49,7 +49,7 @@ ends numbers least so = record {
 not_less : (x y : ℕ) → is_lt (nat_cmp x y) ≡ false → y ≤ x
 not_less x y e = grind (arith, common_steps)
 
--- numbers in order rise
+-- sorted numbers ascend
 ascends : (numbers : List ℕ) (k more d : ℕ) → IsSorted nat_cmp numbers → k + more < length numbers → get_or numbers k d ≤ get_or numbers (k + more) d
 ascends numbers k zero d sorted within = let place : k + 0 ≡ k = omega arith in rw place (omega arith)
 ascends numbers k (suc more) d sorted within =

@@ -9,7 +9,7 @@ use Rattle.byte_forms.specs.Cuts.{◌>>=◌}
 use Rattle.byte_forms.proofs.CutLemmas.{bind_some}
 use Rattle.package_writer.specs.Numbers.{number_from}
 
--- what a digit counts
+-- the value of a digit
 valued : (b d : ℕ) → digit_value b ≡ Some d → (b ≡ hex_digit d) × (d < 16)
 valued b d is = grind (arith, common_steps)
 
@@ -23,14 +23,14 @@ some_pair {A} {B} a x b y e = (ap (λ (o : Option (A × B)). (unwrap_or o (a, b)
 shifted : (n places : ℕ) → n / 16 / 16 ^ places ≡ n / 16 ^ suc places
 shifted n places = div-div-eq-div-mul n 16 (16 ^ places) ∙ ap (λ (k : ℕ). n / k) (omega (arith, pow-suc 16 places))
 
--- the first digit of so many
+-- the first of n digits
 pub first_digit : (places n : ℕ) → hex_digits (suc places) n ≡ hex_digit (n / 16 ^ places % 16) ∷ hex_digits places n
 unfolding hex_digits
 first_digit zero n = rw (div-one n) refl
 first_digit (suc places) n =
     ap (λ (xs : List ℕ). xs ++ hex_digit (n % 16) ∷ []) (first_digit places (n / 16)) ∙ ap (λ (k : ℕ). hex_digit (k % 16) ∷ (hex_digits places (n / 16) ++ hex_digit (n % 16) ∷ [])) (shifted n places)
 
--- what is read stands there, and its first digits are those that came before
+-- the number that is read is written there, and its leading digits are those read before
 pub number_found : (n places : ℕ) (bytes : List ℕ) (m : ℕ) (rest : List ℕ) → number_from n places bytes ≡ Some (m, rest) → (bytes ≡ hex_digits places m ++ rest) × (m / 16 ^ places ≡ n)
 unfolding number_from hex_digits
 number_found n zero bytes m rest e =
@@ -47,7 +47,7 @@ number_found n (suc places) (b ∷ bytes) m rest e =
       sym (div-div-eq-div-mul m (16 ^ places) 16 ∙ ap (λ (k : ℕ). m / k) (sym (pow-suc 16 places))) ∙ (rw behind.1 before),
     )
 
--- and the other way round
+-- and conversely
 pub number_again : (n places m : ℕ) (rest : List ℕ) → m / 16 ^ places ≡ n → number_from n places (hex_digits places m ++ rest) ≡ Some (m, rest)
 unfolding number_from hex_digits
 number_again n zero m rest is = rw (sym is ∙ div-one m) refl
@@ -65,7 +65,7 @@ pow_some (suc places) = omega (arith, pow-suc 16 places, pow_some places)
 regrouped : (a b : ℕ) → a * 16 * b ≡ a * (b * 16)
 regrouped a b = mul_assoc a 16 b ∙ ap (λ (k : ℕ). a * k) (mul_comm 16 b)
 
--- a number with one digit more has room
+-- a number with one more digit fits into 64 bits
 pub has_room : (n places digit : ℕ) → 0 < places → (n + 1) * 16 ^ places ≤ 2 ^ 64 → digit < 16 → (n * 16 + 16 ≤ 2 ^ 64) × ((n * 16 + digit + 1) * 16 ^ (places - 1) ≤ 2 ^ 64)
 has_room n zero digit some room small = absurd (omega (arith, some))
 has_room n (suc places) digit some room small =

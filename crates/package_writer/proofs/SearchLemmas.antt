@@ -1,4 +1,4 @@
--- Where no boundary begins, no number stands.
+-- Bytes that begin with no boundary contribute no number.
 use Rattle.std.proofs.Common.{◌≡◌, ℕ, zero, suc, ◌+◌, ◌-◌, ◌<◌, ◌≤◌, Bool, true, false, nat_eq, List, [], ◌∷◌, ◌++◌, Option, Some, None, length, drop, arith, refl, ap, sym, ◌∙◌, inl, inr, length-append, length-drop}
 use Rattle.std.specs.Prelude.{codes, option_map, slice_index}
 use Rattle.std.specs.Option.{option_to_list}
@@ -8,14 +8,14 @@ use Rattle.std.proofs.lemmas.Bool.Decides.{Decides-eqb}
 use Rattle.std.proofs.lemmas.List.{get_or_append_left}
 use Rattle.std.proofs.lemmas.Slice.Eq.{starts_is}
 use Rattle.memchr.specs.Find.{OccursAt, FindsNeedle}
-use Rattle.byte_forms.specs.Cuts.{◌>>=◌, behind}
+use Rattle.byte_forms.specs.Cuts.{◌>>=◌, strip_prefix}
 use Rattle.package_writer.specs.Numbers.{number_from, number_at, numbers_in}
 use Rattle.package_writer.proofs.BoundaryLemmas.{first_number}
 
 abbrev dashes : List ℕ
 dashes = codes "--as4-"
 
--- bytes that begin otherwise
+-- bytes that begin with the dashes, as an occurrence
 starts_there : (bytes : List ℕ) → starts_with nat_eq bytes dashes ≡ true → OccursAt bytes dashes 0
 starts_there bytes starts =
     let front = (starts_is Decides-eqb bytes dashes (starts_with nat_eq bytes dashes) refl).0 starts in
@@ -25,7 +25,7 @@ starts_there bytes starts =
     }
 
 begins_none : (bytes : List ℕ) → ¬ (OccursAt bytes dashes 0) → number_at bytes ≡ None
-unfolding number_at behind
+unfolding number_at strip_prefix
 begins_none bytes none = elim (cases_Bool (starts_with nat_eq bytes dashes)) [
   | inl starts ↦ absurd (none (starts_there bytes starts))
   | inr other ↦ rw other refl
@@ -65,7 +65,7 @@ none_before (x ∷ xs) (suc at) finds =
       shifted x xs at finds.1,
     ))
 
--- the number that stands at the first place, where one does, and those behind
+-- the number at the first occurrence, if there is one, and the later ones
 pub numbers_from : (bytes : List ℕ) (at : ℕ) → FindsNeedle bytes dashes 0 (Some at)
     → numbers_in bytes ≡ option_to_list (option_map (λ found. found.0) (number_at (drop at bytes))) ++ numbers_in (drop 1 (drop at bytes))
 numbers_from bytes at finds =

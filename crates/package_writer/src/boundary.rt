@@ -1,27 +1,26 @@
-//! The boundary of a package: the least number that stands in no part of it.
+//! The boundary of a package: the least number whose boundary occurs in no part of it.
 
 ghost use Rattle.std.specs.Prelude.{◌≡◌, ◌+◌, ◌*◌, ◌^◌, ◌≤◌, ◌<◌, ◌++◌, IfOk, IfSome, OnOk, length};
 ghost use Rattle.std.specs.Option.{option_map, option_to_list};
 ghost use Rattle.std.specs.List.{flat_map};
 ghost use Rattle.std.specs.List.Sorted.{IsSorted};
 ghost use Rattle.std.specs.Ordering.{nat_cmp};
-ghost use Rattle.byte_forms.specs.Digits.{digit_value};
 ghost use Rattle.message_model.specs.Package.{IsBoundary};
 ghost use Rattle.package_writer.specs.Numbers.{number_from, number_at, numbers_in, root_number, payload_numbers, taken, IsLeastWithout};
 
 use as4_values::{NoMemory, Payload, Seq};
-use byte_forms::behind;
+use byte_forms::{digit_value, strip_prefix};
 use memchr::memmem::Finder;
 use std::alloc::Global;
 
-/// What stands before the digits of a boundary's number in a delimiter.
+/// The bytes before the digits of a boundary's number in a delimiter.
 const DASHES: &[u8] = b"--as4-";
 
-/// How many digits the number has.
+/// The number of digits.
 const DIGITS: u32 = 16;
 
-/// The least number whose boundary stands neither in the root nor in the content of a payload, and names no payload
-/// (RFC 2046, section 5.1.1).
+/// The least number whose boundary occurs neither in the root nor in a payload's content, and whose root has no
+/// payload's Content-ID (RFC 2046, section 5.1.1).
 pub fn free_boundary(alloc: Global, root: &[u8], payloads: &Seq<Payload>) -> Result<u64, NoMemory>
     ensures { IfOk result (λ number. IsBoundary number root.now payloads.now) }
 {
@@ -30,7 +29,7 @@ pub fn free_boundary(alloc: Global, root: &[u8], payloads: &Seq<Payload>) -> Res
     Ok(least_without(numbers.as_slice()))
 }
 
-/// The numbers that are taken.
+/// The excluded numbers.
 #[tactic(auto, unfolding(crate::specs::Numbers::taken))]
 fn taken(alloc: Global, root: &[u8], payloads: &[Payload]) -> Result<Vec<u64>, NoMemory>
     ensures { IfOk result (λ numbers. numbers.items ≡ taken root.now payloads.now) }
@@ -54,7 +53,7 @@ fn push_payload_numbers(numbers: &mut Vec<u64>, payload: &Payload) -> Result<(),
     Ok(())
 }
 
-/// The numbers of the boundaries that stand in the bytes.
+/// Adds the numbers of the boundaries that occur in the bytes.
 fn push_numbers(numbers: &mut Vec<u64>, bytes: &[u8]) -> Result<(), NoMemory>
     ensures { OnOk result (numbers.new.items ≡ numbers.old.items ++ numbers_in bytes.now) }
 {
@@ -63,13 +62,13 @@ fn push_numbers(numbers: &mut Vec<u64>, bytes: &[u8]) -> Result<(), NoMemory>
     while let Some(at) = finder.find(rest) {
         let (_, here) = rest.split_at(at);
         push_number(numbers, here)?;
-        let (_, behind) = here.split_at(1);
-        rest = behind;
+        let (_, after) = here.split_at(1);
+        rest = after;
     }
     Ok(())
 }
 
-/// The number of the boundary that stands at the front, where one does.
+/// Adds the number of the boundary with which the bytes begin, if they do.
 fn push_number(numbers: &mut Vec<u64>, bytes: &[u8]) -> Result<(), NoMemory>
     ensures { OnOk result (numbers.new.items ≡ numbers.old.items ++ option_to_list (option_map (λ found. found.0) (number_at bytes.now))) }
 {
@@ -79,12 +78,12 @@ fn push_number(numbers: &mut Vec<u64>, bytes: &[u8]) -> Result<(), NoMemory>
     Ok(())
 }
 
-/// The number of the root that a Content-ID names.
+/// The number of the root whose Content-ID this is.
 #[tactic(auto, unfolding(crate::specs::Numbers::root_number))]
 fn root_number(cid: &[u8]) -> Option<u64>
     ensures { result ≡ root_number cid.now }
 {
-    let rest = behind(b"root-", cid)?;
+    let rest = strip_prefix(b"root-", cid)?;
     let (number, rest) = number_from(0, DIGITS, rest)?;
     if rest == b"@as4".as_slice() {
         Some(number)
@@ -93,16 +92,16 @@ fn root_number(cid: &[u8]) -> Option<u64>
     }
 }
 
-/// The number of a boundary, and what stands behind it.
+/// The number of a boundary, and the rest.
 #[tactic(auto, unfolding(crate::specs::Numbers::number_at))]
 fn number_at(bytes: &[u8]) -> Option<(u64, &[u8])>
     ensures { option_map (λ found. (found.0, found.1.now)) result ≡ number_at bytes.now }
 {
-    let rest = behind(DASHES, bytes)?;
+    let rest = strip_prefix(DASHES, bytes)?;
     number_from(0, DIGITS, rest)
 }
 
-/// A number of which these are the digits so far, with so many more, and what stands behind it.
+/// A number with these digits so far and `places` more to read, and the rest.
 #[tactic(auto, unfolding(crate::specs::Numbers::number_from))]
 fn number_from(number: u64, places: u32, bytes: &[u8]) -> Option<(u64, &[u8])>
     requires { (number + 1) * 16 ^ places ≤ 2 ^ 64 }
@@ -118,18 +117,7 @@ fn number_from(number: u64, places: u32, bytes: &[u8]) -> Option<(u64, &[u8])>
     number_from(number * 16 + u64::from(digit), places - 1, rest)
 }
 
-fn digit_value(byte: u8) -> Option<u8>
-    ensures value { result ≡ digit_value byte }
-    ensures small { IfSome result (λ digit. digit < 16) }
-{
-    match byte {
-        b'0'..=b'9' => Some(byte - b'0'),
-        b'a'..=b'f' => Some(byte - 87),
-        _ => None,
-    }
-}
-
-/// The least number that isn't among these, which are in order.
+/// The least number other than these, which are sorted.
 fn least_without(numbers: &[u64]) -> u64
     requires { IsSorted nat_cmp numbers.now }
     ensures { IsLeastWithout result numbers.now }

@@ -2,7 +2,7 @@
 //!
 //!     --as4-N                                for the root and for each payload
 //!     Content-ID: <ID>
-//!     Content-Type: MEDIA                    left out where MEDIA is empty
+//!     Content-Type: MEDIA                    omitted if MEDIA is empty
 //!     Content-Transfer-Encoding: binary
 //!
 //!     CONTENT
@@ -12,12 +12,12 @@
 
 ghost use Rattle.std.specs.Prelude.{◌≡◌, ◌+◌, ◌*◌, ◌<◌, ◌++◌, ℕ, OnOk, IfOk, length, min};
 ghost use Rattle.std.specs.List.{flat_map, sum_by};
-ghost use Rattle.byte_forms.specs.Digits.{hex_digit};
 ghost use Rattle.message_model.specs.Package.{crlf, hex_digits, dash_boundary, root_id, envelope_media, package_media, media_field, part_head, part_text, payload_text, package_body, IsBoundary};
 ghost use Rattle.package_writer.specs.Room.{part_room};
 
 use crate::boundary::free_boundary;
 use as4_values::{NoMemory, Octets, Payload, Seq};
+use byte_forms::hex_digit;
 use std::alloc::Global;
 
 /// A message as it is sent: a media text and a body.
@@ -30,22 +30,11 @@ pub struct Wire {
 /// The media text of an envelope.
 pub const ENVELOPE_MEDIA: &[u8] = b"application/soap+xml; charset=UTF-8";
 
-/// The digits of a boundary's number.
+/// The number of digits of a boundary's number.
 const DIGITS: u32 = 16;
 
-/// More than a part takes beside its identifier, media text and content.
+/// Room for a part besides its identifier, media text and content.
 const PART_ROOM: usize = 256;
-
-fn hex_digit(nibble: u8) -> u8
-    requires { nibble < 16 }
-    ensures { result ≡ hex_digit nibble }
-{
-    if nibble < 10 {
-        b'0' + nibble
-    } else {
-        87 + nibble
-    }
-}
 
 #[tactic(auto, using(crate::proofs::HexLemmas::push_digit), unfolding(message_model::specs::Package::hex_digits))]
 fn push_hex(out: &mut Vec<u8>, places: u32, number: u64) -> Result<(), NoMemory>
@@ -167,7 +156,7 @@ fn push_payloads(out: &mut Vec<u8>, number: u64, payloads: &[Payload]) -> Result
     Ok(())
 }
 
-/// At least as many bytes as the body of the package has, so that no content is moved while it grows.
+/// Reserved for the body of the package, in bytes, so that no content is moved while it grows.
 fn room_for(root: &[u8], payloads: &[Payload]) -> usize
     ensures { result ≡ min (length root.now + 2 * PART_ROOM + sum_by part_room payloads.now) usize.MAX }
 {
@@ -202,7 +191,7 @@ fn body_of(
     Ok(Octets::of(out))
 }
 
-/// The canonical package of an envelope and its payloads, with the least boundary that is free.
+/// The canonical package of an envelope and its payloads, with the least free boundary.
 pub fn write_parts(alloc: Global, root: &[u8], payloads: &Seq<Payload>) -> Result<Wire, NoMemory>
     ensures { IfOk result (λ wire. (number : ℕ) × IsBoundary number root.now payloads.now
         × (wire.media ≡ package_media number) × (wire.body ≡ package_body number root.now payloads.now)) }

@@ -1,4 +1,4 @@
--- Names that are put in order differ where each differs from the next.
+-- Sorted names are distinct if each differs from the next.
 use Rattle.std.proofs.Common.{◌≡◌, ℕ, ◌+◌, ◌<◌, ◌≤◌, Bool, true, false, not, ◌&&◌, List, [], ◌∷◌, map, length, get_or, take, refl, sym, ap, ◌∙◌, arith, Ordering}
 use Rattle.std.proofs.lemmas.Bool.{and_parts, false_from_ne_true}
 use Rattle.std.proofs.lemmas.Cmp.{nat_list_cmp_total, on_total, then_total}
@@ -45,7 +45,7 @@ tied_alike a b =
     ∙ (ap (λ (x : Bool). x && is_eq (part_cmp a.1.now b.1.now)) (is_eq-slice_cmp a.0.now b.0.now)
     ∙ ap (λ (x : Bool). bytes_eq a.0.now b.0.now && x) (is_eq-slice_cmp a.1.now b.1.now))
 
--- what differs by recursion is distinct
+-- values that differ by recursion are distinct
 
 apart_all : {X : Type 0} (same : X → X → Bool) (x : X) (xs : List X) → list_any (same x) xs ≡ false → AllByRecursion (λ y. same x y ≡ false) xs
 apart_all same x [] none = tt
@@ -89,7 +89,7 @@ eq_flips a b = both_true (bytes_eq a b) (bytes_eq b a)
 flips : (a b : Parts) → alike a b ≡ alike b a
 flips a b = rw (eq_flips a.0.now b.0.now, eq_flips a.1.now b.1.now) refl
 
--- in order, and each differs from the next
+-- an order that is neither greater nor equal is less
 
 by_order : (one other : Ordering) → other ≡ ordering_reverse one → is_lt other ≡ false → is_eq one ≡ false → one ≡ Less
 by_order Less other back up apart = refl
@@ -162,7 +162,7 @@ pub names_told : (r : Bool) (names : List Parts) (attributes : List Attribute) (
 names_told r names attributes n all told so_far =
     told ∙ (ap (differ same_parts) so_far ∙ (ap (λ (l : List Attribute). differ same_parts (map name_parts l)) (take_all n attributes all) ∙ differ-names attributes))
 
--- of fewer than two there is nothing to compare
+-- fewer than two attributes need no comparison
 pub few_differ : (attributes : List Attribute) → length attributes < 2 → true ≡ names_differ attributes
 few_differ [] few = refl
 few_differ (a ∷ []) few = refl

@@ -9,7 +9,8 @@ use Rattle.std.proofs.lemmas.List.Sums.{AllPass-from_list_all}
 use Rattle.std.specs.Prelude.{codes, nat_le}
 use Rattle.std.specs.List.{flat_map, list_all, list_any, AllByRecursion}
 use Rattle.std.specs.Str.{bytes_eq}
-use Rattle.as4_values.specs.Texts.{is_blank, is_xml}
+use Rattle.as4_values.specs.Texts.{is_xml}
+use Rattle.byte_forms.specs.Classes.{is_blank}
 use Rattle.as4_envelope.specs.Markup.{escaped, tag_start, tag_end, attribute}
 use Rattle.as4_envelope.specs.Markup as markup
 use Rattle.as4_envelope.specs.Tree.{soap, ebms, name_of, attribute_text, declarations, element_text, child_text, tree_text}
@@ -90,7 +91,7 @@ text_roll x declared =
     element_text_out (roll-Element x) declared
     ∙ ap (λ (y : Element-F Element). start_of y declared ++ (escaped y.text ++ flat_map child_text y.children) ++ end_of y) (out-roll-Element x)
 
--- what the caller shows of an element, one level of it
+-- the facts about one level of an element that the caller provides
 pub record IsLevel (x : Element-F Element) (n : ℕ) : Type 0 where
   pub some : 0 < n
   pub placed : has_prefix x.space ≡ true
@@ -128,7 +129,7 @@ level_of x n fit names =
       children_named = h.1;
     }
 
--- what is asked of children: their items are cut from their text, and read as them
+-- what children must satisfy: their items are cut from their text, and read as them
 abbrev IsCut : Element → Type 0
 IsCut e = (rest : List ℕ) (more : List WrittenItem) → Cuts rest more [] → Cuts (child_text e ++ rest) (child_items e ++ more) []
 
@@ -191,7 +192,7 @@ tag_right x ws placed named first right = record {
   blanks = AllPass-from_list_all is_blank [] refl;
 }
 
--- `<` stands behind each text
+-- `<` follows each text
 abbrev BeginsMarkup : List ℕ → Type 0
 BeginsMarkup bytes = (more : List ℕ) × (bytes ≡ 60 ∷ more)
 
@@ -255,7 +256,7 @@ resolve_by : (scope : List Binding) (name : List ℕ) (ws : List Written) (decla
 unfolding resolve
 resolve_by scope name ws declared q space pairs differ declares cut bound_to gathers apart = rw (differ, declares, cut, bound_to, gathers, apart) refl
 
--- an element that has begun, with these declarations
+-- a started element with these declarations
 abbrev begun_by : Element-F Element → List Binding → Begun
 begun_by x declared = record { name = name_of x.space x.local; declared = declared; space = x.space; local = x.local; attributes = x.attributes; text = []; children = [] }
 
@@ -267,7 +268,7 @@ text_read most (b ∷ bytes) o os more xml =
     goes most (run (escaped (b ∷ bytes))) more (within false (o ∷ os)) (within false (record o { text = o.text ++ b ∷ bytes } ∷ os))
     (text_steps most (escaped (b ∷ bytes)) false o os (b ∷ bytes) (escaped_characters false (b ∷ bytes) xml))
 
--- children that are read, in so many levels
+-- children that are read in n levels
 abbrev AreRead : List Element → ℕ → Type 0
 AreRead es n = AllByRecursion (λ e. IsRead e n) es
 
@@ -314,7 +315,7 @@ element_read most n first x ws declared os more below le in_it xml children reso
     ∙ (children_read most n x.children o₂ os last (omega arith) in_it children
     ∙ goes most (finish name) more (within false (o₃ ∷ os)) (placed (roll-Element x) os) (finish_steps most name false o₃ os refl))))
 
--- an element inside another
+-- an element nested in another
 
 map_written : (attributes : List Attribute) → map written (map quoted_attribute attributes) ≡ map plain_written attributes
 map_written [] = refl
@@ -402,7 +403,7 @@ no_pair_ebms : (scope : List Binding) → attribute_by scope (written ebms_writt
 unfolding attribute_by
 no_pair_ebms scope = refl
 
--- a declaration is written as no attribute is
+-- a declaration's written name is none of the attributes' names
 apart_from : (name value : List ℕ) (a : Attribute) → binds_prefix name ≡ true → IsRight a → same_written (record { name = name; value = value }) (plain_written a) ≡ false
 apart_from name value a declares right =
     false_from_ne_true (bytes_eq name (name_of a.space a.local))

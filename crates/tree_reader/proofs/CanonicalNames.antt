@@ -1,4 +1,4 @@
--- Names and attributes as canonical text has them.
+-- Names and attributes of canonical text.
 use Rattle.std.proofs.Common.{◌≡◌, inl, inr, ℕ, zero, suc, ◌<◌, Bool, true, false, not, ◌&&◌, ◌||◌, ◌==◌, cond, List, [], ◌∷◌, map, take, Option, Some, None, length, refl, sym, ap, ◌∙◌, append_assoc, arith}
 use Rattle.std.proofs.lemmas.Bool.{and_parts, le-ltb, false_from_ne_true}
 use Rattle.std.proofs.lemmas.Bool.Decides.{nat_tests}
@@ -10,7 +10,8 @@ use Rattle.std.specs.Prelude.{codes, position}
 use Rattle.std.specs.List.{position_or_len, list_all, list_any, AllByRecursion, AllPass}
 use Rattle.std.specs.Char.{encode_utf8}
 use Rattle.std.specs.Str.{bytes_eq, is_utf8}
-use Rattle.as4_values.specs.Texts.{is_blank, is_xml}
+use Rattle.as4_values.specs.Texts.{is_xml}
+use Rattle.byte_forms.specs.Classes.{is_blank}
 use Rattle.as4_envelope.specs.Markup.{escaped, attribute}
 use Rattle.as4_envelope.specs.Tree.{soap, ebms, prefix_of, name_of}
 use Rattle.as4_envelope.specs.Writable.{has_prefix, is_attribute, same_name, names_differ}
@@ -25,7 +26,7 @@ use Rattle.tree_reader.specs.Readable.{is_name, is_named_attribute}
 use Rattle.tree_reader.proofs.TextLemmas.{told}
 use Rattle.tree_reader.proofs.EscapedLemmas.{position_at, escaped_is_value, escaped_characters}
 
--- the namespaces that canonical text has a prefix for, and none
+-- a namespace for which canonical text has a prefix, or none
 pub data Placed (space : List ℕ) : Type 0 where
   in_soap : space ≡ soap → Placed space
   in_ebms : space ≡ ebms → Placed space
@@ -133,7 +134,7 @@ qualified_is p l q m e =
     let same : ◌≡◌ {A = Qualified} (record { prefix = p; local = l }) (record { prefix = q; local = m }) = cc in
     (ap (λ (x : Qualified). x.prefix) same, ap (λ (x : Qualified). x.local) same)
 
--- two written names that are the same are of one expanded name
+-- equal written names have one expanded name
 one_name : (space local other_space other : List ℕ) → Placed space → Placed other_space → is_local_name local ≡ true → is_local_name other ≡ true
     → name_of space local ≡ name_of other_space other → (space ≡ other_space) × (local ≡ other)
 one_name space local other_space other here there is isn same =
@@ -141,7 +142,7 @@ one_name space local other_space other here there is isn same =
     (sym (qualified_name space local here is) ∙ (ap qualified same ∙ qualified_name other_space other there isn)) in
     (sym (bare_back space here) ∙ (ap back parts.0 ∙ bare_back other_space there), parts.1)
 
--- names are of bytes of names
+-- names consist of name bytes
 
 pub local_of : (name : List ℕ) → is_name name ≡ true → is_local_name name ≡ true
 unfolding is_name
@@ -167,7 +168,7 @@ name_bytes space local (in_soap e) is = rw (e, name_soap local) (by_bytes (83 �
 name_bytes space local (in_ebms e) is = rw (e, name_ebms local) (by_bytes (101 ∷ 98 ∷ 58 ∷ local) (omega arith) (bytes_of local is))
 name_bytes space local (nowhere e) is = rw (e, name_nowhere local) (by_bytes local (some_name local (local_of local is)) (bytes_of local is))
 
--- the namespaces of prefixes
+-- the prefixes are bound to their namespaces
 
 pub record InScope (scope : List Binding) : Type 0 where
   pub soap_bound : found scope (codes "S") ≡ Some soap
@@ -197,7 +198,7 @@ attribute_prefix scope space in_it (nowhere e) = rw e refl
 
 -- attributes
 
--- what canonical text has of an attribute
+-- the facts about an attribute of canonical text
 pub record IsRight (a : Attribute) : Type 0 where
   pub placed : Placed a.space
   pub named : is_name a.local ≡ true
@@ -221,7 +222,7 @@ right_attribute a is named =
     let two = and_parts (is_name a.local) (not (is_empty a.space && binds_default a.local)) named in
     record { placed = placed_or_not a.space one.0; named = two.0; binds_nothing = not_false (is_empty a.space && binds_default a.local) two.1; xml = one.1 }
 
--- as it is written: one space before it, no blanks round its `=`, double quotes
+-- an attribute as written: one space before it, no blanks around its `=`, double quotes
 abbrev pub quoted : List ℕ → List ℕ → WrittenAttribute
 quoted name value = record { blanks = 32 ∷ []; name = name; left = []; right = []; quote = 34; value = escaped value }
 
@@ -307,7 +308,7 @@ pub all_attributes : (scope : List Binding) (attributes : List Attribute) → In
 all_attributes scope [] in_it right = refl
 all_attributes scope (a ∷ attributes) in_it right = rw (is_attribute_of scope a in_it right.0, all_attributes scope attributes in_it right.1) refl
 
--- no written name stands twice
+-- no written name occurs twice
 
 both_same : (a b : Attribute) → a.space ≡ b.space → a.local ≡ b.local → same_name a b ≡ true
 both_same a b space local = rw ((bytes_eq-Decides a.space b.space).1 space, (bytes_eq-Decides a.local b.local).1 local) refl

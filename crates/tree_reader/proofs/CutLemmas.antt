@@ -1,4 +1,4 @@
--- Bytes are cut into items in one way.
+-- Bytes are cut into items in one way only.
 use Rattle.std.proofs.Common.{◌≡◌, ℕ, List, [], ◌∷◌, ◌++◌, map, Option, Some, refl, sym, ap, ◌∙◌, arith}
 use Rattle.xml_items.specs.Items.{Item}
 use Rattle.xml_items.specs.Cutting.{item_at}
@@ -6,14 +6,14 @@ use Rattle.xml_items.specs.Grammar.{WrittenItem, print_item, meaning, IsItem}
 use Rattle.xml_items.proofs.ItemLaws.{item_again, item_shortens}
 use Rattle.tree_reader.specs.Documents.{Cuts}
 
--- one item more
+-- appends one item
 pub Cuts-more : (bytes : List ℕ) (items : List WrittenItem) (rest behind : List ℕ) (item : WrittenItem) → Cuts bytes items rest → IsItem item behind → rest ≡ print_item item ++ behind
     → Cuts bytes (items ++ item ∷ []) behind
 Cuts-more bytes [] rest behind item cut is split = (behind, is, cut ∙ split, refl)
 Cuts-more bytes (first ∷ items) rest behind item cut is split =
     (cut.0, cut.1, cut.2, Cuts-more cut.0 items rest behind item cut.3 is split)
 
--- an item that stands in the bytes is the one that is cut there
+-- an item at the start of the bytes is the one that is cut there
 pub cut_item : (bytes behind : List ℕ) (item : WrittenItem) → IsItem item behind → bytes ≡ print_item item ++ behind → item_at bytes ≡ Some (meaning item, behind)
 cut_item bytes behind item is split = ap item_at split ∙ item_again item behind is
 
@@ -25,14 +25,14 @@ pair_is x y a b e =
     let same : ◌≡◌ {A = Item × List ℕ} (x, a) (y, b) = cc in
     (ap (λ (p : Item × List ℕ). p.0) same, ap (λ (p : Item × List ℕ). p.1) same)
 
--- nothing is cut where there is nothing
+-- nothing is cut from empty bytes
 pub item_at_nil : (x : Item × List ℕ) → item_at [] ≡ Some x → ⊥
 item_at_nil x e = omega (arith, item_shortens [] x e)
 
 pub nil_has_none : (bytes behind : List ℕ) (item : WrittenItem) → bytes ≡ [] → IsItem item behind → bytes ≡ print_item item ++ behind → ⊥
 nil_has_none bytes behind item nil is split = item_at_nil (meaning item, behind) (ap item_at (sym nil) ∙ cut_item bytes behind item is split)
 
--- what goes on behind a front
+-- the items after a prefix
 pub record Beyond (rest : List ℕ) (items front : List WrittenItem) : Type 0 where
   pub more : List WrittenItem
   pub cut : Cuts rest more []

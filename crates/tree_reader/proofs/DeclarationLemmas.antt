@@ -1,4 +1,4 @@
--- An index of declarations, made from the last to the first.
+-- An index of declarations, built from the last to the first.
 use Rattle.std.proofs.Common.{◌≡◌, ℕ, ◌+◌, ◌<◌, Bool, true, false, cond, if◌then◌else◌, List, ◌∷◌, map, Option, Some, length, get_or, drop, refl, sym, ap, ◌∙◌, Bor}
 use Rattle.std.proofs.lemmas.List.{drop_more}
 use Rattle.std.proofs.lemmas.Option.{slice_get_read}
@@ -15,7 +15,7 @@ this_or_other : (this : Bool) (all : List Declared) (at : ℕ) (d : Declared) (o
 this_or_other true all at d o other here so_far = rw here refl
 this_or_other false all at d o other here so_far = so_far
 
--- one declaration more, in front
+-- one more declaration, put first
 pub index_more : (index next : BTreeMap (Bor (List ℕ)) ℕ) (all : List Declared) (at : ℕ) (d : Declared) → at < length all → d ≡ get_or all at d
     → ((q : Bor (List ℕ)) → get prefix_cmp next q ≡ cond (is_at (prefix_cmp (get_or all at d).prefix) q) (Some at) (get prefix_cmp index q)) → Indexes index all (drop (at + 1) all) → Indexes next all (drop at all)
 index_more index next all at d within is updates so_far q =

@@ -1,10 +1,10 @@
--- The end tag of the innermost element, by its name, which is one.
+-- The end tag of the innermost element, recognized by its name.
 use Rattle.std.proofs.Common.{◌≡◌, ℕ, Bool, true, false, List, [], ◌∷◌, ◌++◌, map, take, drop, codes, None, Result, Ok, length, refl, sym, ap, ◌∙◌, append_assoc}
 use Rattle.std.proofs.lemmas.List.{take-append-drop}
 use Rattle.std.proofs.lemmas.Slice.Eq.{bytes_eq-Decides}
 use Rattle.std.specs.Str.{bytes_eq}
 use Rattle.as4_envelope.specs.declared.tree.Element.{Element}
-use Rattle.as4_values.specs.Texts.{is_blank}
+use Rattle.byte_forms.specs.Classes.{is_blank}
 use Rattle.std.specs.List.{list_all}
 use Rattle.xml_items.specs.Items.{finish}
 use Rattle.xml_items.specs.Classes.{is_name_byte}
@@ -20,7 +20,7 @@ use Rattle.tree_reader.proofs.CutLemmas.{cut_item}
 use Rattle.tree_reader.proofs.SpellLemmas.{finish_steps}
 use Rattle.tree_reader.proofs.StepLemmas.{ok_is, then_ok, resolve_name, unchanged_ok, step_start, step_text, step_comment, step_finish}
 
--- what is read keeps names
+-- reading keeps names
 
 placed_named : (e : Element) (os : List Begun) → AreNames os → AreNamed (placed e os)
 placed_named e [] named = tt
@@ -59,11 +59,11 @@ run_named (w ∷ items) bytes rest s t cut runs named =
     let r = then_ok (step levels (meaning w) s) (run_items levels (map meaning items)) t runs in
     run_named items cut.0 rest r.0 t cut.3 r.2 (step_named w cut.0 s r.0 cut.1 r.1 named)
 
--- the open elements have names, since their tags were read
+-- the open elements have names, since their start tags were read
 pub reached_named : (bytes rest : List ℕ) (s : State) → Reached bytes s rest → AreNamed s
 reached_named bytes rest s r = run_named r.items bytes rest nothing_read s r.cut r.runs tt
 
--- so their end tags are cut where they stand
+-- so their end tags are cut
 end_meets : (first : Bool) (os : List Begun) (bytes behind : List ℕ) (r : Result State Fault) → AreNames os → IsEndOf os bytes behind → completed os ≡ r → Meets (within first os) bytes r behind
 unfolding IsItem meaning
 end_meets first [] bytes behind r named is gives = absurd is
@@ -73,13 +73,13 @@ end_meets first (o ∷ os) bytes behind r named is gives = record {
   gives = finish_steps levels o.name first o os refl ∙ gives;
 }
 
--- and go on from what was read
+-- and reading goes on from there
 pub end_reads : (reading : Reading) (bytes behind : List ℕ) (t : State) → reading.root ≡ None → AreNamed (state_of reading) → IsEndOf (stack_of reading.open.items) bytes behind
     → completed (stack_of reading.open.items) ≡ Ok t → Meets (state_of reading) bytes (Ok t) behind
 end_reads reading bytes behind t inside named is gives =
     rw inside (end_meets reading.first (stack_of reading.open.items) bytes behind (Ok t) (rw inside at named) is gives)
 
--- three words, one behind another, are an end tag
+-- three words in sequence are an end tag
 
 front_is : (word bytes behind : List ℕ) → bytes_eq (take (length word) bytes) word ≡ true → behind ≡ drop (length word) bytes → bytes ≡ word ++ behind
 front_is word bytes behind same is =

@@ -1,4 +1,4 @@
--- Escaped bytes are characters of XML that mean the bytes again.
+-- Escaped bytes are characters of XML that mean the original bytes.
 use Rattle.std.proofs.Common.{◌≡◌, ◌≢◌, inl, inr, ℕ, ◌+◌, ◌/◌, ◌%◌, ◌<◌, ◌≤◌, Bool, true, false, List, [], ◌∷◌, ◌++◌, Option, Some, length, refl, sym, ap, ◌∙◌, append-nil, arith, length-append}
 use Rattle.std.proofs.lemmas.Bool.{cases_eq, cases_lt, and_parts, le-ltb, lt-ltb}
 use Rattle.std.proofs.lemmas.Bool.Decides.{nat_tests}
@@ -19,7 +19,7 @@ use Rattle.tree_reader.specs.Steps.{with_front}
 use Rattle.tree_reader.proofs.TextLemmas.{reference_piece}
 use Rattle.tree_reader.specs.Decoded.{Piece, is_semicolon, entity, numbered, referred, reference_at, is_plain, piece_at, meant_behind, pieces_meant, characters_meant}
 
--- a byte that is escaped, or one that stands for itself
+-- a byte that is escaped, or a byte that is unchanged
 pub record Plain (b : ℕ) : Type 0 where
   pub amp : b ≢ 38
   pub less : b ≢ 60
@@ -74,7 +74,7 @@ kind b =
 pub escape_plain : (b : ℕ) → Plain b → escape_of b ≡ b ∷ []
 escape_plain b p = grind (arith, nat_tests, p.amp, p.less, p.greater, p.quote, p.tab, p.feed, p.return)
 
--- what an escape means
+-- the meaning of an escape
 
 is_plain_by : (v : Bool) (b : ℕ) → Plain b → is_plain v b ≡ true
 is_plain_by true b p = grind (arith, nat_tests, p.amp, p.tab, p.feed, p.return)
@@ -201,7 +201,7 @@ value_is_text (b ∷ bytes) all =
     let here : is_text_byte b ≡ true = grind (arith, nat_tests, split.0) in
     rw (here, value_is_text bytes split.1) refl
 
--- neither a quote nor `<` stands in what is escaped
+-- escaped bytes contain neither a quote nor `<`
 pub escaped_is_value : (xs : List ℕ) → AllPass (is_value_byte 34) (escaped xs)
 escaped_is_value xs = AllPass-from_list_all (is_value_byte 34) (escaped xs) (all_value xs)
 
@@ -324,7 +324,7 @@ escaped_xml : (bytes : List ℕ) → IsXml bytes → IsXml (escaped bytes)
 escaped_xml bytes xml =
     (escaped xml.0, AllWithin-from_all XmlChar (escaped xml.0) (escaped_chars xml.0 (All-from_all_within XmlChar xml.0 xml.1)), encoded_escaped xml.0 ∙ ap escaped xml.2)
 
--- what is escaped means itself
+-- escaped bytes mean the original ones
 pub escaped_characters : (in_value : Bool) (bytes : List ℕ) → is_xml bytes ≡ true → characters_meant in_value (escaped bytes) ≡ Some bytes
 unfolding characters_meant pieces_meant
 escaped_characters v bytes xml =

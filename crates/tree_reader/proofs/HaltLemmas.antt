@@ -1,4 +1,4 @@
--- What the loop has read, in the words of documents.
+-- What the loop has read, in terms of documents.
 use Rattle.std.proofs.Common.{◌≡◌, ℕ, ◌+◌, ◌<◌, ◌≤◌, List, [], ◌∷◌, ◌++◌, map, drop, take, cond, Option, Some, None, Result, Ok, Err, length, inl, inr, refl, sym, ap, ◌∙◌, arith, length-drop}
 use Rattle.std.proofs.lemmas.List.{map-append}
 use Rattle.std.specs.Str.{bytes_eq}
@@ -32,7 +32,7 @@ one_more_runs most items item s r e gives =
     run-append most items (item ∷ []) nothing_read
     ∙ (ap (λ (x : Result State Fault). then_run x (run_items most (item ∷ []))) e ∙ ap (λ (x : Result State Fault). then_run x (run_items most [])) gives)
 
--- one more is read
+-- one more item is read
 pub reached_more : (bytes rest behind : List ℕ) (s t : State) → Reached bytes s rest → Meets s rest (Ok t) behind → Reached bytes t behind
 reached_more bytes rest behind s t r m =
     let taken = item_takes rest (m.item, behind) m.here in
@@ -75,7 +75,7 @@ length-behind_mark bytes =
 pub document_read : (bytes : List ℕ) (tree : Element) → length bytes ≤ limit → Reached (behind_mark bytes) (done tree) [] → IsDocument bytes tree
 document_read bytes tree short r = record { items = r.items; short = short; cut = r.cut; spelled = runs_spells levels (map meaning r.items) tree r.runs }
 
--- what a document has behind what was read leads to its tree
+-- the items of a document after those that were read lead to its tree
 pub record Leads (rest : List ℕ) (s : State) (tree : Element) : Type 0 where
   pub more : List WrittenItem
   pub cut : Cuts rest more []
@@ -126,7 +126,7 @@ no_lead_fault rest behind s d tree (item ∷ more) m cut runs =
     let r = then_ok (step levels (meaning item) s) (run_items levels (map meaning more)) (done tree) runs in
     fault_not_ok d r.0 (sym (ap (λ (x : Item). step levels x s) same.0 ∙ m.gives) ∙ r.1)
 
--- a halt isn't a document
+-- bytes at which reading halts are not a document
 pub halt_only : (bytes : List ℕ) (stop : Stop) (left at : ℕ) (tree : Element) → HaltsAt (behind_mark bytes) stop left → IsDocument bytes tree → IsReadAs (Err (refusal_of stop at)) tree
 halt_only bytes stops.Memory left at tree h document = tt
 halt_only bytes stops.Markup left at tree h document =

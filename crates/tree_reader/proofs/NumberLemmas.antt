@@ -19,7 +19,7 @@ grows radix n (d ∷ ds) some =
     let once = grows_once n radix (digit_value d) some in
     omega arith
 
--- a number that is capped before the next digits is so after them
+-- capping a number before the next digits gives the same capped result
 pub capped_digits : (radix n cap : ℕ) (ds : List ℕ) → 1 ≤ radix → min (digits_value_after radix (min n cap) ds) cap ≡ min (digits_value_after radix n ds) cap
 capped_digits radix n cap ds some =
     elim (cases_lt n cap) [

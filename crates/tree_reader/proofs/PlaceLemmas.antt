@@ -1,4 +1,4 @@
--- Fronts of documents: whatever was read so far begins one, and what isn't a step doesn't.
+-- Prefixes of documents: the items read so far begin a document, and an item that isn't a step doesn't continue one.
 use Rattle.std.proofs.Common.{◌≡◌, ℕ, ◌+◌, ◌<◌, ◌≤◌, Bool, true, false, cond, ltb, List, [], ◌∷◌, ◌++◌, Option, Some, None, Result, Ok, Err, length, inl, inr, refl, sym, ap, ◌∙◌, append_assoc, arith}
 use Rattle.std.proofs.lemmas.Bool.{lt-ltb, ltb-true}
 use Rattle.std.proofs.lemmas.Str.{is_utf8-from_IsUtf8}
@@ -16,7 +16,7 @@ use Rattle.tree_reader.proofs.StepLemmas.{ok, ok_is, then_ok, run-append, step_s
 use Rattle.tree_reader.proofs.SpellLemmas.{goes, at_items, start_steps, finish_steps, spells_runs}
 use Rattle.tree_reader.proofs.TreeLemmas.{runs_spells}
 
--- with more levels, what was a step still is one
+-- a step remains one with more levels
 
 fault_is_ok : (d : Fault) (t : State) → ◌≡◌ {A = Result State Fault} (Err d) (Ok t) → ⊥
 fault_is_ok d t e = cc
@@ -54,7 +54,7 @@ run_deeper levels more (item ∷ items) s t le e =
     let r = then_ok (step levels item s) (run_items levels items) t e in
     goes more item items s r.0 (step_deeper levels more item s r.0 le r.1) ∙ run_deeper levels more items r.0 t le r.2
 
--- what isn't right isn't right with more levels either
+-- markup that is wrong remains wrong with more levels
 
 begins_markup : (levels more : ℕ) (closed : Bool) (os : List Begun) (o : Option Begun) → begins levels closed os o ≡ Err markup → begins more closed os o ≡ Err markup
 begins_markup levels more closed os None e = refl
@@ -78,7 +78,7 @@ step_markup levels more (finish name) (within first []) e = e
 step_markup levels more (finish name) (within first (o ∷ os)) e = e
 step_markup levels more (finish name) (done root) e = e
 
--- no more elements are open than there may be
+-- the number of open elements is at most the number of levels
 
 abbrev pub depth : State → ℕ
 depth (within first os) = length os
@@ -124,7 +124,7 @@ run_depth levels (item ∷ items) s t le e =
     let r = then_ok (step levels item s) (run_items levels items) t e in
     run_depth levels items r.0 t (step_depth levels item s r.0 le r.1) r.2
 
--- a tag that is too deep is right one level deeper
+-- a tag that is too deep is right with one more level
 
 begins_too_deep : (levels : ℕ) (closed : Bool) (os : List Begun) (o : Option Begun) → length os ≤ levels → begins levels closed os o ≡ Err too_deep
     → (t : State) × (begins (levels + 1) closed os o ≡ Ok t)
@@ -159,7 +159,7 @@ step_too_deep levels (finish name) (within first []) le e = absurd (two_faults e
 step_too_deep levels (finish name) (within first (o ∷ os)) le e = absurd (end_not_deep (bytes_eq name o.name) (placed (element_of o) os) e)
 step_too_deep levels (finish name) (done root) le e = absurd (two_faults e)
 
--- the end tags that are missing end a document
+-- the missing end tags complete a document
 
 ends : (levels : ℕ) (os : List Begun) (e : Element) → (more : List Item) × (tree : Element) × (run_items levels more (placed e os) ≡ Ok (done tree))
 ends levels [] e = ([], e, refl)
@@ -172,7 +172,7 @@ letter_utf8 : is_utf8 (97 ∷ []) ≡ true
 unfolding encode_utf8
 letter_utf8 = is_utf8-from_IsUtf8 (97 ∷ []) ((97 ∷ []), (refl, refl))
 
--- an element of one tag
+-- an element with a single tag
 lone : resolve [] (97 ∷ []) [] ≡ Some (record { name = 97 ∷ []; declared = []; space = []; local = 97 ∷ []; attributes = []; text = []; children = [] })
 unfolding resolve qualified is_local_name element_space
 lone = rw letter_utf8 refl
@@ -187,7 +187,7 @@ goes_on levels (within first (o ∷ os)) some =
     (finish o.name ∷ rest.0, rest.1, goes levels (finish o.name) rest.0 (within first (o ∷ os)) (placed (element_of o) os) (finish_steps levels o.name first o os refl) ∙ rest.2)
 goes_on levels (done root) some = ([], root, refl)
 
--- what was read so far begins a document
+-- the items read so far begin a document
 pub run_begins : (levels : ℕ) (items : List Item) (s : State) → 0 < levels → run_items levels items nothing_read ≡ Ok s → Begins levels items
 run_begins levels items s some e =
     let more = goes_on levels s some in (
@@ -197,7 +197,7 @@ run_begins levels items s some e =
           (run-append levels items more.0 nothing_read ∙ (ap (λ (r : Result State Fault). then_run r (run_items levels more.0)) e ∙ more.2)),
     )
 
--- what isn't a step goes on with no document
+-- an item that isn't a step continues no document
 pub no_step : (levels : ℕ) (items : List Item) (s : State) (item : Item) (d : Fault) → run_items levels items nothing_read ≡ Ok s → step levels item s ≡ Err d
     → ¬ (Begins levels (items ++ item ∷ []))
 no_step levels items s item d e fault begins_so =

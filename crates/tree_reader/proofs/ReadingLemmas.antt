@@ -1,4 +1,4 @@
--- What becomes of the innermost element, which is the last of the vector.
+-- Changes to the innermost element, which is the last of the vector.
 use Rattle.std.proofs.Common.{◌≡◌, ℕ, ◌+◌, ◌-◌, ◌<◌, Bool, false, List, [], ◌∷◌, ◌++◌, Option, Some, None, Result, Ok, Err, length, get_or, set, take, refl, ap, sym, ◌∙◌, arith}
 use Rattle.std.proofs.lemmas.List.{take_all, take_more, take_more_set, length-set}
 use Rattle.std.proofs.lemmas.Option.{get_or_from_slice_get}
@@ -17,7 +17,7 @@ use Rattle.tree_reader.specs.Views.{Misses, Fails, Adds, Makes, begun_of, stack_
 use Rattle.tree_reader.proofs.ScopeLemmas.{stack_push}
 use Rattle.tree_reader.proofs.StepLemmas.{ok, some_is}
 
--- it is the last, and those before stand round it
+-- the innermost element is the last, and those before it enclose it
 pub stack_last : (os : List Open) (n : ℕ) (o : Open) → n ≡ length os → 0 < n → o ≡ get_or os (n - 1) o → stack_of os ≡ begun_of o ∷ stack_of (take (n - 1) os)
 stack_last os n o len some is =
     let n_is : n - 1 + 1 ≡ n = omega arith in
@@ -26,12 +26,12 @@ stack_last os n o len some is =
     ap stack_of (sym whole ∙ (ap (λ k. take k os) (sym n_is) ∙ (more ∙ ap (λ (x : Open). take (n - 1) os ++ x ∷ []) (sym is))))
     ∙ stack_push (take (n - 1) os) o
 
--- the same, by what a slice gives
+-- the same, from the result of `slice_get`
 pub stack_got : (os : List Open) (o : Open) → slice_get os (length os - 1) ≡ Some o → stack_of os ≡ begun_of o ∷ stack_of (take (length os - 1) os)
 stack_got [] o is = absurd cc
 stack_got (first ∷ os) o is = stack_last (first ∷ os) (length (first ∷ os)) o refl (omega arith) (sym (get_or_from_slice_get (first ∷ os) (length (first ∷ os) - 1) o o is))
 
--- another innermost element leaves what stands round it
+-- replacing the innermost element keeps those around it
 pub stack_set : (os : List Open) (n : ℕ) (o : Open) → n ≡ length os → 0 < n → stack_of (set os (n - 1) o) ≡ begun_of o ∷ stack_of (take (n - 1) os)
 stack_set os n o len some =
     let n_is : n - 1 + 1 ≡ n = omega arith in

@@ -1,4 +1,4 @@
--- Declarations and attributes, one after another; and the nearest declaration.
+-- Declarations and attributes, in sequence, and the nearest declaration.
 use Rattle.std.proofs.Common.{◌≡◌, ℕ, ◌+◌, ◌<◌, List, [], ◌∷◌, ◌++◌, map, Option, Some, None, length, get_or, take, drop, refl, ap, ◌∙◌, inl, inr}
 use Rattle.std.proofs.lemmas.List.{take_more, drop_more, reverse-append}
 use Rattle.std.specs.Str.{bytes_eq}
@@ -16,7 +16,7 @@ first_added (Some ys) others old new is =
     let new_is : old ++ ys ≡ new = cc in
     rw (← new_is) (front_front old ys others)
 
--- what one more gives is added
+-- the values of one more item are appended
 pub gathered_more : {W X Y : Type 0} (f : X → Option (List Y)) (g : W → X) (xs : List W) (i : ℕ) (x : W) (old new : List Y) (all : Option (List Y)) → i < length xs
     → with_front old (f (g (get_or xs i x))) ≡ Some new → all ≡ with_front old (gathered f (map g (drop i xs))) → all ≡ with_front new (gathered f (map g (drop (i + 1) xs)))
 gathered_more f g xs i x old new all within added so_far =
@@ -31,7 +31,7 @@ abbrev pub or_else : {A : Type 0} → Option A → Option A → Option A
 or_else None b = b
 or_else (Some x) b = Some x
 
--- what the first declarations bind comes first
+-- bindings of the first declarations take precedence
 pub found-append : (xs ys : List Binding) (prefix : List ℕ) → found (xs ++ ys) prefix ≡ or_else (found xs prefix) (found ys prefix)
 found-append [] ys prefix = refl
 found-append (b ∷ xs) ys prefix =
@@ -40,7 +40,7 @@ found-append (b ∷ xs) ys prefix =
       | inr other ↦ rw other (found-append xs ys prefix)
     ]
 
--- what the element at this place declares comes before what those round it do
+-- the declarations of the element at this index take precedence over those around it
 pub found_at : (around : List Open) (at : ℕ) (o : Open) (prefix : List ℕ) → at < length around
     → found (scope_of (stack_of (take (at + 1) around))) prefix ≡ or_else (found (get_or around at o).declared prefix) (found (scope_of (stack_of (take at around))) prefix)
 found_at around at o prefix within =

@@ -1,4 +1,4 @@
--- Bytes that are characters of XML in ASCII and stand for themselves.
+-- ASCII bytes that are characters of XML and mean themselves.
 use Rattle.std.proofs.Common.{◌≡◌, ℕ, ◌<◌, Bool, true, false, ◌&&◌, List, [], ◌∷◌, Some, length, refl, ap, ◌∙◌, append-nil, arith}
 use Rattle.std.proofs.lemmas.Bool.{and_parts, ltb-true}
 use Rattle.std.proofs.lemmas.Bool.Decides.{nat_tests}
@@ -27,7 +27,7 @@ low_bytes (b ∷ bytes) all =
     let split = and_parts (nat_lt b 128) (list_all (λ c. nat_lt c 128) bytes) all in
     All-cons (λ c. c < 128) b bytes (ltb-true b 128 split.0) (low_bytes bytes split.1)
 
--- characters of XML in ASCII
+-- ASCII bytes that are characters of XML
 pub ascii_xml : (bytes : List ℕ) → list_all (λ b. is_xml_char b && nat_lt b 128) bytes ≡ true → is_xml bytes ≡ true
 ascii_xml bytes all =
     let parts = split_all bytes all in

@@ -1,9 +1,10 @@
--- What spells a document is read as its tree.
+-- Items that spell a document are read as its tree.
 use Rattle.std.proofs.Common.{◌≡◌, ℕ, suc, ◌<◌, Bool, true, false, cond, List, [], ◌∷◌, ◌++◌, Some, Result, Ok, Err, length, refl, sym, ap, ◌∙◌, append_assoc}
 use Rattle.std.proofs.lemmas.Bool.{lt-ltb, and_parts}
 use Rattle.std.proofs.lemmas.Slice.Eq.{bytes_eq-Decides}
 use Rattle.std.specs.List.{list_all}
-use Rattle.as4_values.specs.Texts.{is_blank, is_xml}
+use Rattle.as4_values.specs.Texts.{is_xml}
+use Rattle.byte_forms.specs.Classes.{is_blank}
 use Rattle.as4_envelope.specs.declared.tree.Element.{Element}
 use Rattle.xml_items.specs.Items.{Tag, Item, declaration, comment, start, finish, run}
 use Rattle.tree_reader.specs.Decoded.{text_meant}
@@ -12,7 +13,7 @@ use Rattle.tree_reader.specs.Reading.{Fault, markup, too_deep, State, within, do
 use Rattle.tree_reader.specs.Trees.{Node, node, leaf, Content, nothing, text_then, comment_then, node_then, items_of, items_in, HasText, grown, IsTree, AreTrees, is_outside, opening, Spells}
 use Rattle.tree_reader.proofs.StepLemmas.{ok, resolve_name, grown_none}
 
--- each item that stands in its place is a step
+-- each item that is allowed at its place is a step
 
 pub start_steps : (levels : ℕ) (tag : Tag) (first : Bool) (os : List Begun) (o : Begun) → length os < levels
     → resolve (scope_of os) tag.name tag.attributes ≡ Some o → step levels (start tag) (within first os) ≡ Ok (opened tag.closed o os)
@@ -98,7 +99,7 @@ mutual
       ∙ content_runs content levels o₂ os text are.1 more has are.3
       ∙ at_state levels more (within false (grown o₂ text are.1 ∷ os)) (within false (grown o text es ∷ os)) (ap (λ (x : Begun). within false (x ∷ os)) (more_children o text are.0 are.1 es are.4))
 
--- round the root
+-- outside of the root
 
 -- a state in which nothing is open
 pub data Unopened : State → Type 0 where
@@ -114,14 +115,14 @@ outside_steps levels (finish name) s un is = absurd cc
 outside_steps levels (run bytes) _ (before_root first) is = right_steps (list_all is_blank bytes) (within first []) is
 outside_steps levels (run bytes) _ (behind_root root) is = right_steps (list_all is_blank bytes) (done root) is
 
--- behind the root nothing changes
+-- after the root nothing changes
 behind_passes : (levels : ℕ) (xs : List Item) (root : Element) → list_all is_outside xs ≡ true → run_items levels xs (done root) ≡ Ok (done root)
 behind_passes levels [] root all = refl
 behind_passes levels (x ∷ xs) root all =
     let split = and_parts (is_outside x) (list_all is_outside xs) all in
     goes levels x xs (done root) (done root) (outside_steps levels x (done root) (behind_root root) split.0) ∙ behind_passes levels xs root split.1
 
--- before it, only whether nothing was read yet
+-- before it, only the flag of a first item changes
 before_passes : (levels : ℕ) (xs : List Item) (first : Bool) → list_all is_outside xs ≡ true
     → (f : Bool) × ((more : List Item) → run_items levels (xs ++ more) (within first []) ≡ run_items levels more (within f []))
 before_passes levels [] first all = (first, λ more. refl)

@@ -1,4 +1,4 @@
--- Steps that went well, taken apart.
+-- Successful steps, taken apart.
 use Rattle.std.proofs.Common.{◌≡◌, ℕ, ◌<◌, Bool, true, false, cond, ltb, List, [], ◌∷◌, ◌++◌, Option, Some, None, Result, Ok, Err, length, refl, sym, ap, append-nil}
 use Rattle.std.proofs.lemmas.Bool.{ltb-true}
 use Rattle.std.proofs.lemmas.Slice.Eq.{bytes_eq-Decides}
@@ -14,7 +14,7 @@ use Rattle.as4_envelope.specs.Writable.{names_differ}
 use Rattle.tree_reader.specs.Reading.{Fault, markup, too_deep, State, within, placed, opened, begins, with_text, later, unchanged, step, then_run, run_items}
 use Rattle.tree_reader.specs.Trees.{grown}
 
--- the value of a step that has one
+-- the value of a successful step
 pub bind_some : {A B : Type 0} (o : Option A) (f : A → Option B) (y : B) → (o >>= f) ≡ Some y → (x : A) × (o ≡ Some x) × (f x ≡ Some y)
 bind_some None f y e = absurd cc
 bind_some (Some x) f y e = (x, refl, e)
@@ -54,7 +54,7 @@ resolve_name scope name attributes o e =
     let r = given_some (names_differ a.0) _ o a.2 in
     sym (ap (λ (b : Begun). b.name) (some_is _ o r.1))
 
--- what a step that went well tells
+-- what a successful step implies
 
 pub record Opens (levels : ℕ) (tag : Tag) (os : List Begun) (s : State) : Type 0 where
   pub begun : Begun

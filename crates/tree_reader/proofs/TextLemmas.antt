@@ -1,4 +1,4 @@
--- What pieces mean, one after another.
+-- The meaning of pieces, in sequence.
 use Rattle.std.proofs.Common.{◌≡◌, ◌⊎◌, inl, inr, ℕ, zero, suc, ◌+◌, ◌<◌, Bool, true, false, List, [], ◌∷◌, ◌++◌, Option, Some, None, length, get_or, take, drop, refl, sym, ap, ◌∙◌, append_assoc, arith, add-one, length-drop, Result, Ok, Err}
 use Rattle.std.proofs.lemmas.List.{drop-drop}
 use Rattle.std.specs.Borrow.{Bor}
@@ -23,13 +23,13 @@ pub told : (b : Bool) → (b ≡ true) ⊎ (b ≡ false)
 told true = inl refl
 told false = inr refl
 
--- what belongs to an earlier piece is left out
+-- the bytes that belong to an earlier piece are skipped
 pub behind_drop : (in_value : Bool) (n : ℕ) (bytes : List ℕ) → meant_behind in_value n bytes ≡ meant_behind in_value 0 (drop n bytes)
 behind_drop v zero bytes = refl
 behind_drop v (suc n) [] = refl
 behind_drop v (suc n) (b ∷ bytes) = behind_drop v n bytes
 
--- the piece at the front, and what is behind it
+-- the first piece, and the bytes after it
 pub piece_goes : (in_value : Bool) (bytes : List ℕ) (p : Piece) → 0 < length bytes → piece_at in_value (get_or bytes 0 0) (drop 1 bytes) ≡ Some p
     → meant_behind in_value 0 bytes ≡ with_front p.meant (meant_behind in_value 0 (drop (p.more + 1) bytes))
 piece_goes v [] p some is = absurd (omega arith)
@@ -45,7 +45,7 @@ plain_piece : (in_value : Bool) (b : ℕ) (bytes : List ℕ) → is_plain in_val
 unfolding piece_at
 plain_piece v b bytes is = rw is refl
 
--- bytes that stand for themselves
+-- bytes that mean themselves
 pub plain_goes : (in_value : Bool) (bytes : List ℕ) → meant_behind in_value 0 bytes
     ≡ with_front (take (prefix_len (is_plain in_value) bytes) bytes) (meant_behind in_value 0 (drop (prefix_len (is_plain in_value) bytes) bytes))
 plain_goes v [] = refl

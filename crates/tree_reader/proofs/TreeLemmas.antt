@@ -1,7 +1,8 @@
--- What is read is spelled.
+-- Items that are read to the end spell a document.
 use Rattle.std.proofs.Common.{◌≡◌, ℕ, zero, suc, ◌≤◌, Bool, true, false, List, [], ◌∷◌, ◌++◌, Some, Result, Ok, Err, length, inl, inr, refl, sym, ap, ◌∙◌, append_assoc, arith, length-append}
 use Rattle.std.specs.List.{list_all}
-use Rattle.as4_values.specs.Texts.{is_blank, is_xml}
+use Rattle.as4_values.specs.Texts.{is_xml}
+use Rattle.byte_forms.specs.Classes.{is_blank}
 use Rattle.as4_envelope.specs.declared.tree.Element.{Element}
 use Rattle.xml_items.specs.Items.{Tag, Item, declaration, comment, start, finish, run}
 use Rattle.tree_reader.specs.Decoded.{text_meant}
@@ -12,7 +13,7 @@ use Rattle.tree_reader.proofs.TextLemmas.{told}
 use Rattle.tree_reader.proofs.StepLemmas.{ok, then_ok, resolve_name, grown_none, unchanged_ok, step_start, step_text, step_comment, step_finish}
 use Rattle.tree_reader.proofs.SpellLemmas.{at_state, more_text, more_children}
 
--- the items up to the end tag of the innermost element, and those behind it
+-- the items up to the end tag of the innermost element, and those after it
 pub record Closes (levels : ℕ) (o : Begun) (os : List Begun) (items : List Item) (tree : Element) : Type 0 where
   pub content : Content
   pub text : List ℕ
@@ -147,7 +148,7 @@ module _ (levels : ℕ) (tree : Element) where
             (closes n inner.after o₂ os (shorter n items inner.content b.name inner.after (omega arith) inner.whole) inner.runs)
       ]
 
-  -- behind the root
+  -- after the root
 
   outside_with : (x : Item) (xs : List Item) → is_outside x ≡ true → list_all is_outside xs ≡ true → list_all is_outside (x ∷ xs) ≡ true
   outside_with x xs here others = rw (here, others) refl
@@ -255,7 +256,7 @@ module _ (levels : ℕ) (tree : Element) where
     means = r.means;
   }
 
--- what is read to its end is spelled
+-- items that are read to the end spell a document
 pub runs_spells : (levels : ℕ) (items : List Item) (tree : Element) → run_items levels items nothing_read ≡ Ok (done tree) → Spells levels items tree
 unfolding step
 runs_spells levels [] tree e = absurd cc

@@ -1,4 +1,4 @@
--- Bytes are documents of one tree at most, and have one place at most.
+-- Bytes are a document of at most one tree, and have at most one place.
 use Rattle.std.proofs.Common.{◌≡◌, ℕ, List, [], ◌∷◌, ◌++◌, map, length, refl, sym, ap, subst, ◌∙◌, append_assoc, arith}
 use Rattle.as4_envelope.specs.declared.tree.Element.{Element}
 use Rattle.xml_items.specs.Items.{Item}
@@ -21,7 +21,7 @@ one_tree bytes one other first second = halts.one_tree bytes one other (document
 
 -- places
 
--- of two fronts of the same bytes one goes on with the other
+-- of two item prefixes of the same bytes, one extends the other
 pub data Nested (r q : List ℕ) (xs ys : List WrittenItem) : Type 0 where
   goes_on : (more : List WrittenItem) → Cuts r more q → map meaning ys ≡ map meaning xs ++ map meaning more → Nested r q xs ys
   comes_first : (more : List WrittenItem) → Cuts q more r → map meaning xs ≡ map meaning ys ++ map meaning more → Nested r q xs ys
@@ -46,7 +46,7 @@ regrouped : (front whole : List Item) (item : Item) (more last : List Item) → 
 regrouped front whole item more last is =
     ap (λ (l : List Item). l ++ last) is ∙ (append_assoc front (item ∷ more) last ∙ sym (append_assoc front (item ∷ []) (more ++ last)))
 
--- what begins a document begins one before its last items, too
+-- if items begin a document, so does each nonempty prefix of them
 begins_before : (most : ℕ) (front whole : List Item) (item : Item) (more : List Item) → whole ≡ front ++ (item ∷ more) → Begins most whole → Begins most (front ++ item ∷ [])
 begins_before most front whole item more is begins =
     (more ++ begins.0, begins.1, subst (λ (items : List Item). Spells most items begins.1) (regrouped front whole item more begins.0 is) begins.2)

@@ -1,4 +1,4 @@
--- Documents by their bytes, and the place up to which bytes begin one.
+-- Documents by their bytes, and how far bytes begin a document.
 use Rattle.std.specs.Prelude.{Result, Ok, Err, ◌≡◌, ℕ, ◌+◌, ◌<◌, ◌≤◌, List, [], ◌∷◌, ◌++◌, if◌then◌else◌, length, map, take, drop, bytes_eq}
 use Rattle.as4_envelope.specs.declared.tree.Element.{Element}
 use Rattle.xml_items.specs.Grammar.{WrittenItem, print_item, meaning, IsItem}
@@ -6,7 +6,7 @@ use Rattle.tree_reader.specs.Trees.{Spells, Begins}
 use Rattle.tree_reader.specs.declared.stop.TreeRefusal.{TreeRefusal}
 use Rattle.tree_reader.specs.declared.stop.TreeRefusal.TheVariants.{TooLong, Markup, TooDeep, NoMemory}
 
--- how many bytes a document has at most, and how many levels: limits of this reader
+-- the maximum number of bytes and of levels of a document: limits of this reader
 abbrev pub limit : ℕ
 limit = 262144
 
@@ -20,7 +20,7 @@ mark = 0xEF ∷ 0xBB ∷ 0xBF ∷ []
 unfoldable pub behind_mark : List ℕ → List ℕ
 behind_mark bytes = if bytes_eq (take 3 bytes) mark then drop 3 bytes else bytes
 
--- the bytes are these items, and then the rest
+-- the bytes are these items, followed by the rest
 abbrev pub Cuts : List ℕ → List WrittenItem → List ℕ → Type 0
 Cuts bytes [] rest = bytes ≡ rest
 Cuts bytes (item ∷ items) rest = (behind : List ℕ) × IsItem item behind × (bytes ≡ print_item item ++ behind) × Cuts behind items rest
@@ -32,7 +32,7 @@ pub record IsDocument (bytes : List ℕ) (tree : Element) : Type 0 where
   pub cut : Cuts (behind_mark bytes) items []
   pub spelled : Spells levels (map meaning items) tree
 
--- the longest front of whole items that begins a document of at most so many levels ends here
+-- the end of the longest prefix of whole items that begins a document of at most `most` levels
 pub record IsPlace (most : ℕ) (bytes : List ℕ) (at : ℕ) : Type 0 where
   pub items : List WrittenItem
   pub rest : List ℕ
@@ -42,7 +42,7 @@ pub record IsPlace (most : ℕ) (bytes : List ℕ) (at : ℕ) : Type 0 where
   pub longest : (item : WrittenItem) (behind : List ℕ) → IsItem item behind → rest ≡ print_item item ++ behind
       → ¬ (Begins most (map meaning items ++ meaning item ∷ []))
 
--- an item stands here that goes on with a document of one level more
+-- the item at this place continues a document with one more level
 pub record GoesDeeper (bytes : List ℕ) (at : ℕ) : Type 0 where
   pub items : List WrittenItem
   pub item : WrittenItem
@@ -52,7 +52,7 @@ pub record GoesDeeper (bytes : List ℕ) (at : ℕ) : Type 0 where
   pub here : at + length (print_item item ++ behind) ≡ length bytes
   pub begins : Begins (levels + 1) (map meaning items ++ meaning item ∷ [])
 
--- the answer is that tree, unless memory ran out
+-- the result is that tree, unless memory ran out
 abbrev pub IsReadAs : Result Element TreeRefusal → Element → Type 0
 IsReadAs (Ok read) tree = read ≡ tree
 IsReadAs (Err TooLong) tree = ⊥
@@ -60,7 +60,7 @@ IsReadAs (Err (Markup at)) tree = ⊥
 IsReadAs (Err (TooDeep at)) tree = ⊥
 IsReadAs (Err NoMemory) tree = Unit {0}
 
--- what a refusal says: where the longest front ends that begins a document, and whether only the depth is wrong there
+-- what a refusal says: where the longest prefix that begins a document ends, and whether only the depth is wrong there
 abbrev pub NamesPlace : List ℕ → TreeRefusal → Type 0
 NamesPlace bytes TooLong = limit < length bytes
 NamesPlace bytes (Markup at) = IsPlace levels bytes at × IsPlace (levels + 1) bytes at

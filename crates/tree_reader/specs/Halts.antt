@@ -1,4 +1,4 @@
--- What the loop over items has read, and where it halts.
+-- What the loop over items has read, and where it stops.
 use Rattle.std.specs.Borrow.{Bor}
 use Rattle.std.specs.List.{AllByRecursion}
 use Rattle.std.specs.Prelude.{◌≡◌, ◌⊎◌, ℕ, List, [], ◌∷◌, ◌++◌, Some, None, Result, Ok, Err, length, map}
@@ -16,13 +16,13 @@ use Rattle.tree_reader.specs.declared.stop.TreeRefusal.{TreeRefusal}
 use Rattle.tree_reader.specs.declared.stop.TreeRefusal.TheVariants.{Markup, TooDeep, NoMemory}
 use Rattle.tree_reader.specs.declared.read.Halt.{Halt}
 
--- the items up to the rest were read, and this came of them
+-- reading the items before the rest gave this state
 pub record Reached (bytes : List ℕ) (state : State) (rest : List ℕ) : Type 0 where
   pub items : List WrittenItem
   pub cut : Cuts bytes items rest
   pub runs : run_items levels (map meaning items) nothing_read ≡ Ok state
 
--- the open elements have names: at least one byte, and each of a name
+-- the open elements have names: at least one byte, all of them name bytes
 abbrev pub AreNames : List Begun → Type 0
 AreNames os = AllByRecursion (λ o. IsSome is_name_byte o.name) os
 
@@ -35,25 +35,25 @@ abbrev pub IsEndOf : List Begun → List ℕ → List ℕ → Type 0
 IsEndOf [] bytes behind = ⊥
 IsEndOf (o ∷ os) bytes behind = bytes ≡ print_item (end_tag o.name []) ++ behind
 
--- the item at the front of the rest, and what it makes of what was read
+-- the first item of the rest, and the result of its step
 pub record Meets (state : State) (rest : List ℕ) (answer : Result State Fault) (behind : List ℕ) : Type 0 where
   pub item : Item
   pub here : item_at rest ≡ Some (item, behind)
   pub gives : step levels item state ≡ answer
 
--- one item was read, or this is why not
+-- one item was read, or the reason why not
 abbrev pub Advances : Result (Bor (List ℕ)) Stop → State → State → List ℕ → Type 0
 Advances (Ok behind) old new rest = Meets old rest (Ok new) behind.now
 Advances (Err stops.Memory) old new rest = Unit {0}
 Advances (Err stops.Markup) old new rest = (item_at rest ≡ None) ⊎ ((behind : List ℕ) × Meets old rest (Err markup) behind)
 Advances (Err stops.TooDeep) old new rest = (behind : List ℕ) × Meets old rest (Err too_deep) behind
 
--- whether the root was read to its end
+-- whether the root is complete
 abbrev pub IsDone : State → Type 0
 IsDone (within first os) = ⊥
 IsDone (done root) = Unit {0}
 
--- where it halts
+-- why the loop stopped at this rest
 abbrev pub HaltsBy : Stop → State → List ℕ → Type 0
 HaltsBy stops.Memory state rest = Unit {0}
 HaltsBy stops.Markup state rest =
@@ -67,7 +67,7 @@ pub record HaltsAt (bytes : List ℕ) (stop : Stop) (left : ℕ) : Type 0 where
   pub left_is : left ≡ length rest
   pub by : HaltsBy stop state rest
 
--- all items were read, or this is why not
+-- all items were read, or the reason why not
 abbrev pub Halts : Result Element Halt → List ℕ → Type 0
 Halts (Ok tree) bytes = Reached bytes (done tree) []
 Halts (Err halt) bytes = HaltsAt bytes halt.stop halt.left

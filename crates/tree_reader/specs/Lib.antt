@@ -1,3 +1,4 @@
+-- How the bytes of a document are read into a tree: steps, names, texts, scopes, trees and halts.
 pub mod Steps
 pub mod Names
 pub mod Decoded

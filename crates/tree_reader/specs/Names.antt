@@ -6,27 +6,27 @@ use Rattle.std.specs.Char.{is_ascii_alphabetic}
 use Rattle.std.specs.Str.{is_utf8}
 use Rattle.tree_reader.specs.Steps.{given}
 
--- a name's first byte
+-- the first byte of a name
 abbrev pub is_name_start : ℕ → Bool
 is_name_start b = is_ascii_alphabetic b || (b == 95) || nat_le 128 b
 
 abbrev pub is_colon : ℕ → Bool
 is_colon b = b == 58
 
--- a byte of ASCII that is no colon
+-- an ASCII byte other than a colon
 abbrev pub is_simple : ℕ → Bool
 is_simple b = nat_lt b 128 && not (is_colon b)
 
--- a name without a prefix, of bytes of names
+-- a name without a prefix, given name bytes
 unfoldable pub is_local_name : List ℕ → Bool
 is_local_name name = is_name_start (slice_index name 0) && not (list_any is_colon name) && is_utf8 name
 
--- a name as it is written: the prefix is empty where there is none
+-- a name as written; the prefix is empty if there is none
 pub record Qualified : Type 0 where
   pub prefix : List ℕ
   pub local : List ℕ
 
--- the parts round the colon at this place
+-- the parts before and after the colon at this index
 abbrev pub parted : List ℕ → Option ℕ → Option Qualified
 parted name None = given (is_local_name name) (Some (record { prefix = []; local = name }))
 parted name (Some at) =

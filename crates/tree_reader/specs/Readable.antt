@@ -13,7 +13,7 @@ use Rattle.tree_reader.specs.Scopes.{is_empty, binds_default}
 unfoldable pub is_name : List ℕ → Bool
 is_name name = is_local_name name && list_all is_name_byte name
 
--- an attribute in no namespace isn't named as the default namespace is declared
+-- the attribute's local name is a name, and isn't `xmlns` in no namespace
 unfoldable pub is_named_attribute : Attribute → Bool
 is_named_attribute a = is_name a.local && not (is_empty a.space && binds_default a.local)
 

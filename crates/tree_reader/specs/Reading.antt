@@ -1,23 +1,24 @@
--- What an item makes of what was read: the stack of open elements.
+-- The effect of an item on the state of reading: the stack of open elements.
 use Rattle.std.specs.Prelude.{ℕ, List, [], ◌∷◌, ◌++◌, Bool, true, false, if◌then◌else◌, nat_lt, Option, Some, None, Result, Ok, Err, length, bytes_eq}
 use Rattle.std.specs.List.{list_all}
-use Rattle.as4_values.specs.Texts.{is_blank, is_xml}
+use Rattle.as4_values.specs.Texts.{is_xml}
+use Rattle.byte_forms.specs.Classes.{is_blank}
 use Rattle.as4_envelope.specs.declared.tree.Element.{Element}
 use Rattle.xml_items.specs.Items.{Item, declaration, comment, start, finish, run}
 use Rattle.tree_reader.specs.Decoded.{text_meant}
 use Rattle.tree_reader.specs.Scopes.{Begun, element_of, scope_of, resolve}
 
--- why an item doesn't go on: it doesn't stand in its place, or it is a start tag that is right but for its depth
+-- why an item is no step: it isn't allowed at its place, or it is a start tag that is right but too deep
 pub data Fault : Type 0 where
   markup : Fault
   too_deep : Fault
 
--- the open elements, innermost first, and whether nothing was read yet; or the root, behind its end
+-- the open elements, innermost first, and whether nothing was read yet; or the complete root
 pub data State : Type 0 where
   within : Bool → List Begun → State
   done : Element → State
 
--- an element that is complete, in those round it
+-- puts a complete element into the innermost of those around it
 abbrev pub placed : Element → List Begun → State
 placed e [] = done e
 placed e (o ∷ os) = within false (record o { children = o.children ++ e ∷ [] } ∷ os)
@@ -26,7 +27,7 @@ abbrev pub opened : Bool → Begun → List Begun → State
 opened true o os = placed (element_of o) os
 opened false o os = within false (o ∷ os)
 
--- the innermost element, which is complete, in those round it
+-- completes the innermost element
 abbrev pub completed : List Begun → Result State Fault
 completed [] = Err markup
 completed (o ∷ os) = Ok (placed (element_of o) os)
@@ -39,7 +40,7 @@ abbrev pub with_text : Begun → List Begun → Option (List ℕ) → Result Sta
 with_text o os None = Err markup
 with_text o os (Some text) = Ok (within false (record o { text = o.text ++ text } ∷ os))
 
--- something was read
+-- records that something was read
 abbrev pub later : State → State
 later (within first os) = within false os
 later (done root) = done root
@@ -47,7 +48,7 @@ later (done root) = done root
 abbrev pub unchanged : Bool → State → Result State Fault
 unchanged right state = if right then Ok (later state) else Err markup
 
--- an item, where at most so many elements may be open
+-- the step of an item, with at most n elements open
 unfoldable pub step : ℕ → Item → State → Result State Fault
 step levels declaration (within first os) = unchanged first (within first os)
 step levels declaration (done root) = Err markup
@@ -65,7 +66,7 @@ abbrev pub then_run : Result State Fault → (State → Result State Fault) → 
 then_run (Ok state) f = f state
 then_run (Err fault) f = Err fault
 
--- items, one after another
+-- the steps of items, in sequence
 abbrev pub run_items : ℕ → List Item → State → Result State Fault
 run_items levels [] state = Ok state
 run_items levels (item ∷ items) state = then_run (step levels item state) (run_items levels items)

@@ -1,4 +1,4 @@
--- Prefixes and what they stand for (Namespaces in XML 1.0, sections 2 to 6).
+-- Prefixes and their namespaces (Namespaces in XML 1.0, sections 2 to 6).
 use Rattle.std.specs.Prelude.{ℕ, ◌∷◌, List, [], ◌++◌, Bool, true, not, ◌&&◌, ◌||◌, ◌==◌, if◌then◌else◌, Option, Some, None, length, take, drop, bytes_eq, codes}
 use Rattle.std.specs.List.{list_any, flat_map}
 use Rattle.as4_envelope.specs.declared.tree.Attribute.{Attribute}
@@ -21,12 +21,12 @@ xmlns_space = codes "http://www.w3.org/2000/xmlns/"
 abbrev pub is_empty : List ℕ → Bool
 is_empty bytes = length bytes == 0
 
--- a prefix, empty for names without one, and the namespace that it stands for
+-- a prefix, empty for names without one, and its namespace
 pub record Binding : Type 0 where
   pub prefix : List ℕ
   pub space : List ℕ
 
--- whether the prefix may stand for the namespace (section 3, "Reserved Prefixes", and section 2.2)
+-- whether the prefix may be bound to the namespace (section 3, "Reserved Prefixes", and section 2.2)
 unfoldable pub may_bind : List ℕ → List ℕ → Bool
 may_bind prefix space =
     not (bytes_eq prefix (codes "xmlns")) && not (bytes_eq space xmlns_space)
@@ -45,19 +45,19 @@ bound prefix value =
     value_meant value >>= λ space.
     given (may_bind prefix space) (Some (record { prefix = prefix; space = space } ∷ []))
 
--- what an attribute binds, if it is a declaration
+-- the binding of an attribute, if it is a declaration
 unfoldable pub declared_by : Written → Option (List Binding)
 declared_by a =
     if binds_default a.name then bound [] a.value
     else if binds_prefix a.name then given (is_local_name (drop 6 a.name)) (bound (drop 6 a.name) a.value)
     else Some []
 
--- what the nearest declaration binds the prefix to
+-- the namespace to which the nearest declaration binds the prefix
 abbrev pub found : List Binding → List ℕ → Option (List ℕ)
 found [] prefix = None
 found (b ∷ scope) prefix = if bytes_eq b.prefix prefix then Some b.space else found scope prefix
 
--- names without a prefix are in no namespace where none binds them
+-- a name without a prefix is in no namespace if no declaration binds it
 abbrev pub or_none : List ℕ → Option (List ℕ) → Option (List ℕ)
 or_none prefix None = given (is_empty prefix) (Some [])
 or_none prefix (Some space) = Some space
@@ -70,7 +70,7 @@ element_space scope prefix = if bytes_eq prefix (codes "xml") then Some xml_spac
 unfoldable pub attribute_space : List Binding → List ℕ → Option (List ℕ)
 attribute_space scope prefix = if is_empty prefix then Some [] else element_space scope prefix
 
--- the attribute of the tree, if it is no declaration
+-- the attribute of the tree, unless it is a declaration
 unfoldable pub attribute_by : List Binding → Written → Option (List Attribute)
 attribute_by scope a =
     if binds_default a.name || binds_prefix a.name then Some []
@@ -80,7 +80,7 @@ attribute_by scope a =
     value_meant a.value >>= λ value.
     Some (record { space = space; local = q.local; value = value } ∷ [])
 
--- no two have one written name (XML 1.0, section 3.1)
+-- no two attributes have the same written name (XML 1.0, section 3.1)
 abbrev pub same_written : Written → Written → Bool
 same_written a b = bytes_eq a.name b.name
 
@@ -88,7 +88,7 @@ abbrev pub written_differ : List Written → Bool
 written_differ [] = true
 written_differ (a ∷ others) = not (list_any (same_written a) others) && written_differ others
 
--- an open element: its written name, what its tag declares, and what it has so far
+-- an open element: its written name, the declarations of its tag, and its content so far
 pub record Begun : Type 0 where
   pub name : List ℕ
   pub declared : List Binding
@@ -98,7 +98,7 @@ pub record Begun : Type 0 where
   pub text : List ℕ
   pub children : List Element
 
--- the innermost element, with these bytes at the end of its local name
+-- the open elements, with these bytes appended to the local name of the innermost
 abbrev pub named : List ℕ → List Begun → List Begun
 named local [] = []
 named local (o ∷ os) = record o { local = o.local ++ local } ∷ os
@@ -106,11 +106,11 @@ named local (o ∷ os) = record o { local = o.local ++ local } ∷ os
 abbrev pub element_of : Begun → Element
 element_of o = roll-Element (record { space = o.space; local = o.local; attributes = o.attributes; text = o.text; children = o.children })
 
--- what is declared in these elements, innermost first
+-- the declarations of these elements, innermost first
 abbrev pub scope_of : List Begun → List Binding
 scope_of os = flat_map (λ o. o.declared) os
 
--- the element that a start tag begins in a scope (section 6; two attributes with one expanded name: section 6.3)
+-- the element that a start tag begins in a scope (section 6; no two attributes have one expanded name: section 6.3)
 unfoldable pub resolve : List Binding → List ℕ → List Written → Option Begun
 resolve scope name attributes =
     given (written_differ attributes) (

@@ -1,14 +1,15 @@
--- Which lists of items are a document (XML 1.0, sections 2.1, 2.4, 2.8 and 3; Namespaces in XML 1.0): a tree as it is
--- written, and the tree that it means, by recursion on what is written.
+-- Which lists of items are a document (XML 1.0, sections 2.1, 2.4, 2.8 and 3; Namespaces in XML 1.0): a written tree,
+-- and the tree that it means, by recursion on the written one.
 use Rattle.std.specs.Prelude.{◌≡◌, ℕ, suc, ◌<◌, List, [], ◌∷◌, ◌++◌, Bool, true, false, if◌then◌else◌, Some}
 use Rattle.std.specs.List.{list_all}
-use Rattle.as4_values.specs.Texts.{is_blank, is_xml}
+use Rattle.as4_values.specs.Texts.{is_xml}
+use Rattle.byte_forms.specs.Classes.{is_blank}
 use Rattle.as4_envelope.specs.declared.tree.Element.{Element}
 use Rattle.xml_items.specs.Items.{Written, Item, declaration, comment, start, finish, run}
 use Rattle.tree_reader.specs.Decoded.{text_meant}
 use Rattle.tree_reader.specs.Scopes.{Binding, Begun, element_of, resolve}
 
--- an element as it is written, with two tags or with one, and what stands between two tags
+-- a written element, with two tags or with one, and the content between two tags
 mutual
   pub data Node : Type 0 where
     node : List ℕ → List Written → Content → Node
@@ -20,7 +21,7 @@ mutual
     comment_then : List ℕ → Content → Content
     node_then : Node → Content → Content
 
--- the items of an element, and of a content
+-- the items of an element and of its content
 abbrev mutual
   pub items_of : Node → List Item
   items_of (node name attributes content) = start (record { name = name; attributes = attributes; closed = false }) ∷ (items_in content ++ finish name ∷ [])
@@ -32,19 +33,19 @@ abbrev mutual
   items_in (comment_then text content) = comment text ∷ items_in content
   items_in (node_then n content) = items_of n ++ items_in content
 
--- the texts of a content mean this text, joined; its comments are of characters of XML
+-- the joined meaning of the content's texts; comments must be characters of XML
 abbrev pub HasText : Content → List ℕ → Type 0
 HasText nothing text = text ≡ []
 HasText (text_then bytes content) text = (front back : List ℕ) × (text_meant bytes ≡ Some front) × HasText content back × (text ≡ front ++ back)
 HasText (comment_then bytes content) text = (is_xml bytes ≡ true) × HasText content text
 HasText (node_then n content) text = HasText content text
 
--- what an open element is with its content
+-- an open element with this content added
 abbrev pub grown : Begun → List ℕ → List Element → Begun
 grown o text children = record o { text = o.text ++ text; children = o.children ++ children }
 
--- the element that a written one means in a scope, with so many elements round it and at most so many levels in all;
--- and the elements of a content
+-- the element that a written one means in a scope, with `above` elements around it and at most `levels` levels in all;
+-- and the elements of its content
 abbrev mutual
   pub IsTree : ℕ → ℕ → List Binding → Node → Element → Type 0
   IsTree levels above scope (node name attributes content) e =
@@ -61,7 +62,7 @@ abbrev mutual
   AreTrees levels above scope (node_then n content) es =
       (e : Element) × (others : List Element) × IsTree levels above scope n e × AreTrees levels above scope content others × (es ≡ e ∷ others)
 
--- what may stand round the root: comments and blanks (section 2.8)
+-- what may surround the root: comments and blanks (section 2.8)
 unfoldable pub is_outside : Item → Bool
 is_outside declaration = false
 is_outside (comment text) = is_xml text
@@ -72,7 +73,7 @@ is_outside (run bytes) = list_all is_blank bytes
 abbrev pub opening : Bool → List Item
 opening declared = if declared then declaration ∷ [] else []
 
--- the items spell a document of this tree, in at most so many levels
+-- the items spell a document of this tree with at most n levels
 pub record Spells (levels : ℕ) (items : List Item) (tree : Element) : Type 0 where
   pub declared : Bool
   pub before : List Item
@@ -83,6 +84,6 @@ pub record Spells (levels : ℕ) (items : List Item) (tree : Element) : Type 0 w
   pub outside_after : list_all is_outside after ≡ true
   pub means : IsTree levels 0 [] root tree
 
--- some document goes on like this
+-- some document continues these items
 abbrev pub Begins : ℕ → List Item → Type 0
 Begins levels items = (more : List Item) × (tree : Element) × Spells levels (items ++ more) tree

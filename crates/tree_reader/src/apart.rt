@@ -1,4 +1,4 @@
-//! Whether names differ, in time that their number doesn't square.
+//! Whether names are distinct, in less than quadratic time.
 
 ghost use Rattle.std.specs.Prelude.{◌≡◌, IfOk, map};
 ghost use Rattle.std.specs.List.{list_any};
@@ -11,10 +11,10 @@ use as4_envelope::Attribute;
 use std::alloc::{AllocError, Global};
 use xml_items::RawAttribute;
 
-/// So many names are compared in pairs, and more are put in order.
+/// Up to this many names are compared in pairs; more are sorted.
 const FEW: usize = 16;
 
-/// Whether no two attributes have one written name.
+/// Whether no two attributes have the same written name.
 pub(crate) fn written_differ(
     alloc: Global,
     attributes: &[RawAttribute<'_>],
@@ -31,7 +31,7 @@ pub(crate) fn written_differ(
     Ok(all_differ(names.as_mut_slice()))
 }
 
-/// Whether no two attributes have one expanded name. Most tags have fewer than two.
+/// Whether no two attributes have the same expanded name. Most tags have fewer than two attributes.
 #[inline(always)]
 pub(crate) fn names_differ(alloc: Global, attributes: &[Attribute]) -> Result<bool, AllocError>
     ensures { IfOk result (λ differ. differ ≡ names_differ attributes.now) }
@@ -42,7 +42,7 @@ pub(crate) fn names_differ(alloc: Global, attributes: &[Attribute]) -> Result<bo
     }
 }
 
-/// The same of any number. It stands apart, so that what `names_differ` inlines stays small.
+/// The same for any number. A separate function keeps the inlined code of `names_differ` small.
 #[inline(never)]
 fn several_names_differ(alloc: Global, attributes: &[Attribute]) -> Result<bool, AllocError>
     ensures { IfOk result (λ differ. differ ≡ names_differ attributes.now) }
@@ -57,7 +57,7 @@ fn several_names_differ(alloc: Global, attributes: &[Attribute]) -> Result<bool,
     Ok(all_differ(names.as_mut_slice()))
 }
 
-/// Whether no two of the names are the same. It puts them in order.
+/// Whether the names are distinct. Sorts them.
 fn all_differ(names: &mut [(&[u8], &[u8])]) -> bool
     ensures { result ≡ differ same_parts (map parts_of names.old) }
 {
@@ -82,7 +82,7 @@ fn few_written_differ(attributes: &[RawAttribute<'_>]) -> bool
     true
 }
 
-/// Whether one of the attributes has the written name of this one.
+/// Whether one of the attributes has the same written name as this one.
 fn is_written(attributes: &[RawAttribute<'_>], like: RawAttribute<'_>) -> bool
     ensures { result ≡ list_any (same_written (written_of like.entry)) (map written_of attributes.now) }
 {
@@ -105,7 +105,7 @@ fn few_names_differ(attributes: &[Attribute]) -> bool
     true
 }
 
-/// Whether one of the attributes has the expanded name of this one.
+/// Whether one of the attributes has the same expanded name as this one.
 fn is_named(attributes: &[Attribute], like: &Attribute) -> bool
     ensures { result ≡ list_any (same_name like.now) attributes.now }
 {

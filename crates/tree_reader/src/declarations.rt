@@ -1,4 +1,4 @@
-//! Declarations of namespaces, as a tag makes them (Namespaces in XML 1.0, section 3).
+//! Namespace declarations of a tag (Namespaces in XML 1.0, section 3).
 
 ghost use Rattle.std.specs.Prelude.{◌≡◌, map, IfOk};
 ghost use Rattle.std.specs.Option.{option_map};
@@ -10,22 +10,22 @@ use std::alloc::{AllocError, Global};
 use std::collections::BTreeMap;
 use std::marker::Model;
 
-/// A declaration of a namespace.
+/// A namespace declaration.
 #[derive(Drop)]
 pub(crate) struct Declared<'a> {
-    /// Empty where names without a prefix are meant.
+    /// Empty for names without a prefix.
     pub prefix: &'a [u8],
     pub space: TreeBytes,
 }
 
-/// So many declarations are searched one after another, and more have an index.
+/// Up to this many declarations are searched in order; more have an index.
 const FEW: usize = 8;
 
-/// What a tag declares, in order.
+/// The declarations of a tag, in order.
 #[derive(Drop)]
 pub(crate) struct Declarations<'a> {
     list: Vec<Declared<'a>>,
-    /// Where the first with a prefix stands, if there are more than a few.
+    /// The index of the first declaration of each prefix, if there are more than a few.
     index: Option<Box<BTreeMap<&'a [u8], usize>>>,
 }
 
@@ -55,7 +55,7 @@ impl<'a> Declarations<'a> {
         })
     }
 
-    /// What the first of them with this prefix binds it to.
+    /// The namespace in the first declaration of this prefix.
     #[inline(always)]
     pub(crate) fn found(&self, prefix: &'a [u8]) -> Option<&TreeBytes>
         ensures { option_map (λ x. x.now) result ≡ found self.now prefix.now }
@@ -67,7 +67,7 @@ impl<'a> Declarations<'a> {
     }
 }
 
-/// Where the first with each prefix stands.
+/// The index of the first declaration of each prefix.
 fn index_of<'a>(
     alloc: Global,
     list: &[Declared<'a>],
@@ -83,7 +83,7 @@ fn index_of<'a>(
     Ok(index)
 }
 
-/// The same as `found_in`, by the index. It stands apart, so that what `found` inlines stays small.
+/// Like `found_in`, but uses the index. A separate function keeps the inlined code of `found` small.
 #[inline(never)]
 fn found_by<'s, 'a>(
     index: &BTreeMap<&'a [u8], usize>,
@@ -98,7 +98,7 @@ fn found_by<'s, 'a>(
     Some(&binding.space)
 }
 
-/// What the first of the declarations binds the prefix to.
+/// The namespace to which the first of the declarations binds the prefix.
 fn found_in<'s>(declared: &'s [Declared<'_>], prefix: &[u8]) -> Option<&'s TreeBytes>
     ensures { option_map (λ x. x.now) result ≡ found (map binding_of declared.now) prefix.now }
 {

@@ -7,15 +7,15 @@ ghost use Rattle.std.specs.Str.{is_utf8};
 ghost use Rattle.tree_reader.specs.Names.{is_colon, is_simple, is_name_start, is_local_name, qualified};
 ghost use Rattle.tree_reader.specs.Views.{qualified_of};
 
-/// A name as it is written.
+/// A name as written.
 #[derive(Clone, Copy)]
 pub(crate) struct SplitName<'a> {
-    /// Empty where there is none.
+    /// Empty if there is none.
     pub prefix: &'a [u8],
     pub local: &'a [u8],
 }
 
-/// The parts of a name, which is of bytes of names.
+/// Splits a name, which consists of name bytes.
 #[tactic(auto, unfolding(crate::specs::Names::qualified))]
 pub(crate) fn qualified(name: &[u8]) -> Option<SplitName<'_>>
     ensures { option_map qualified_of result ≡ qualified name.now }
@@ -46,7 +46,7 @@ fn colon_at(name: &[u8]) -> Option<usize>
     name.iter().position(|byte| *byte == b':')
 }
 
-/// Whether bytes of names are a name without a prefix.
+/// Whether name bytes are a name without a prefix.
 #[tactic(auto, unfolding(crate::specs::Names::is_local_name))]
 pub(crate) fn is_local_name(name: &[u8]) -> bool
     ensures { result ≡ is_local_name name.now }
@@ -60,7 +60,7 @@ pub(crate) fn is_local_name(name: &[u8]) -> bool
     is_name_start(*first) && !name.contains(&b':') && is_utf8(name)
 }
 
-/// Whether all bytes are of ASCII, and none is a colon. It has no early exit, so that many bytes are tested at once.
+/// Whether all bytes are ASCII and none is a colon. There is no early exit, so that many bytes are tested at once.
 fn is_simple(name: &[u8]) -> bool
     ensures { result ≡ list_all is_simple name.now }
 {

@@ -1,4 +1,4 @@
-//! Documents, read item by item.
+//! Reads documents, item by item.
 
 ghost use Rattle.std.specs.Prelude.{◌≡◌, ◌↔◌, ◌<◌, ◌≤◌, ◌-◌, IfOk, IfErr, Err, length};
 ghost use Rattle.as4_envelope.specs.declared.tree.Element.{Element};
@@ -12,12 +12,12 @@ use as4_envelope::Element;
 use std::alloc::Global;
 use xml_items::{RawAttribute, next_item};
 
-/// How many bytes a document has at most.
+/// The maximum number of bytes of a document.
 pub const MAX_BYTES: usize = 262_144;
 
 /// The tree of a document (XML 1.0, Fifth Edition, sections 2 to 4; Namespaces in XML 1.0) in UTF-8, of at most
-/// `MAX_BYTES` bytes and `MAX_DEPTH` levels; a byte order mark may come first. Document types, CDATA sections and
-/// processing instructions are refused, and of entities there are the five that need no declaration.
+/// `MAX_BYTES` bytes and `MAX_DEPTH` levels. A byte order mark may come first. Document types, CDATA sections and
+/// processing instructions are refused. The only entities are the five predefined ones.
 pub fn read_tree(alloc: Global, bytes: &[u8]) -> Result<Element, TreeRefusal>
     ensures too_long { (result ≡ Err TreeRefusal.TooLong) ↔ (limit < length bytes.now) }
     ensures ok { IfOk result (IsDocument bytes.now) }
@@ -33,7 +33,7 @@ pub fn read_tree(alloc: Global, bytes: &[u8]) -> Result<Element, TreeRefusal>
     }
 }
 
-/// What follows the byte order mark, if there is one.
+/// The bytes after the byte order mark, if there is one.
 #[tactic(auto, unfolding(crate::specs::Documents::behind_mark))]
 fn behind_mark(bytes: &[u8]) -> &[u8]
     ensures { result.now ≡ behind_mark bytes.now }
@@ -44,14 +44,14 @@ fn behind_mark(bytes: &[u8]) -> &[u8]
     }
 }
 
-/// Where reading halts, by how many bytes are left, and why.
+/// Where reading stops, by the number of bytes left, and why.
 #[derive(Clone, Copy)]
 struct Halt {
     stop: Stop,
     left: usize,
 }
 
-/// What a halt says of a document of so many bytes.
+/// The refusal for a halt in a document of this length.
 fn refusal(halt: Halt, len: usize) -> TreeRefusal
     requires { halt.left ≤ len }
     ensures { result ≡ refusal_of halt.stop (len - halt.left) }
@@ -64,7 +64,7 @@ fn refusal(halt: Halt, len: usize) -> TreeRefusal
     }
 }
 
-/// The tree of all items.
+/// Reads all items into a tree.
 fn read_items(alloc: Global, bytes: &[u8]) -> Result<Element, Halt>
     ensures halts { Halts result bytes.now }
     ensures within { IfErr result (λ halt. halt.left ≤ length bytes.now) }
@@ -103,7 +103,7 @@ const UNFINISHED: Halt = Halt {
     left: 0,
 };
 
-/// Reads the item at the front, and gives what stands behind it. The attributes are room for those of its tag.
+/// Reads the first item, and returns the bytes after it. The attributes are room for those of its tag.
 #[inline(always)]
 fn advance<'a>(
     alloc: Global,

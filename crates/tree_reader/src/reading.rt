@@ -1,8 +1,9 @@
-//! What an item makes of what was read.
+//! The effect of an item on the state of reading.
 
 ghost use Rattle.std.specs.Prelude.{◌≡◌, map, None, Ok, IfSome};
 ghost use Rattle.std.specs.List.{list_all};
-ghost use Rattle.as4_values.specs.Texts.{is_blank, is_xml};
+ghost use Rattle.as4_values.specs.Texts.{is_xml};
+ghost use Rattle.byte_forms.specs.Classes.{is_blank};
 ghost use Rattle.xml_items.specs.Raw.{item_of, written_of};
 ghost use Rattle.xml_items.specs.Items.{run, start, finish, comment, declaration};
 ghost use Rattle.tree_reader.specs.Halts.{IsEndOf};
@@ -15,21 +16,22 @@ use crate::stop::Stop;
 use crate::text::{is_xml, push_text};
 use as4_envelope::{Element, MAX_DEPTH};
 use as4_values::Seq;
+use byte_forms::is_blank;
 use std::alloc::Global;
 use xml_items::{RawAttribute, RawItem};
 
-/// What was read.
+/// The state of reading.
 #[derive(Drop)]
 pub(crate) struct Reading<'a> {
     /// Whether nothing was read yet.
     pub first: bool,
-    /// The elements whose end tags haven't come, the root first.
+    /// The open elements, the root first.
     pub open: Vec<Open<'a>>,
-    /// The root, behind its end.
+    /// The root, once it is complete.
     pub root: Option<Element>,
 }
 
-/// Takes what was read on by one item. Behind an `Err` nothing is said of it.
+/// Advances by one item. After an `Err` the state is unspecified.
 pub(crate) fn read_item<'a>(
     alloc: Global,
     reading: &mut Reading<'a>,
@@ -43,7 +45,7 @@ pub(crate) fn read_item<'a>(
     Ok(())
 }
 
-/// The same, but for the mark that something was read.
+/// The same, except that `first` is unchanged.
 fn read_in_place<'a>(
     alloc: Global,
     reading: &mut Reading<'a>,
@@ -78,7 +80,7 @@ fn read_comment(reading: &Reading<'_>, text: &[u8]) -> Result<(), Stop>
     unchanged(reading, is_xml(text))
 }
 
-/// The same as before, if the item is right.
+/// Leaves the state as it is, if the item is right.
 fn unchanged(reading: &Reading<'_>, right: bool) -> Result<(), Stop>
     ensures { Makes result (unchanged right (state_of reading.now)) (later (state_of reading.now)) }
 {
@@ -102,13 +104,6 @@ fn is_all_blank(bytes: &[u8]) -> bool
     ensures { result ≡ list_all is_blank bytes.now }
 {
     bytes.iter().all(|byte| is_blank(*byte))
-}
-
-/// Whether a byte is a space, a tab or the end of a line (XML 1.0, section 2.3).
-fn is_blank(byte: u8) -> bool
-    ensures { result ≡ is_blank byte }
-{
-    matches!(byte, b' ' | b'\t' | b'\n' | b'\r')
 }
 
 #[tactic(auto, unfolding(crate::specs::Reading::step))]
@@ -150,8 +145,8 @@ fn read_end(reading: &mut Reading<'_>, name: &[u8]) -> Result<(), Stop>
     close(reading)
 }
 
-/// What stands behind the end tag of the innermost element, if that stands in front and has no blanks. Its name is known,
-/// so that it isn't looked for.
+/// The bytes after the innermost element's end tag, if the bytes begin with that tag, written without blanks. The name
+/// is known, so it needs no search.
 pub(crate) fn behind_end<'a>(reading: &Reading<'_>, bytes: &'a [u8]) -> Option<&'a [u8]>
     ensures inside { IfSome result (λ _. reading.now.root ≡ None) }
     ensures tag { IfSome result (λ behind. IsEndOf (stack_of reading.now.open.items) bytes.now behind.now) }
@@ -166,7 +161,7 @@ pub(crate) fn behind_end<'a>(reading: &Reading<'_>, bytes: &'a [u8]) -> Option<&
     Some(behind)
 }
 
-/// Reads the end tag of the innermost element, which stands in front.
+/// Reads the end tag of the innermost element, which is next.
 pub(crate) fn read_known_end(reading: &mut Reading<'_>) -> Result<(), Stop>
     requires { reading.old.root ≡ None }
     ensures { Makes result (completed (stack_of reading.old.open.items)) (state_of reading.new) }
@@ -176,7 +171,7 @@ pub(crate) fn read_known_end(reading: &mut Reading<'_>) -> Result<(), Stop>
     Ok(())
 }
 
-/// Puts the innermost element, which is complete, into those round it.
+/// Completes the innermost element.
 fn close(reading: &mut Reading<'_>) -> Result<(), Stop>
     requires { reading.old.root ≡ None }
     ensures { Makes result (completed (stack_of reading.old.open.items)) (later (state_of reading.new)) }
@@ -187,7 +182,7 @@ fn close(reading: &mut Reading<'_>) -> Result<(), Stop>
     place(reading, element_of(open))
 }
 
-/// Puts an element that is complete into those round it.
+/// Puts a complete element into the innermost of those around it.
 fn place(reading: &mut Reading<'_>, element: Element) -> Result<(), Stop>
     requires { reading.old.root ≡ None }
     ensures { Makes result (Ok (placed element (stack_of reading.old.open.items))) (later (state_of reading.new)) }
@@ -199,7 +194,7 @@ fn place(reading: &mut Reading<'_>, element: Element) -> Result<(), Stop>
     Ok(())
 }
 
-/// The element, behind its end.
+/// The complete element.
 fn element_of(open: Open<'_>) -> Element
     ensures { result ≡ element_of (begun_of open.entry) }
 {

@@ -1,4 +1,4 @@
-//! Prefixes and what they stand for (Namespaces in XML 1.0, sections 2 to 6).
+//! Prefixes and their namespaces (Namespaces in XML 1.0, sections 2 to 6).
 
 ghost use Rattle.std.specs.Prelude.{◌≡◌, ◌++◌, map, IsTrue, IfErr, OnOk, ◌≤◌, length, [], ◌∷◌};
 ghost use Rattle.std.specs.Option.{option_map, option_to_list};
@@ -25,10 +25,10 @@ const XML: &[u8] = b"http://www.w3.org/XML/1998/namespace";
 /// The namespace of the prefix `xmlns`.
 const XMLNS: &[u8] = b"http://www.w3.org/2000/xmlns/";
 
-/// An element whose end tag hasn't come yet.
+/// An open element.
 #[derive(Drop)]
 pub(crate) struct Open<'a> {
-    /// As it is written.
+    /// As written.
     pub name: &'a [u8],
     pub declared: Declarations<'a>,
     pub space: TreeBytes,
@@ -38,7 +38,7 @@ pub(crate) struct Open<'a> {
     pub children: Vec<Element>,
 }
 
-/// Opens the element that a start tag begins inside those of `around`, the innermost of which is the last.
+/// Opens the element that a start tag begins inside those of `around`, the last of which is the innermost.
 #[tactic(auto, unfolding(crate::specs::Scopes::resolve), using(crate::proofs::ScopeLemmas::stack_push))]
 pub(crate) fn resolve<'a>(
     alloc: Global,
@@ -78,7 +78,7 @@ pub(crate) fn resolve<'a>(
     put_local(alloc, around, written.local)
 }
 
-/// Puts the local name of the innermost element right where it stays.
+/// Appends the local name to the innermost element in place, without a copy.
 fn put_local(alloc: Global, around: &mut Vec<Open<'_>>, local: &[u8]) -> Result<(), Stop>
     ensures ok { OnOk result (stack_of around.new.items ≡ named local.now (stack_of around.old.items)) }
     ensures err { IfErr result (λ stop. stop ≡ Memory) }
@@ -89,14 +89,14 @@ fn put_local(alloc: Global, around: &mut Vec<Open<'_>>, local: &[u8]) -> Result<
     Ok(())
 }
 
-/// What a tag declares, and the elements round it.
+/// The declarations of a tag, and the elements around it.
 #[derive(Clone, Copy)]
 struct Scope<'s, 'a> {
     declared: &'s Declarations<'a>,
     around: &'s [Open<'a>],
 }
 
-/// What the attributes declare, in order.
+/// The declarations among the attributes, in order.
 fn declared_by<'a>(
     alloc: Global,
     attributes: &[RawAttribute<'a>],
@@ -110,7 +110,7 @@ fn declared_by<'a>(
     Ok(declared)
 }
 
-/// Adds what an attribute declares, if it is a declaration.
+/// Adds the attribute's declaration, if it is one.
 #[tactic(auto, unfolding(crate::specs::Scopes::declared_by))]
 fn push_declared<'a>(
     alloc: Global,
@@ -131,7 +131,7 @@ fn push_declared<'a>(
     Ok(())
 }
 
-/// How many bytes stand before the prefix in a name that declares one.
+/// The number of bytes before the prefix in a name that declares one.
 const PREFIX: usize = 6;
 
 fn binds_default(name: &[u8]) -> bool
@@ -147,7 +147,7 @@ fn binds_prefix(name: &[u8]) -> bool
     name.starts_with(b"xmlns:")
 }
 
-/// The declaration of a prefix, with this value.
+/// The declaration that binds the prefix to this value.
 #[tactic(auto, unfolding(crate::specs::Scopes::bound))]
 fn bound<'a>(alloc: Global, prefix: &'a [u8], value: &[u8]) -> Result<Declared<'a>, Stop>
     ensures { Finds (λ b. binding_of b ∷ []) result (bound prefix.now value.now) }
@@ -175,7 +175,7 @@ fn shared(space: TreeBytes) -> TreeBytes
     }
 }
 
-/// Whether the prefix may stand for the namespace.
+/// Whether the prefix may be bound to the namespace.
 #[tactic(auto, unfolding(crate::specs::Scopes::may_bind))]
 fn may_bind(prefix: &[u8], space: &[u8]) -> bool
     ensures { result ≡ may_bind prefix.now space.now }
@@ -189,7 +189,7 @@ fn may_bind(prefix: &[u8], space: &[u8]) -> bool
     space != XML && (prefix.is_empty() || !space.is_empty())
 }
 
-/// The attributes that are no declarations, in order.
+/// The attributes that aren't declarations, in order.
 #[inline(always)]
 fn attributes_by<'a>(
     alloc: Global,
@@ -211,7 +211,7 @@ fn attributes_by<'a>(
     Ok(Attributes::of(pairs))
 }
 
-/// Adds the attribute, if it is no declaration. It stands apart, so that what `attributes_by` inlines stays small.
+/// Adds the attribute, unless it is a declaration. A separate function keeps the inlined code of `attributes_by` small.
 #[inline(never)]
 fn push_attribute<'a>(
     alloc: Global,
@@ -227,7 +227,7 @@ fn push_attribute<'a>(
     Ok(())
 }
 
-/// The attribute, if it is no declaration.
+/// The attribute, unless it is a declaration.
 #[inline(always)]
 #[tactic(auto, unfolding(crate::specs::Scopes::attribute_by))]
 fn attribute_by<'a>(
@@ -293,7 +293,7 @@ fn element_space<'a>(
     }
 }
 
-/// What the nearest declaration binds the prefix to.
+/// The namespace to which the nearest declaration binds the prefix.
 #[tactic(auto, using(crate::proofs::ScopeLemmas::found_either))]
 fn found<'s, 'a>(scope: Scope<'s, 'a>, prefix: &'a [u8]) -> Option<&'s TreeBytes>
     ensures { option_map (λ x. x.now) result ≡ found (scope_in scope.entry) prefix.now }
@@ -304,7 +304,7 @@ fn found<'s, 'a>(scope: Scope<'s, 'a>, prefix: &'a [u8]) -> Option<&'s TreeBytes
     }
 }
 
-/// What the nearest declaration in the elements binds the prefix to.
+/// The namespace to which the nearest declaration in these elements binds the prefix.
 fn found_around<'s, 'a>(around: &'s [Open<'a>], prefix: &'a [u8]) -> Option<&'s TreeBytes>
     ensures { option_map (λ x. x.now) result ≡ found (scope_of (stack_of around.now)) prefix.now }
 {

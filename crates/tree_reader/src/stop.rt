@@ -11,10 +11,10 @@ use std::alloc::{AllocError, AllocFailed};
 pub enum TreeRefusal {
     /// There are more bytes than `MAX_BYTES`.
     TooLong,
-    /// The item that begins here isn't spelled or doesn't stand in its place; or the bytes end here, with an
-    /// element open or before the root.
+    /// The item at this place is misspelled or isn't allowed there. Or the bytes end there, with an element open or
+    /// before the root.
     Markup { at: usize },
-    /// The start tag here is right but for its depth, which is past `MAX_DEPTH`.
+    /// The start tag at this place is right, except that it is deeper than `MAX_DEPTH`.
     TooDeep { at: usize },
     NoMemory,
 }

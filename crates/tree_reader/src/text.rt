@@ -1,4 +1,4 @@
-//! What texts and values mean (XML 1.0, sections 2.11, 3.3.3, 4.1 and 4.6).
+//! The meaning of texts and values (XML 1.0, sections 2.11, 3.3.3, 4.1 and 4.6).
 
 ghost use Rattle.std.specs.Prelude.{◌≡◌, ◌<◌, ◌≤◌, min, length, cond, Some, None, position, IfSome};
 ghost use Rattle.std.specs.List.{list_all, prefix_len};
@@ -14,7 +14,7 @@ use as4_envelope::TreeBytes;
 use as4_values::first_not_xml;
 use std::alloc::Global;
 
-/// What a value means, by what stands between its quotes.
+/// The meaning of a value, from the bytes between its quotes.
 #[tactic(auto, using(crate::proofs::SimpleLemmas::simple_meant))]
 pub(crate) fn value_meant(alloc: Global, bytes: &[u8]) -> Result<TreeBytes, Stop>
     ensures { Finds (λ value. value) result (value_meant bytes.now) }
@@ -25,7 +25,7 @@ pub(crate) fn value_meant(alloc: Global, bytes: &[u8]) -> Result<TreeBytes, Stop
     Ok(TreeBytes::of(alloc, characters_meant(alloc, true, bytes)?)?)
 }
 
-/// Adds what a text means, by what stands between two tags.
+/// Adds the meaning of a text, from the bytes between two tags.
 #[tactic(auto, using(crate::proofs::SimpleLemmas::simple_meant))]
 pub(crate) fn push_text(alloc: Global, out: &mut TreeBytes, bytes: &[u8]) -> Result<(), Stop>
     ensures { Adds result (text_meant bytes.now) out.old out.new }
@@ -39,7 +39,7 @@ pub(crate) fn push_text(alloc: Global, out: &mut TreeBytes, bytes: &[u8]) -> Res
     Ok(())
 }
 
-/// What a text or a value means.
+/// The meaning of a text or a value.
 #[tactic(auto, unfolding(crate::specs::Decoded::characters_meant))]
 fn characters_meant(alloc: Global, in_value: bool, bytes: &[u8]) -> Result<Vec<u8>, Stop>
     ensures { Finds (λ meant. meant.items) result (characters_meant in_value bytes.now) }
@@ -52,8 +52,8 @@ fn characters_meant(alloc: Global, in_value: bool, bytes: &[u8]) -> Result<Vec<u
     Ok(meant)
 }
 
-/// Whether all bytes are characters of XML in ASCII that stand for themselves. It has no early exit, so that many
-/// bytes are tested at once.
+/// Whether all bytes are ASCII characters of XML that mean themselves. There is no early exit, so that many bytes are
+/// tested at once.
 fn is_simple(in_value: bool, bytes: &[u8]) -> bool
     ensures { result ≡ list_all (is_simple in_value) bytes.now }
 {
@@ -88,8 +88,8 @@ fn push_pieces(out: &mut Vec<u8>, in_value: bool, bytes: &[u8]) -> Result<(), St
     Ok(())
 }
 
-/// Adds the bytes at the front that stand for themselves or, where there are none, what the piece there means; gives
-/// what stands behind.
+/// Adds the leading bytes that mean themselves or, if there are none, the meaning of the first piece. Returns the bytes
+/// after them.
 #[tactic(auto, using(crate::proofs::TextLemmas::plain_added))]
 fn push_next<'a>(out: &mut Vec<u8>, in_value: bool, bytes: &'a [u8]) -> Result<&'a [u8], Stop>
     requires { 0 < length bytes.now }
@@ -104,7 +104,7 @@ fn push_next<'a>(out: &mut Vec<u8>, in_value: bool, bytes: &'a [u8]) -> Result<&
     Ok(rest)
 }
 
-/// How many bytes from the front on stand for themselves.
+/// The number of leading bytes that mean themselves.
 fn plain_len(in_value: bool, bytes: &[u8]) -> usize
     ensures value { result ≡ prefix_len (is_plain in_value) bytes.now }
     ensures bound { result ≤ length bytes.now }
@@ -123,7 +123,7 @@ fn is_plain(in_value: bool, byte: u8) -> bool
     byte != b'&' && byte != b'\r' && !(in_value && (byte == b'\t' || byte == b'\n'))
 }
 
-/// Adds what the piece at the front means, a reference or the end of a line.
+/// Adds the meaning of the first piece, a reference or the end of a line.
 #[tactic(auto, unfolding(crate::specs::Decoded::piece_at), using(crate::proofs::TextLemmas::piece_goes, crate::proofs::TextLemmas::piece_fails))]
 fn push_piece<'a>(out: &mut Vec<u8>, in_value: bool, bytes: &'a [u8]) -> Result<&'a [u8], Stop>
     requires some { 0 < length bytes.now }
@@ -141,7 +141,7 @@ fn push_piece<'a>(out: &mut Vec<u8>, in_value: bool, bytes: &'a [u8]) -> Result<
     Ok(behind)
 }
 
-/// Adds the character of the reference at the front, behind its `&`; gives what stands behind.
+/// Adds the character of the reference, given the bytes after its `&`. Returns the bytes after the reference.
 fn push_reference<'a>(out: &mut Vec<u8>, bytes: &'a [u8]) -> Result<&'a [u8], Stop>
     ensures { AddsPiece result (reference_at bytes.now) bytes.now out.old.items out.new.items }
 {
@@ -153,14 +153,14 @@ fn push_reference<'a>(out: &mut Vec<u8>, bytes: &'a [u8]) -> Result<&'a [u8], St
     Ok(bytes.split_at(len).1)
 }
 
-/// What stands for the end of a line: in a value a space.
+/// The meaning of the end of a line: a LF, in a value a space.
 fn line_end(in_value: bool) -> u8
     ensures { result ≡ line_end in_value }
 {
     if in_value { b' ' } else { b'\n' }
 }
 
-/// The reference at the front, behind its `&`: its character, and how many bytes it takes.
+/// The reference after an `&`: its character, and the number of bytes that it takes.
 #[tactic(auto, unfolding(crate::specs::Decoded::reference_at))]
 fn reference_at(bytes: &[u8]) -> Option<(char, usize)>
     ensures value { option_map (λ x. record { meant = encode_utf8 x.0; more = x.1 }) result ≡ reference_at bytes.now }
@@ -178,7 +178,7 @@ fn semicolon_at(bytes: &[u8]) -> Option<usize>
     bytes.iter().position(|byte| *byte == b';')
 }
 
-/// The character that stands for a reference of this name.
+/// The character for a reference of this name.
 #[tactic(auto, unfolding(crate::specs::Decoded::referred))]
 fn referred(name: &[u8]) -> Option<char>
     ensures { result ≡ referred name.now }
@@ -192,7 +192,7 @@ fn referred(name: &[u8]) -> Option<char>
     entity(name)
 }
 
-/// The entities that need no declaration.
+/// The predefined entities.
 #[tactic(auto, unfolding(crate::specs::Decoded::entity))]
 fn entity(name: &[u8]) -> Option<char>
     ensures { result ≡ entity name.now }
@@ -232,7 +232,7 @@ fn numbered(radix: u32, digits: &[u8]) -> Option<char>
 /// One more than the last code of a character.
 const PAST_CODES: u32 = 0x11_0000;
 
-/// The number that the digits write, or `PAST_CODES` where it is greater; nothing where one is no digit.
+/// The number that the digits write, or `PAST_CODES` if it is greater; `None` if a byte isn't a digit.
 fn number(radix: u32, digits: &[u8]) -> Option<u32>
     requires low { 2 ≤ radix }
     requires high { radix ≤ 16 }

@@ -1,4 +1,4 @@
-//! Documents, and what is read.
+//! Documents, and how they are read.
 
 use crate::shown::shown;
 use as4_values::NoMemory;
@@ -6,7 +6,7 @@ use std::alloc::Global;
 use std::test::Fail;
 use tree_reader::text_is_document;
 
-/// The first document that isn't read as it should be.
+/// The first document that is read otherwise.
 fn first_wrong(
     alloc: Global,
     cases: &[(&'static [u8], &'static [u8])],
@@ -20,7 +20,7 @@ fn first_wrong(
     Ok(None)
 }
 
-/// XML 1.0, sections 2.1, 2.5, 2.8 and 4.3.3: what stands round the root.
+/// XML 1.0, sections 2.1, 2.5, 2.8 and 4.3.3: the bytes before and after the root.
 const ROUND_THE_ROOT: [(&[u8], &[u8]); 28] = [
     (b"", b"Markup 0"),
     (b"\xEF\xBB\xBF", b"Markup 3"),
@@ -113,7 +113,7 @@ fn tags_nest_by_their_written_names(rt: HostRuntime) -> Result<(), Fail> {
     Ok(())
 }
 
-/// XML 1.0, sections 2.2, 2.4, 2.11, 3.3.3, 4.1 and 4.6: what texts and values mean.
+/// XML 1.0, sections 2.2, 2.4, 2.11, 3.3.3, 4.1 and 4.6: the meaning of texts and values.
 const TEXTS: [(&[u8], &[u8]); 40] = [
     (b"<a>x<b/>y<!--c-->z</a>", b"{}a\"xyz\"({}b)"),
     (b"<a><!--\x0B--></a>", b"Markup 3"),
@@ -293,7 +293,7 @@ fn names_begin_with_a_letter(rt: HostRuntime) -> Result<(), Fail> {
     Ok(())
 }
 
-/// Tags of 17 attributes and more, whose names are put in order to be compared.
+/// Tags of 17 attributes and more, whose names are sorted for the comparison.
 const MANY_ATTRIBUTES: [(&[u8], &[u8]); 5] = [
     (
         b"<a q='' p='' o='' n='' m='' l='' k='' j='' i='' h='' g='' f='' e='' d='' c='' b='' a=''/>",
@@ -353,7 +353,7 @@ fn many_declarations_are_found(rt: HostRuntime) -> Result<(), Fail> {
     Ok(())
 }
 
-/// What `write_tree` writes.
+/// A text that `write_tree` writes, and its tree.
 const WRITTEN: [(&[u8], &[u8]); 1] = [(
     b"<eb:A xmlns:S=\"http://www.w3.org/2003/05/soap-envelope\" xmlns:eb=\"http://docs.oasis-open.org/ebxml-msg/ebms/v3.0/ns/core/200704/\" S:x=\"&#9;&#10;&#13;\" x=\"&quot;\">&amp;&lt;&gt;<S:B></S:B></eb:A>",
     b"{http://docs.oasis-open.org/ebxml-msg/ebms/v3.0/ns/core/200704/}A[{http://www.w3.org/2003/05/soap-envelope}x=\t\n\r][{}x=\"]\"&<>\"({http://www.w3.org/2003/05/soap-envelope}B)",
@@ -361,6 +361,7 @@ const WRITTEN: [(&[u8], &[u8]); 1] = [(
 
 #[test]
 fn written_trees_are_read_back(rt: HostRuntime) -> Result<(), Fail> {
+    // Laws: a written tree is a document of that tree.
     text_is_document();
     assert_eq!(rt; first_wrong(rt.alloc(), &WRITTEN), Ok(None));
     Ok(())

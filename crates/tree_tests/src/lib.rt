@@ -1,4 +1,4 @@
-//! Tests of `tree_reader`, by what it makes public.
+//! Tests of the public interface of `tree_reader`.
 #![tactic(auto)]
 
 #[cfg(test)]

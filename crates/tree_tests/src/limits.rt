@@ -6,7 +6,7 @@ use std::alloc::Global;
 use std::test::Fail;
 use tree_reader::MAX_BYTES;
 
-/// So many times the front, then the middle, then so many times the back.
+/// This many start tags, then the middle, then this many end tags.
 fn nested(alloc: Global, times: usize, middle: &[u8]) -> Result<Vec<u8>, NoMemory> {
     let mut out = Vec::new(alloc);
     for _ in 0..times {
@@ -19,7 +19,7 @@ fn nested(alloc: Global, times: usize, middle: &[u8]) -> Result<Vec<u8>, NoMemor
     Ok(out)
 }
 
-/// Whether what is shown of such a document begins so.
+/// Whether the text shown for such a document begins so.
 fn nested_shows(
     alloc: Global,
     times: usize,
@@ -32,7 +32,7 @@ fn nested_shows(
     Ok(text?.starts_with(wanted))
 }
 
-/// What stands in so many open elements, and how what is shown begins.
+/// The number of open elements, their content, and the beginning of the text shown.
 const DEPTHS: [(usize, &[u8], &[u8]); 9] = [
     (32, b"", b"{}a("),
     (32, b"x<!--y-->", b"{}a("),
@@ -45,7 +45,7 @@ const DEPTHS: [(usize, &[u8], &[u8]); 9] = [
     (33, b"", b"TooDeep 96"),
 ];
 
-/// The number of the first that is shown otherwise.
+/// The index of the first row with another text.
 fn first_wrong(alloc: Global, cases: &[(usize, &[u8], &[u8])]) -> Result<Option<usize>, NoMemory> {
     for (number, (times, middle, wanted)) in cases.iter().enumerate() {
         if !nested_shows(alloc, *times, middle, wanted)? {
@@ -61,7 +61,7 @@ fn there_are_32_levels(rt: HostRuntime) -> Result<(), Fail> {
     Ok(())
 }
 
-/// An element with blanks behind it, in all so many bytes.
+/// An element followed by blanks, of this length in all.
 fn padded(alloc: Global, len: usize) -> Result<Vec<u8>, NoMemory> {
     let mut out = Vec::with_capacity(alloc, len)?;
     out.extend_from_slice(b"<a/>")?;

@@ -5,8 +5,8 @@ use as4_values::NoMemory;
 use std::alloc::Global;
 use tree_reader::{TreeRefusal, read_tree};
 
-/// The tree of a document, or why it isn't read: `{space}local`, `[{space}local=value]` for each attribute, the
-/// text in quotes where there is one, and the children in brackets where there are some.
+/// The tree of a document, or the refusal. An element is `{space}local`, then `[{space}local=value]` for each
+/// attribute, the text in quotes if there is one, and the children in brackets if there are any.
 pub fn shown(alloc: Global, bytes: &[u8]) -> Result<Vec<u8>, NoMemory> {
     match read_tree(alloc, bytes) {
         Ok(tree) => {

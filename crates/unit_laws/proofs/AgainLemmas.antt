@@ -1,4 +1,4 @@
--- What is written is read again: values, attributes and lists of elements.
+-- Written values, attributes and lists of elements are read back.
 use Rattle.std.proofs.Common.{◌≡◌, ℕ, zero, suc, ◌+◌, ◌-◌, ◌<◌, ◌⊎◌, inl, inr, List, [], ◌∷◌, ◌++◌, Bool, true, false, cond, length, get_or, arith, refl, sym, ap, ◌∙◌, append-nil, length-append}
 use Rattle.std.specs.Prelude.{Option, Some, None, IsTrue, map, option_map, slice_index, ◌==◌, codes, bytes_eq, replicate}
 use Rattle.std.specs.List.{find, list_all, list_any, AllByRecursion, Contains}
@@ -11,7 +11,8 @@ use Rattle.as4_envelope.specs.declared.tree.Element.{Element}
 use Rattle.as4_envelope.specs.declared.tree.Element.TheOpen.{Element-F}
 use Rattle.as4_envelope.specs.declared.tree.Element.TheViews.{out-Element, out-roll-Element}
 use Rattle.as4_values.specs.Stamp.{IsStamp, fits_byte, fraction_form, zone_forms}
-use Rattle.as4_values.specs.Texts.{is_blank, IsTrimmed, IsText, HasCore}
+use Rattle.as4_values.specs.Texts.{IsTrimmed, IsText, HasCore}
+use Rattle.byte_forms.specs.Classes.{is_blank}
 use Rattle.as4_values.specs.Word.{IsWord, allows}
 use Rattle.as4_values.specs.declared.word.Word.{Word}
 use Rattle.as4_values.specs.declared.word.Word.TheVariants.{Identifier, ErrorCode}
@@ -22,7 +23,8 @@ use Rattle.as4_envelope.specs.Tree.{ebms}
 use Rattle.header_reader.specs.Names.{element_name}
 use Rattle.header_reader.specs.declared.names.AttributeName.{AttributeName}
 use Rattle.byte_forms.specs.Cuts.{◌>>=◌}
-use Rattle.header_reader.specs.Values.{trimmed, is_word, read_by, text_of, stamp_of, optional}
+use Rattle.header_reader.specs.Values.{is_word, read_by, text_of, stamp_of, optional}
+use Rattle.byte_forms.specs.Trimmed.{trimmed}
 use Rattle.header_reader.specs.declared.names.ElementName.{ElementName}
 
 -- values
@@ -51,7 +53,7 @@ word_again word bytes is =
     let same : bytes ≡ trimmed bytes = sym (core_is_trimmed bytes bytes 0 (whole_core bytes (word_trimmed word bytes is))) in
     word_read word bytes bytes bytes same (refl, is)
 
--- a value that is read as it stands isn't blank
+-- a value that is read unchanged isn't blank
 
 not_empty : (test : List ℕ → Bool) (bytes : List ℕ) → test [] ≡ false → test bytes ≡ true → (length bytes == 0) ≡ false
 not_empty test [] empty passes = absurd (false≢true (sym empty ∙ passes))

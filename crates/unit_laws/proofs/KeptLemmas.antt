@@ -1,4 +1,4 @@
--- Attributes, elements and lists of elements that their text keeps.
+-- Attributes, elements and lists of elements that are kept by their text.
 use Rattle.std.proofs.Common.{◌≡◌, ℕ, suc, ◌-◌, ◌≤◌, List, [], ◌∷◌, ◌++◌, Bool, true, false, not, ◌&&◌, inl, inr, nat_le, Option, Some, None, arith, refl, sym, ap, ◌∙◌, append-nil, map}
 use Rattle.std.specs.Prelude.{IfSome, bytes_eq}
 use Rattle.std.specs.List.{list_all, list_any, AllByRecursion}
@@ -19,7 +19,7 @@ use Rattle.unit_laws.proofs.XmlLemmas.{is_plain_name, plain_name, graphic_is_xml
 
 -- attributes
 
--- the attributes of an element can be written, and are read again
+-- the attributes of an element can be written, and are read back
 pub record AttributesKept (attributes : List Attribute) : Type 0 where
   pub sound : list_all is_attribute attributes ≡ true
   pub differ : names_differ attributes ≡ true
@@ -28,22 +28,22 @@ pub record AttributesKept (attributes : List Attribute) : Type 0 where
 pub no_attributes : AttributesKept []
 no_attributes = record { sound = refl; differ = refl; named = refl }
 
--- each has one of these names
+-- each attribute has one of these names
 abbrev Among : List (List ℕ) → List Attribute → Type 0
 Among names attributes = list_all (λ a. list_any (bytes_eq a.local) names) attributes ≡ true
 
--- among more names, too
+-- also with more names
 among_more : (names : List (List ℕ)) (name : List ℕ) (attributes : List Attribute) → Among names attributes → Among (name ∷ names) attributes
 among_more names name [] is = refl
 among_more names name (a ∷ attributes) is =
     let parts = and_parts (list_any (bytes_eq a.local) names) _ is in
     and_from _ _ (or_right (bytes_eq a.local name) (list_any (bytes_eq a.local) names) parts.0) (among_more names name attributes parts.1)
 
--- bytes are the same as themselves
+-- bytes equal themselves
 same_bytes : (bytes : List ℕ) → bytes_eq bytes bytes ≡ true
 same_bytes bytes = (bytes_eq-Decides bytes bytes).1 refl
 
--- with one attribute more, and its name
+-- with one more attribute, and its name
 one_among : (names : List (List ℕ)) (front : List Attribute) (name : List ℕ) (value : Option (List ℕ)) → Among names front
     → Among (name ∷ names) (front ++ optional_attributes name value)
 unfolding optional_attributes
@@ -52,7 +52,7 @@ one_among names front name (Some value) among =
     list_all-append (λ a. list_any (bytes_eq a.local) (name ∷ names)) front (plain_attribute name value ∷ [])
     ∙ rw (among_more names name front among, same_bytes name) refl
 
--- a name that isn't among those is none of them
+-- a name that isn't among others differs from each of them
 other_name : (names : List (List ℕ)) (name local : List ℕ) → list_any (bytes_eq local) names ≡ true → list_any (bytes_eq name) names ≡ false → bytes_eq local name ≡ false
 other_name names name local among fresh =
     elim (cases_Bool (bytes_eq local name)) [
@@ -60,7 +60,7 @@ other_name names name local among fresh =
       | inr other ↦ other
     ]
 
--- an attribute of a new name differs from those before
+-- an attribute with a new name differs from those before
 one_differs : (names : List (List ℕ)) (name value : List ℕ) (attributes : List Attribute) → Among names attributes → names_differ attributes ≡ true
     → list_any (bytes_eq name) names ≡ false → names_differ (attributes ++ plain_attribute name value ∷ []) ≡ true
 one_differs names name value [] among differ fresh = refl
@@ -72,7 +72,7 @@ one_differs names name value (a ∷ attributes) among differ fresh =
     rw (other_name names name a.local those.0 fresh) (and-false (bytes_eq a.space [])) in
     rw (list_any-append (same_name a) attributes (plain_attribute name value ∷ []), none, apart) (one_differs names name value attributes those.1 parts.1 fresh)
 
--- one attribute more, or none, of a new name
+-- one more attribute with a new name, or none
 one_kept : (names : List (List ℕ)) (front : List Attribute) (name : List ℕ) (value : Option (List ℕ)) → Among names front → AttributesKept front
     → is_plain_name name ≡ true → list_any (bytes_eq name) names ≡ false → IfSome value IsXmlText → AttributesKept (front ++ optional_attributes name value)
 unfolding optional_attributes is_attribute is_named_attribute
@@ -85,17 +85,17 @@ one_kept names front name (Some value) among kept plain fresh is =
       named = list_all-append is_named_attribute front (plain_attribute name value ∷ []) ∙ rw (kept.named, good.is, good.bound) refl;
     }
 
--- attributes in no namespace by their names and values, behind others
+-- attributes in no namespace with these names and values, after others
 abbrev pub given : List Attribute → List (List ℕ × Option (List ℕ)) → List Attribute
 given front [] = front
 given front (one ∷ others) = given (front ++ optional_attributes one.0 one.1) others
 
--- names of attributes, of which none comes twice or is among those before
+-- names of attributes, none of which occurs twice or is among those before
 abbrev pub are_new : List (List ℕ) → List (List ℕ × Option (List ℕ)) → Bool
 are_new names [] = true
 are_new names (one ∷ others) = (is_plain_name one.0 && not (list_any (bytes_eq one.0) names)) && are_new (one.0 ∷ names) others
 
--- attributes of new names, behind others
+-- attributes with new names, after others
 given_kept : (names : List (List ℕ)) (front : List Attribute) (them : List (List ℕ × Option (List ℕ))) → Among names front → AttributesKept front
     → are_new names them ≡ true → AllByRecursion (λ one. IfSome one.1 IsXmlText) them → AttributesKept (given front them)
 given_kept names front [] among kept new each = kept
@@ -111,7 +111,7 @@ attributes_kept them new each = given_kept [] [] them refl no_attributes new eac
 
 -- elements
 
--- whether an element can be written, by its parts
+-- whether an element can be written, from its parts
 fits_node : (space local text : List ℕ) (attributes : List Attribute) (within : List Element) (levels : ℕ) → fits (node space local attributes text within) levels
     ≡ (nat_le 1 levels && (has_prefix space && is_xml text && list_all is_attribute attributes && names_differ attributes)
     && list_all (λ child. fits child (levels - 1)) within)
@@ -121,7 +121,7 @@ fits_node space local text attributes within levels =
     ∙ ap (λ b. nat_le 1 levels && (has_prefix space && is_xml text && list_all is_attribute attributes && names_differ attributes) && b)
     (list_all-map (λ child. child (levels - 1)) fits within)
 
--- whether the local names in an element are names, by its parts
+-- whether the local names in an element are names, from its parts
 names_node : (space local text : List ℕ) (attributes : List Attribute) (within : List Element) → has_names (node space local attributes text within)
     ≡ (is_name local && list_all is_named_attribute attributes && list_all has_names within)
 unfolding has_names
@@ -129,19 +129,19 @@ names_node space local text attributes within =
     fold-roll-Element Bool has_names_step (record { space = space; local = local; attributes = attributes; text = text; children = within })
     ∙ ap (λ b. is_name local && list_all is_named_attribute attributes && b) (list_all-map (λ child. child) has_names within)
 
--- what is kept can be written
+-- kept elements can be written
 all_fit : (deep : ℕ) (within : List Element) → AllByRecursion (IsKept deep) within → (levels : ℕ) → deep ≤ levels → list_all (λ child. fits child levels) within ≡ true
 unfolding IsKept
 all_fit deep [] each levels enough = refl
 all_fit deep (e ∷ within) each levels enough = and_from _ _ (each.0.0 levels enough) (all_fit deep within each.1 levels enough)
 
--- and has names
+-- and have names
 all_named : (deep : ℕ) (within : List Element) → AllByRecursion (IsKept deep) within → list_all has_names within ≡ true
 unfolding IsKept
 all_named deep [] each = refl
 all_named deep (e ∷ within) each = and_from _ _ each.0.1 (all_named deep within each.1)
 
--- an element, by its parts
+-- an element, from its parts
 pub node_kept : (deep : ℕ) (space local text : List ℕ) (attributes : List Attribute) (within : List Element) → has_prefix space ≡ true → is_plain_name local ≡ true
     → AttributesKept attributes → IsXmlText text → AllByRecursion (IsKept deep) within → IsKept (suc deep) (node space local attributes text within)
 unfolding IsKept
@@ -158,7 +158,7 @@ ebms_prefix : has_prefix ebms ≡ true
 unfolding has_prefix
 ebms_prefix = refl
 
--- an element of ebMS that holds others, or a text
+-- an element of ebMS that holds elements, and one that holds a text
 pub parent_kept : (deep : ℕ) (local : List ℕ) (attributes : List Attribute) (within : List Element) → is_plain_name local ≡ true → AttributesKept attributes
     → AllByRecursion (IsKept deep) within → IsKept (suc deep) (parent local attributes within)
 parent_kept deep local attributes within plain kept each = node_kept deep ebms local [] attributes within ebms_prefix plain kept (graphic_is_xml [] refl) each
@@ -169,7 +169,7 @@ leaf_kept deep local attributes text plain kept spelled = node_kept deep ebms lo
 
 -- lists of elements
 
--- where more levels are left, too
+-- also with more levels left
 pub deeper : (deep more : ℕ) (tree : Element) → deep ≤ more → IsKept deep tree → IsKept more tree
 unfolding IsKept
 deeper deep more tree within is = (λ levels enough. is.0 levels (omega arith), is.1)
@@ -178,7 +178,7 @@ pub all_deeper : (deep more : ℕ) (trees : List Element) → deep ≤ more → 
 all_deeper deep more [] within each = each
 all_deeper deep more (e ∷ trees) within each = (deeper deep more e within each.0, all_deeper deep more trees within each.1)
 
--- one list behind another
+-- one list after another
 pub behind_kept : (deep : ℕ) (front back : List Element) → AllByRecursion (IsKept deep) front → AllByRecursion (IsKept deep) back
     → AllByRecursion (IsKept deep) (front ++ back)
 behind_kept deep [] back one other = other
@@ -189,14 +189,14 @@ pub each_kept : {X : Type 0} (deep : ℕ) (tree : X → Element) (xs : List X) �
 each_kept deep tree [] each = each
 each_kept deep tree (x ∷ xs) each = (each.0, each_kept deep tree xs each.1)
 
--- an element that holds them, or nothing where there are none
+-- an element that holds them, or nothing if there are none
 pub listed_kept : {X : Type 0} (deep : ℕ) (local : List ℕ) (tree : X → Element) (xs : List X) → is_plain_name local ≡ true
     → AllByRecursion (λ x. IsKept deep (tree x)) xs → AllByRecursion (IsKept (suc deep)) (listed_in local tree xs)
 unfolding listed_in
 listed_kept deep local tree [] plain each = each
 listed_kept deep local tree (x ∷ xs) plain each = (parent_kept deep local [] (map tree (x ∷ xs)) plain no_attributes (each_kept deep tree (x ∷ xs) each), tt)
 
--- the element of a text that may be left out
+-- the element of an optional text
 pub leaves_kept : (deep : ℕ) (local : List ℕ) (text : Option (List ℕ)) → is_plain_name local ≡ true → IfSome text IsXmlText
     → AllByRecursion (IsKept (suc deep)) (optional_leaves local text)
 unfolding optional_leaves

@@ -1,4 +1,4 @@
--- What is written of a unit is read as that unit, since its text is that of its tree.
+-- A written unit is read back, since its text is that of its tree.
 use Rattle.std.proofs.Common.{◌≤◌, length, arith}
 use Rattle.as4_envelope.specs.Tree.{tree_text}
 use Rattle.as4_values.specs.declared.message.Unit.{Unit as MessageUnit}

@@ -1,4 +1,4 @@
--- A signal message, and an envelope, that is written is read again.
+-- A written signal message is read back, and so is a written envelope.
 use Rattle.std.proofs.Common.{◌≡◌, ℕ, List, [], ◌∷◌, ◌++◌, true, false, refl, ap, ◌∙◌, inl, inr}
 use Rattle.std.specs.Prelude.{Option, Some, None, IfSome, codes, unwrap_or, option_map, bytes_eq}
 use Rattle.std.specs.List.{find, filter}
@@ -46,7 +46,7 @@ id_value : (id : Option (List ℕ)) → IfSome id IdAgain → optional_value id_
 id_value None is = refl
 id_value (Some id) is = optional_again (is_word Identifier) id no_empty_id is
 
--- attributes one behind the other
+-- attributes, one after another
 
 abbrev value_in : AttributeName → List Attribute → Option (List ℕ)
 value_in label attributes = option_map (λ a. a.value) (find (is_plain label) attributes)
@@ -147,7 +147,7 @@ unfolding severity_of
 severity_again Failure = refl
 severity_again Warning = refl
 
--- what is read of an optional text that is written as an element
+-- the value that is read for an optional text, which is written as an element
 pub leaves_again : (value : Option (List ℕ)) → Option (Option (List ℕ))
 leaves_again None = None
 leaves_again (Some text) = Some (Some text)
@@ -173,7 +173,7 @@ unfolding leaves_again
 leaves_whole None = refl
 leaves_whole (Some text) = refl
 
--- the values of an error, each of which is read again
+-- the values of an error, each of which is read back
 pub record ErrorAgain (item : ErrorItem) : Type 0 where
   pub code : code_of item.code ≡ Some item.code
   pub origin : IfSome item.origin TextAgain

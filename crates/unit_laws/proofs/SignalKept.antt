@@ -20,12 +20,12 @@ use Rattle.unit_laws.specs.Kept.{IsXmlText, IsKept, BodyKept, UnitKept}
 use Rattle.unit_laws.proofs.XmlLemmas.{is_plain_name, plain_name, graphic_is_xml}
 use Rattle.unit_laws.proofs.KeptLemmas.{AttributesKept, attributes_kept, no_attributes, node_kept, parent_kept, deeper, all_deeper, behind_kept, each_kept, leaves_kept}
 
--- how bad an error is
+-- the severity of an error
 severity_is_xml : (severity : Severity) → IsXmlText (severity_text severity)
 severity_is_xml Failure = graphic_is_xml (codes "failure") refl
 severity_is_xml Warning = graphic_is_xml (codes "warning") refl
 
--- the values of an error, each of characters of XML
+-- the values of an error, which are characters of XML
 pub record ErrorKept (item : ErrorItem) : Type 0 where
   pub code : IsXmlText item.code
   pub origin : IfSome item.origin IsXmlText
@@ -71,7 +71,7 @@ signal_kept s info body = parent_kept 6 (codes "SignalMessage") [] _ refl no_att
 
 -- units
 
--- each unit by its messages
+-- each unit, from its messages
 pub user_unit : (header : UserHeader) → IsKept 5 (user_tree header) → UnitKept (unit.User header)
 unfolding UnitKept
 user_unit header is = (deeper 5 7 (user_tree header) (omega arith) is, tt)

@@ -1,4 +1,4 @@
--- A user message that is written is read again, element by element.
+-- A written user message is read back, element by element.
 use Rattle.std.proofs.Common.{◌≡◌, ℕ, List, [], ◌∷◌, ◌++◌, true, false, refl, ap, ◌∙◌, append-nil}
 use Rattle.std.specs.Prelude.{Option, Some, None, IfSome, map, codes, unwrap_or, ◌&&◌}
 use Rattle.std.specs.List.{list_all, AllByRecursion}
@@ -20,7 +20,8 @@ use Rattle.unit_laws.specs.Again.{TextAgain, IdAgain, AgreementAgain}
 use Rattle.header_reader.specs.Elements.{is_named, named, may_stand, holds_only, optional_attribute, attribute, child, optional_child, children}
 use Rattle.header_reader.specs.Names.{element_name, attribute_name}
 use Rattle.header_reader.specs.User.{info_of, party_of, side_of, parties_of, agreement_of, service_of, collaboration_of, property_of, properties_of, part_of, payload_of, business_in, lists_in, user_of}
-use Rattle.header_reader.specs.Values.{is_text, text_of, stamp_of, optional, trimmed, end_of}
+use Rattle.header_reader.specs.Values.{is_text, text_of, stamp_of, optional}
+use Rattle.byte_forms.specs.Trimmed.{trimmed, end_of}
 use Rattle.header_reader.specs.declared.names.AttributeName.TheVariants as attr
 use Rattle.header_reader.specs.declared.names.ElementName.TheVariants as name
 
@@ -35,7 +36,7 @@ nothing_again : optional text_of [] ≡ Some None
 unfolding optional trimmed end_of
 nothing_again = refl
 
--- a value that may be empty
+-- an optional value
 pub empty_again : (value : Option (List ℕ)) → IfSome value TextAgain → optional text_of (unwrap_or value []) ≡ Some value
 empty_again None is = nothing_again
 empty_again (Some text) is = maybe_again text is
@@ -111,7 +112,7 @@ pub parties_again : (from to : Side) → side_of (side_tree (codes "From") from)
 unfolding parties_of element_name party_info_tree side_tree
 parties_again from to one other = simp (holds_node, stands_node, child_node, named_node, one, other)
 
--- the business
+-- the collaboration
 
 service_parts : (value : List ℕ) (kind : Option (List ℕ)) → TextAgain value → IfSome kind TextAgain → service_of (service_tree (record { value = value; kind = kind })) ≡ Some (record { value = value; kind = kind })
 unfolding service_of optional_attribute attribute_name service_tree optional_attributes
@@ -175,7 +176,7 @@ unfolding optional_attribute attribute_name optional_attributes
 href_again None children is = simp value_node
 href_again (Some href) children is = simp (value_node, maybe_again href is)
 
--- the list that is read, where it is left out when it is empty
+-- the list that is read; an empty list is omitted
 pub listed_again : (properties : List Property) → Option (List Property)
 listed_again [] = None
 listed_again (p ∷ properties) = Some (p ∷ properties)
@@ -283,7 +284,7 @@ user_lists stamp id ref_to from to agreement service action conversation (proper
 user_lists stamp id ref_to from to agreement service action conversation (property ∷ properties) (part ∷ parts) attributes p x =
     simp (optional_node, named_node, properties_again (codes "MessageProperties") (property ∷ properties) p, payload_again (codes "PayloadInfo") (part ∷ parts) x)
 
--- the parts of a header, each of which is read again
+-- the parts of a header, each of which is read back
 pub record HeaderAgain (h : UserHeader) : Type 0 where
   pub mpc : IfSome h.mpc TextAgain
   pub info : info_of (message_info_tree h.stamp h.id h.ref_to) ≡ Some (record { stamp = h.stamp; id = h.id; ref_to = h.ref_to })

@@ -15,7 +15,7 @@ use Rattle.unit_laws.specs.Kept.{IsXmlText, IsKept}
 use Rattle.unit_laws.proofs.XmlLemmas.{is_plain_name, graphic_is_xml}
 use Rattle.unit_laws.proofs.KeptLemmas.{attributes_kept, no_attributes, parent_kept, leaf_kept, deeper, all_deeper, behind_kept, each_kept, listed_kept, leaves_kept}
 
--- a value that may be empty
+-- an optional value
 or_empty : (value : Option (List ℕ)) → IfSome value IsXmlText → IsXmlText (unwrap_or value [])
 or_empty None is = graphic_is_xml [] refl
 or_empty (Some text) is = is
@@ -65,7 +65,7 @@ part_kept p href properties =
     parent_kept 2 (codes "PartInfo") _ _ refl (attributes_kept ((codes "href", p.href) ∷ []) refl (href, tt))
     (listed_kept 1 (codes "PartProperties") property_tree p.properties refl properties)
 
--- the agreement, where there is one
+-- the agreement, if there is one
 agreements_kept : (agreement : Option Agreement)
     → IfSome agreement (λ a. IsKept 1 (leaf (codes "AgreementRef") (optional_attributes (codes "type") a.kind ++ optional_attributes (codes "pmode") a.pmode) a.value))
     → AllByRecursion (IsKept 1) (agreement_trees agreement)

@@ -1,4 +1,4 @@
--- Words, stamps and names are of graphic characters of ASCII, which are characters of XML.
+-- Words, stamps and names consist of graphic ASCII characters, which are characters of XML.
 use Rattle.std.proofs.Common.{◌≡◌, ℕ, zero, suc, ◌<◌, List, [], ◌++◌, Bool, true, false, not, ◌&&◌, length, arith, refl}
 use Rattle.std.specs.Prelude.{IsTrue, slice_index, codes, replicate}
 use Rattle.std.specs.List.{All, AllPass, list_all, list_any}
@@ -36,7 +36,7 @@ graphic_xml b is = grind (arith, nat_tests)
 graphic_ascii : (bytes : List ℕ) → All Graphic bytes → IsAscii bytes
 graphic_ascii bytes each = IsAscii-from_all bytes (All-weaker Graphic (λ b. b < 128) graphic_small bytes each)
 
--- so texts of them are of characters of XML
+-- so texts of them are characters of XML
 graphic_text : (bytes : List ℕ) → All Graphic bytes → IsXmlText bytes
 unfolding is_xml
 graphic_text bytes each =
@@ -49,7 +49,7 @@ graphic_text bytes each =
 pub graphic_is_xml : (bytes : List ℕ) → list_all is_graphic bytes ≡ true → IsXmlText bytes
 graphic_is_xml bytes is = graphic_text bytes (AllPass-from_list_all is_graphic bytes is)
 
--- as the texts of a header are
+-- the texts of a header are characters of XML
 pub text_is_xml : (text : List ℕ) → IsText text → IsXmlText text
 text_is_xml text is = xml_tested text is.spelled
 
@@ -73,7 +73,7 @@ code_is_xml code is = word_is_xml ErrorCode code is
 
 -- stamps
 
--- as those of the forms of stamps are
+-- the bytes of a stamp's forms are graphic characters
 fraction_graphic : (places : ℕ) → All Graphic (fraction_form places)
 fraction_graphic zero = AllPass-from_list_all is_graphic [] refl
 fraction_graphic (suc places) =
@@ -89,7 +89,7 @@ form_graphic form (places, zone, few, is_zone, same) =
     All-append Graphic start (fraction_form places) (AllPass-from_list_all is_graphic start refl) (fraction_graphic places) in
     rw same (All-append Graphic (start ++ fraction_form places) zone front back)
 
--- what fits a form is of graphic characters, too
+-- bytes that fit such a form are graphic characters, too
 fitting_graphic : (form b : ℕ) → Graphic form → IsTrue (fits_byte form b) → Graphic b
 unfolding fits_byte
 fitting_graphic form b is fits = grind (arith, nat_tests)
@@ -105,13 +105,13 @@ stamp_is_xml text is =
 
 -- names
 
--- a name of graphic characters of ASCII, other than `xmlns`
+-- a name of graphic ASCII characters, other than `xmlns`
 abbrev pub is_plain_name : List ℕ → Bool
 is_plain_name name =
     (is_name_start (slice_index name 0) && not (list_any is_colon name)) && list_all is_name_byte name
     && list_all is_graphic name && not (binds_default name)
 
--- what such a name is
+-- the facts about such a name
 pub record PlainName (name : List ℕ) : Type 0 where
   pub is : is_name name ≡ true
   pub bound : binds_default name ≡ false

@@ -1,4 +1,4 @@
--- Values whose text or tree is read again as themselves.
+-- Values whose text or tree is read back as themselves.
 use Rattle.std.specs.Prelude.{◌≡◌, ℕ, List, ◌++◌, Some, IfSome, codes}
 use Rattle.std.specs.List.{AllByRecursion}
 use Rattle.as4_values.specs.declared.header.Agreement.{Agreement}

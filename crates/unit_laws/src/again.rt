@@ -1,4 +1,4 @@
-//! What each value keeps: it is read again from what is written of it, and its tree can be written.
+//! A fact about each value: it is read back from its text, and its tree can be written.
 
 ghost use Rattle.std.specs.Prelude.{◌≡◌, Some, IfSome, codes};
 ghost use Rattle.std.specs.List.{AllByRecursion};
@@ -14,13 +14,13 @@ use as4_values::{
     SignalBody, StampText, Text, Unit, UserHeader,
 };
 
-/// What is read again as it was written, and is kept by its text.
+/// Values that are read back as they were written, and are kept by their text.
 pub trait Again {
     ghost again: { Self → Type 0 };
 
     ghost kept: { Self → Type 0 };
 
-    /// Does nothing: each value of the type is read again, and kept.
+    /// A law: each value of the type is read back, and kept.
     fn show(&self)
         ensures again { again self.now }
         ensures kept { kept self.now };
@@ -82,7 +82,7 @@ impl<T: Again> Again for Option<T> {
     }
 }
 
-/// So it is with each of these.
+/// The law of `show` for all items.
 fn show_all<T: Again>(items: &[T])
     ensures again { AllByRecursion T.again items.now }
     ensures kept { AllByRecursion T.kept items.now }
@@ -185,7 +185,7 @@ impl Again for UserHeader {
     }
 }
 
-/// So it is with the values of `eb:MessageInfo`.
+/// The law of `show` for the values of `eb:MessageInfo`.
 #[tactic(auto, using(crate::proofs::UserAgain::info_again, crate::proofs::UserKept::info_kept))]
 fn show_info(stamp: &StampText, id: &MessageId, ref_to: &Option<MessageId>)
     ensures again { info_of (message_info_tree stamp.now id.now ref_to.now)

@@ -1,4 +1,4 @@
-//! What is written of a unit is read as that unit.
+//! A written unit is read back.
 
 ghost use Rattle.as4_values.specs.declared.message.Unit.TheVariants as unit;
 ghost use Rattle.header_reader.specs.Envelope.{SpellsUnit};
@@ -17,28 +17,28 @@ pub fn tree_is_read_again(unit: &Unit)
     unit.show();
 }
 
-/// What is written of a unit is read as that unit.
+/// A written unit is read back.
 pub fn unit_is_read_again(unit: &Unit)
     ensures { IsReadAgain (envelope_text (unit_text unit.now)) unit.now }
 {
     unit.show();
 }
 
-/// What is written of a user message is read as that message.
+/// A written user message is read back.
 pub fn header_is_read_again(header: &UserHeader)
     ensures { IsReadAgain (envelope_text (user_message header.now)) (unit.User header.now) }
 {
     header.show();
 }
 
-/// What is written of a signal message is read as that message.
+/// A written signal message is read back.
 pub fn signal_is_read_again(signal: &Signal)
     ensures { IsReadAgain (envelope_text (signal_message signal.now)) (unit.Signal signal.now) }
 {
     signal.show();
 }
 
-/// What is written of a receipt and the pull request behind it is read as that pair.
+/// A written receipt and the pull request after it are read back as that pair.
 pub fn pair_is_read_again(pair: &Pair)
     ensures { IsReadAgain (envelope_text (pair_text pair.now)) (unit.Pair pair.now) }
 {

@@ -1,4 +1,4 @@
-//! What is written of a message unit is read as that unit.
+//! A written message unit is read back.
 #![tactic(auto)]
 
 mod again;

@@ -1,5 +1,5 @@
-//! Units by hand, what is changed in the text of each envelope, and how it is then read: `=` as the unit itself, `!`
-//! Invalid, `?` Unsupported, and `old=>new` as the unit with that change.
+//! Sample units, changes in the text of each envelope, and how the result is read: `=` as the unit itself, `!` as
+//! Invalid, `?` as Unsupported, and `old=>new` as the unit with that change.
 
 pub const USER: &str =
     "<eb:UserMessage mpc=\"urn:mpc\"><eb:MessageInfo><eb:Timestamp>2025-01-02T03:04:05.006Z</eb:Timestamp><eb:MessageId>m1@a</eb:MessageId><eb:RefToMessageId>m0@a</eb:RefToMessageId></eb:MessageInfo><eb:PartyInfo><eb:From><eb:PartyId type=\"urn:k\">acme</eb:PartyId><eb:Role>seller</eb:Role></eb:From><eb:To><eb:PartyId>bolt</eb:PartyId><eb:Role>buyer</eb:Role></eb:To></eb:PartyInfo><eb:CollaborationInfo><eb:AgreementRef type=\"urn:a\" pmode=\"urn:p\">agreed</eb:AgreementRef><eb:Service type=\"urn:s\">orders</eb:Service><eb:Action>invoice</eb:Action><eb:ConversationId>c1</eb:ConversationId></eb:CollaborationInfo><eb:MessageProperties><eb:Property name=\"one\" type=\"urn:t\">v1</eb:Property></eb:MessageProperties><eb:PayloadInfo><eb:PartInfo href=\"cid:p1@a\"><eb:PartProperties><eb:Property name=\"two\">v2</eb:Property></eb:PartProperties></eb:PartInfo></eb:PayloadInfo></eb:UserMessage>";

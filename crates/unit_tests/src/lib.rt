@@ -1,4 +1,4 @@
-//! Tests of `header_reader`, by what it makes public.
+//! Tests of the public interface of `header_reader`.
 #![tactic(auto)]
 
 #[cfg(test)]

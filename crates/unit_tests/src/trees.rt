@@ -1,5 +1,5 @@
 //! Trees from short texts: elements with a start and an end tag, attributes in double quotes after one space each, and
-//! an element's text right behind its start tag. The prefix `S` means SOAP, `eb` ebMS, and every other one itself.
+//! an element's text directly after its start tag. The prefix `S` means SOAP, `eb` ebMS, and every other one itself.
 
 use as4_envelope::{Attribute, Attributes, EBMS, Element, SOAP, TreeBytes};
 use as4_values::Seq;
@@ -30,7 +30,7 @@ fn attribute(alloc: Global, name: &str, value: &str) -> Option<Attribute> {
     })
 }
 
-/// The attributes of a start tag, from behind its name on.
+/// The attributes of a start tag, from the bytes after its name.
 fn attributes(alloc: Global, tag: &str) -> Option<Vec<Attribute>> {
     let mut list = Vec::new(alloc);
     let mut rest = tag;

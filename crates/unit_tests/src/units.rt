@@ -1,3 +1,4 @@
+//! How the envelopes of the cases are read.
 use crate::cases::{
     BLOCK_CASES, BUSINESS_CASES, Case, ENVELOPE_CASES, ERROR, ERROR_CASES, INFO_CASES, LIST_CASES,
     PAIR, PAIR_CASES, PULL, PULL_CASES, RECEIPT, RECEIPT_CASES, SIDE_CASES, USER, USER_CASES,
@@ -13,7 +14,7 @@ const START: &str = "<S:Envelope><S:Header><eb:Messaging S:mustUnderstand=\"true
 
 const END: &str = "</eb:Messaging></S:Header><S:Body></S:Body></S:Envelope>";
 
-/// The text with the first `old` replaced, where it holds it.
+/// The text with the first `old` replaced, if the text contains it.
 fn replaced(alloc: Global, text: &str, old: &str, new: &str) -> Option<String> {
     let (front, back) = text.split_once(old)?;
     let mut out = String::new(alloc);
@@ -33,7 +34,7 @@ fn in_envelope(alloc: Global, unit: &str) -> Option<String> {
     Some(out)
 }
 
-/// Whether the canonical text of what is read holds just this unit.
+/// Whether the canonical text of the unit that was read contains just this unit.
 fn is_unit_text(text: &[u8], unit: &str) -> bool {
     let Some(rest) = text.strip_suffix(END.as_bytes()) else {
         return false;
@@ -56,7 +57,7 @@ fn repeated(alloc: Global, piece: &str, count: usize) -> Option<String> {
     Some(out)
 }
 
-/// Whether this unit is what was read.
+/// Whether this unit was read.
 fn is_written_so(alloc: Global, read: Unit, unit: &str) -> Option<bool> {
     let text = write_envelope(alloc, &read);
     drop(read);
@@ -66,7 +67,7 @@ fn is_written_so(alloc: Global, read: Unit, unit: &str) -> Option<bool> {
     Some(so)
 }
 
-/// How the changed envelope is read.
+/// Whether the changed envelope is read as the case says.
 fn is_read_so(alloc: Global, unit: &str, case: &Case) -> Option<bool> {
     let (old, new, wanted) = *case;
     let envelope = in_envelope(alloc, unit)?;
@@ -145,7 +146,7 @@ fn properties_and_part_infos_are_read_as_they_are_spelled(rt: HostRuntime) -> Re
     Ok(())
 }
 
-/// Whether a side of so many parties is read as a side of these.
+/// Whether a side of this many parties is read as a side of these.
 fn are_parties(alloc: Global, count: usize) -> Option<bool> {
     let parties = repeated(alloc, PARTY, count)?;
     let envelope = in_envelope(alloc, USER)?;

@@ -1,21 +1,21 @@
--- What is written so is cut.
+-- A written item is cut again.
 use Rattle.std.proofs.Common.{◌≡◌, ℕ, zero, suc, ◌≤◌, Bool, true, false, List, [], ◌∷◌, ◌++◌, length, map, Option, Some, None, refl, ap, subst, ◌∙◌, arith, inl, inr, append_assoc, length-append, ◌⊎◌, ◌==◌}
 use Rattle.std.specs.Prelude.{◌||◌}
 use Rattle.std.specs.List.{flat_map, AllByRecursion, AllPass, take_while}
 use Rattle.std.proofs.lemmas.Bool.{eqb-true, or_cases, not-true, false_from_ne_true, cond-false}
 use Rattle.std.proofs.lemmas.List.Concat.{flat_map-cons}
-use Rattle.as4_values.specs.Texts.{is_blank}
+use Rattle.byte_forms.specs.Classes.{is_blank}
 use Rattle.xml_items.specs.Classes.{is_name_byte, is_quote, is_value_byte, is_text_byte, declares}
 use Rattle.xml_items.specs.Items.{Item, declaration, comment, start, finish, run}
-use Rattle.byte_forms.specs.Cuts.{skip, behind}
+use Rattle.byte_forms.specs.Cuts.{skip, strip_prefix}
 use Rattle.xml_items.specs.Cutting.{value_in, value_at, attribute_at, attributes_within, attributes_at, tag_end_at, start_at, finish_at, dashes_at, comment_at, declaration_at, markup_at, item_at}
 use Rattle.xml_items.specs.Grammar.{IsSome, Stops, WrittenAttribute, print_attribute, IsAttribute, written, WrittenTag, print_tag_end, print_tag, IsTag, WrittenItem, xml_declaration, remark, start_tag, end_tag, text, print_item, IsRemark, IsItem, meaning}
 use Rattle.xml_items.proofs.AttributeLemmas.{length-print_attribute}
-use Rattle.byte_forms.proofs.CutLemmas.{behind_takes, behind_again}
+use Rattle.byte_forms.proofs.CutLemmas.{strip_prefix_takes, strip_prefix_again}
 use Rattle.xml_items.proofs.RunLemmas.{pass_head, stops_some, stops_behind, take_again, skip_again, run_again, run_none}
 use Rattle.xml_items.proofs.TakenLemmas.{print_attribute-append, print_tag-append, three}
 
--- ---- classes apart
+-- ---- distinct classes
 
 blank_is : (b : ℕ) → is_blank b ≡ true → (b ≡ 32) ⊎ ((b ≡ 9) ⊎ ((b ≡ 10) ⊎ (b ≡ 13)))
 blank_is b is = elim (or_cases (((b == 32) || (b == 9)) || (b == 10)) (b == 13) is) [
@@ -29,7 +29,7 @@ blank_is b is = elim (or_cases (((b == 32) || (b == 9)) || (b == 10)) (b == 13) 
   ]
 ]
 
--- a fact of each blank
+-- a fact about each blank
 of_blanks : (P : ℕ → Type 0) → P 32 → P 9 → P 10 → P 13 → (b : ℕ) → is_blank b ≡ true → P b
 of_blanks P s t l c b is = elim (blank_is b is) [
   | inl d ↦ rw d s
@@ -62,7 +62,7 @@ value_again : (quote : ℕ) (value rest : List ℕ) → is_quote quote ≡ true 
 unfolding value_at value_in
 value_again quote value rest is pass =
     let stops : Stops (is_value_byte quote) (quote ∷ rest) = quote_no_value quote is in
-    rw (is, skip_again (is_value_byte quote) value (quote ∷ rest) pass stops, take_again (is_value_byte quote) value (quote ∷ rest) pass stops, behind_again (quote ∷ []) rest) refl
+    rw (is, skip_again (is_value_byte quote) value (quote ∷ rest) pass stops, take_again (is_value_byte quote) value (quote ∷ rest) pass stops, strip_prefix_again (quote ∷ []) rest) refl
 
 attribute_again : (a : WrittenAttribute) (rest : List ℕ) → IsAttribute a → attribute_at (print_attribute a ++ rest) ≡ Some (written a, rest)
 unfolding attribute_at
@@ -75,12 +75,12 @@ attribute_again a rest is =
       run_again is_blank a.blanks named is.blanks (stops_some is_name_byte is_blank a.name (a.left ++ equalled) name_no_blank is.name),
       run_again is_name_byte a.name (a.left ++ equalled) is.name (stops_behind is_blank is_name_byte a.left equalled blank_no_name is.left refl),
       skip_again is_blank a.left equalled is.left refl,
-      behind_again (61 ∷ []) (a.right ++ valued),
+      strip_prefix_again (61 ∷ []) (a.right ++ valued),
       skip_again is_blank a.right valued is.right (quote_no_blank a.quote is.quote),
       value_again a.quote a.value rest is.quote is.value,
     ) refl
 
--- behind blanks there is no name, hence no attribute
+-- after blanks there is no name, hence no attribute
 attribute_none : (blanks rest : List ℕ) → AllPass is_blank blanks → Stops is_blank rest → Stops is_name_byte rest → attribute_at (blanks ++ rest) ≡ None
 unfolding attribute_at
 attribute_none [] rest pass no_blank no_name = rw (run_none is_blank rest no_blank) refl
@@ -115,7 +115,7 @@ abbrev Again : WrittenItem → List ℕ → Type 0
 Again w rest = item_at (print_item w ++ rest) ≡ Some (meaning w, rest)
 
 tag_end_again : (closed : Bool) (rest : List ℕ) → tag_end_at (print_tag_end closed ++ rest) ≡ Some (closed, rest)
-unfolding tag_end_at behind
+unfolding tag_end_at strip_prefix
 tag_end_again true rest = refl
 tag_end_again false rest = refl
 
@@ -123,11 +123,11 @@ tag_end_stops : (class : ℕ → Bool) (closed : Bool) (rest : List ℕ) → cla
 tag_end_stops class true rest slash angle = slash
 tag_end_stops class false rest slash angle = angle
 
--- the first byte of a name isn't one that begins other markup
+-- the first byte of a name doesn't begin other markup
 name_is_no : (mark b : ℕ) → is_name_byte mark ≡ false → is_name_byte b ≡ true → (b == mark) ≡ false
 name_is_no mark b other is = false_from_ne_true (b == mark) (λ same. let at : is_name_byte mark ≡ true = subst (λ (y : ℕ). is_name_byte y ≡ true) (eqb-true b mark same) is in cc)
 
--- behind a name stand blanks, or what doesn't go on the name
+-- a name is followed by blanks, or by a byte that doesn't continue it
 after_name : (parts : List WrittenAttribute) (rest : List ℕ) → AllByRecursion IsAttribute parts → Stops is_name_byte rest → Stops is_name_byte (flat_map print_attribute parts ++ rest)
 unfolding print_attribute
 after_name [] rest each stops = stops
@@ -168,27 +168,27 @@ finish_again name blanks rest some pass =
       three name blanks (62 ∷ []) rest,
       run_again is_name_byte name (blanks ++ 62 ∷ rest) some (stops_behind is_blank is_name_byte blanks (62 ∷ rest) blank_no_name pass refl),
       skip_again is_blank blanks (62 ∷ rest) pass refl,
-      behind_again (62 ∷ []) rest,
+      strip_prefix_again (62 ∷ []) rest,
     ) refl
 
--- the first dashes are those behind the comment
-no_dashes : (b : ℕ) (t rest : List ℕ) → IsRemark (b ∷ t) → behind (45 ∷ 45 ∷ []) (b ∷ (t ++ 45 ∷ 45 ∷ rest)) ≡ None
-no_dashes b t rest is = none (behind (45 ∷ 45 ∷ []) (b ∷ (t ++ 45 ∷ 45 ∷ rest))) refl
+-- the first two dashes are those after the comment
+no_dashes : (b : ℕ) (t rest : List ℕ) → IsRemark (b ∷ t) → strip_prefix (45 ∷ 45 ∷ []) (b ∷ (t ++ 45 ∷ 45 ∷ rest)) ≡ None
+no_dashes b t rest is = none (strip_prefix (45 ∷ 45 ∷ []) (b ∷ (t ++ 45 ∷ 45 ∷ rest))) refl
   where
     two : (t more : List ℕ) → IsRemark (b ∷ t) → b ∷ (t ++ 45 ∷ 45 ∷ rest) ≡ 45 ∷ 45 ∷ more → ⊥
     two [] more is same = is (let head : b ≡ 45 = cc in head)
     two (c ∷ t) more is same = is.0 (let one : b ≡ 45 = cc in let other : c ≡ 45 = cc in (one, other))
 
-    none : (o : Option (List ℕ)) → behind (45 ∷ 45 ∷ []) (b ∷ (t ++ 45 ∷ 45 ∷ rest)) ≡ o → behind (45 ∷ 45 ∷ []) (b ∷ (t ++ 45 ∷ 45 ∷ rest)) ≡ None
+    none : (o : Option (List ℕ)) → strip_prefix (45 ∷ 45 ∷ []) (b ∷ (t ++ 45 ∷ 45 ∷ rest)) ≡ o → strip_prefix (45 ∷ 45 ∷ []) (b ∷ (t ++ 45 ∷ 45 ∷ rest)) ≡ None
     none None found = found
-    none (Some more) found = absurd (two t more is (behind_takes (45 ∷ 45 ∷ []) (b ∷ (t ++ 45 ∷ 45 ∷ rest)) more found))
+    none (Some more) found = absurd (two t more is (strip_prefix_takes (45 ∷ 45 ∷ []) (b ∷ (t ++ 45 ∷ 45 ∷ rest)) more found))
 
 remark_tail : (b : ℕ) (t : List ℕ) → IsRemark (b ∷ t) → IsRemark t
 remark_tail b [] is = tt
 remark_tail b (c ∷ t) is = is.1
 
 dashes_here : (rest : List ℕ) → dashes_at (45 ∷ 45 ∷ rest) ≡ Some ([], rest)
-unfolding dashes_at behind
+unfolding dashes_at strip_prefix
 dashes_here rest = refl
 
 dashes_again : (t rest : List ℕ) → IsRemark t → dashes_at (t ++ 45 ∷ 45 ∷ rest) ≡ Some (t, rest)
@@ -199,17 +199,17 @@ dashes_again (b ∷ t) rest is = rw (no_dashes b t rest is, dashes_at, dashes_ag
 comment_again : (t rest : List ℕ) → IsRemark t → comment_at (45 ∷ 45 ∷ ((t ++ 45 ∷ 45 ∷ 62 ∷ []) ++ rest)) ≡ Some (comment t, rest)
 unfolding comment_at
 comment_again t rest is =
-    rw (append_assoc t (45 ∷ 45 ∷ 62 ∷ []) rest, behind_again (45 ∷ 45 ∷ []) (t ++ 45 ∷ 45 ∷ 62 ∷ rest), dashes_again t (62 ∷ rest) is, behind_again (62 ∷ []) rest) refl
+    rw (append_assoc t (45 ∷ 45 ∷ 62 ∷ []) rest, strip_prefix_again (45 ∷ 45 ∷ []) (t ++ 45 ∷ 45 ∷ 62 ∷ rest), dashes_again t (62 ∷ rest) is, strip_prefix_again (62 ∷ []) rest) refl
 
 declaration_again : (parts : List WrittenAttribute) (blanks rest : List ℕ) → AllByRecursion IsAttribute parts → declares (map written parts) ≡ true → AllPass is_blank blanks → declaration_at (120 ∷ 109 ∷ 108 ∷ ((flat_map print_attribute parts ++ (blanks ++ 63 ∷ 62 ∷ [])) ++ rest)) ≡ Some (declaration, rest)
 unfolding declaration_at
 declaration_again parts blanks rest each says pass =
     rw (
       three (flat_map print_attribute parts) blanks (63 ∷ 62 ∷ []) rest,
-      behind_again (120 ∷ 109 ∷ 108 ∷ []) (flat_map print_attribute parts ++ (blanks ++ 63 ∷ 62 ∷ rest)),
+      strip_prefix_again (120 ∷ 109 ∷ 108 ∷ []) (flat_map print_attribute parts ++ (blanks ++ 63 ∷ 62 ∷ rest)),
       attributes_again parts blanks (63 ∷ 62 ∷ rest) each pass refl refl,
       skip_again is_blank blanks (63 ∷ 62 ∷ rest) pass refl,
-      behind_again (63 ∷ 62 ∷ []) rest,
+      strip_prefix_again (63 ∷ 62 ∷ []) rest,
       says,
     ) refl
 
@@ -224,7 +224,7 @@ text_again (b ∷ bytes) rest some stops =
     cut : {xs ys zs ws : List ℕ} → xs ≡ ys → zs ≡ ws → ◌≡◌ {A = Option (Item × List ℕ)} (Some (run xs, zs)) (Some (run ys, ws))
     cut e f = cc
 
--- what is written so is cut
+-- a written item is cut again
 pub item_cut_again : (w : WrittenItem) (rest : List ℕ) → IsItem w rest → Again w rest
 unfolding IsItem print_item meaning item_at markup_at
 item_cut_again (xml_declaration parts blanks) rest is = declaration_again parts blanks rest is.0 is.1 is.2

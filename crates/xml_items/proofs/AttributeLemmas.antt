@@ -1,4 +1,4 @@
--- Attributes, one behind another, as a loop cuts them.
+-- Attributes, one after another, as a loop cuts them.
 use Rattle.std.proofs.Common.{◌≡◌, ℕ, zero, suc, ◌<◌, ◌≤◌, List, [], ◌∷◌, ◌++◌, length, Some, None, refl, sym, ap, ◌∙◌, arith, inl, inr, append_assoc, append-nil, length-append}
 use Rattle.xml_items.specs.Items.{Written}
 use Rattle.xml_items.specs.Cutting.{attribute_at, attributes_within, attributes_at}
@@ -21,7 +21,7 @@ unfolding attributes_within
 none_within zero bytes none = refl
 none_within (suc n) bytes none = rw (none, attributes_within) refl
 
--- a larger number changes nothing
+-- a larger limit changes nothing
 enough : (n m : ℕ) (bytes : List ℕ) → length bytes ≤ n → length bytes ≤ m → attributes_within n bytes ≡ attributes_within m bytes
 unfolding attributes_within
 enough zero m bytes few_n few_m = elim (cases_option (attribute_at bytes)) [
@@ -50,7 +50,7 @@ attributes_some (b ∷ bytes) x cut =
     let shorter = attribute_shortens (b ∷ bytes) x cut in
     rw (cut, attributes_within, enough (length bytes) (length x.1) x.1 (omega arith) (omega arith)) refl
 
--- these attributes stand in front, and those of the rest behind them
+-- these attributes come first, followed by those of the rest
 abbrev pub GoesOn : List ℕ → List Written → List ℕ → Type 0
 GoesOn bytes front rest = attributes_at bytes ≡ (front ++ (attributes_at rest).0, (attributes_at rest).1)
 

@@ -1,4 +1,4 @@
--- The laws of an item: what is cut is written so, and what is written so is cut.
+-- The laws of an item: cutting and writing are inverse.
 use Rattle.std.proofs.Common.{◌≡◌, ℕ, ◌<◌, List, ◌++◌, length, Option, Some, ap, sym, ◌∙◌, arith, length-append}
 use Rattle.std.specs.Prelude.{◌↔◌}
 use Rattle.std.proofs.lemmas.Option.{some_pair_parts}
@@ -8,11 +8,11 @@ use Rattle.xml_items.specs.Grammar.{WrittenItem, xml_declaration, remark, start_
 use Rattle.xml_items.proofs.TakenLemmas.{item_taken}
 use Rattle.xml_items.proofs.AgainLemmas.{item_cut_again}
 
--- what is cut is written so
+-- an item that is cut was written there
 pub item_takes : (bytes : List ℕ) (x : Item × List ℕ) → item_at bytes ≡ Some x → (w : WrittenItem) × IsItem w x.1 × (meaning w ≡ x.0) × (bytes ≡ print_item w ++ x.1)
 item_takes bytes x cut = item_taken bytes x cut
 
--- what is written so is cut, whatever stands behind it
+-- a written item is cut again, whatever follows it
 pub item_again : (w : WrittenItem) (rest : List ℕ) → IsItem w rest → item_at (print_item w ++ rest) ≡ Some (meaning w, rest)
 item_again w rest is = item_cut_again w rest is
 
@@ -25,13 +25,13 @@ length-print_item (start_tag t) rest is = omega arith
 length-print_item (end_tag name blanks) rest is = omega arith
 length-print_item (text bytes) rest is = omega (arith, is.0.some)
 
--- so bytes come to an end
+-- so cutting ends
 pub item_shortens : (bytes : List ℕ) (x : Item × List ℕ) → item_at bytes ≡ Some x → length x.1 < length bytes
 item_shortens bytes x cut =
     let taken = item_taken bytes x cut in
     omega (arith, length-print_item taken.0 x.1 taken.1, ap length taken.3, length-append (print_item taken.0) x.1)
 
--- the item that is cut is the one that is written there
+-- an item is cut exactly if it is written there
 pub item_is : (bytes : List ℕ) (item : Item) (rest : List ℕ) → (item_at bytes ≡ Some (item, rest)) ↔ BeginsItem bytes item rest
 item_is bytes item rest = (item_taken bytes (item, rest), begun)
   where

@@ -1,20 +1,20 @@
--- What is cut is written so.
+-- An item that is cut was written there.
 use Rattle.std.proofs.Common.{◌≡◌, ℕ, zero, suc, Bool, true, false, cond, List, [], ◌∷◌, ◌++◌, length, map, Option, Some, None, subst, refl, sym, ap, ◌∙◌, inl, inr, append_assoc, ◌==◌}
 use Rattle.std.specs.List.{take_while, flat_map, AllByRecursion, AllPass}
 use Rattle.std.specs.Option.{option_map}
 use Rattle.std.proofs.lemmas.Bool.{eqb-true, cases_Bool, cond-false}
 use Rattle.std.proofs.lemmas.Option.{same_Some, cond_some}
 use Rattle.std.proofs.lemmas.List.Concat.{flat_map-cons}
-use Rattle.as4_values.specs.Texts.{is_blank}
+use Rattle.byte_forms.specs.Classes.{is_blank}
 use Rattle.xml_items.specs.Classes.{is_name_byte, is_quote, is_value_byte, is_text_byte, declares}
 use Rattle.xml_items.specs.Items.{Written, Item, declaration, comment, start, finish, run}
-use Rattle.byte_forms.specs.Cuts.{◌>>=◌, skip, run_at, behind}
+use Rattle.byte_forms.specs.Cuts.{◌>>=◌, skip, run_at, strip_prefix}
 use Rattle.xml_items.specs.Cutting.{value_in, value_at, attribute_at, attributes_within, attributes_at, tag_end_at, start_at, finish_at, dashes_at, comment_at, declaration_at, markup_at, item_at}
 use Rattle.xml_items.specs.Grammar.{IsSome, WrittenAttribute, print_attribute, IsAttribute, written, WrittenTag, print_tag_end, print_tag, IsTag, xml_declaration, remark, start_tag, end_tag, text, print_item, IsRemark, IsItem, meaning, BeginsItem}
-use Rattle.byte_forms.proofs.CutLemmas.{cases_option, bind_some, run_whole, run_stops, behind_takes, behind_again}
+use Rattle.byte_forms.proofs.CutLemmas.{cases_option, bind_some, run_whole, run_stops, strip_prefix_takes, strip_prefix_again}
 use Rattle.xml_items.proofs.RunLemmas.{run_passes, run_takes, some_run}
 
--- bytes in two parts, of which the second is as well
+-- replaces the second of two parts by an equal one
 onto : (bytes front middle rest : List ℕ) → bytes ≡ front ++ middle → middle ≡ rest → bytes ≡ front ++ rest
 onto bytes front middle rest e f = e ∙ ap (λ (r : List ℕ). front ++ r) f
 
@@ -29,10 +29,10 @@ three first second third rest = simp append_assoc
 value_in_takes : (quote : ℕ) (bytes : List ℕ) (x : List ℕ × List ℕ) → value_in quote bytes ≡ Some x → (bytes ≡ x.0 ++ quote ∷ x.1) × AllPass (is_value_byte quote) x.0
 unfolding value_in
 value_in_takes quote bytes x e =
-    bind_some (behind (quote ∷ []) (skip (is_value_byte quote) bytes)) (λ rest. Some (take_while (is_value_byte quote) bytes, rest)) x e λ rest ends same.
+    bind_some (strip_prefix (quote ∷ []) (skip (is_value_byte quote) bytes)) (λ rest. Some (take_while (is_value_byte quote) bytes, rest)) x e λ rest ends same.
     let front : List ℕ = take_while (is_value_byte quote) bytes in
     subst (λ (y : List ℕ × List ℕ). (bytes ≡ y.0 ++ quote ∷ y.1) × AllPass (is_value_byte quote) y.0) (same_Some (front, rest) x same)
-    (onto bytes front (skip (is_value_byte quote) bytes) (quote ∷ rest) (run_whole (is_value_byte quote) bytes) (behind_takes (quote ∷ []) (skip (is_value_byte quote) bytes) rest ends), run_passes (is_value_byte quote) bytes)
+    (onto bytes front (skip (is_value_byte quote) bytes) (quote ∷ rest) (run_whole (is_value_byte quote) bytes) (strip_prefix_takes (quote ∷ []) (skip (is_value_byte quote) bytes) rest ends), run_passes (is_value_byte quote) bytes)
 
 -- a value was cut between two quotes
 record ValueTaken (bytes : List ℕ) (x : List ℕ × List ℕ) : Type 0 where
@@ -66,13 +66,13 @@ AttributeTaken bytes x = (w : WrittenAttribute) × IsAttribute w × (written w �
 pub attribute_takes : (bytes : List ℕ) (x : Written × List ℕ) → attribute_at bytes ≡ Some x → AttributeTaken bytes x
 unfolding attribute_at
 attribute_takes bytes x e =
-    bind_some (run_at is_blank bytes) (λ blanks. run_at is_name_byte blanks.1 >>= λ name. behind (61 ∷ []) (skip is_blank name.1) >>= λ rest. value_at (skip is_blank rest) >>= λ value. Some (record { name = name.0; value = value.0 }, value.1)) x e λ blanks e0 f0.
-    bind_some (run_at is_name_byte blanks.1) (λ name. behind (61 ∷ []) (skip is_blank name.1) >>= λ rest. value_at (skip is_blank rest) >>= λ value. Some (record { name = name.0; value = value.0 }, value.1)) x f0 λ name e1 f1.
-    bind_some (behind (61 ∷ []) (skip is_blank name.1)) (λ rest. value_at (skip is_blank rest) >>= λ value. Some (record { name = name.0; value = value.0 }, value.1)) x f1 λ rest e2 f2.
+    bind_some (run_at is_blank bytes) (λ blanks. run_at is_name_byte blanks.1 >>= λ name. strip_prefix (61 ∷ []) (skip is_blank name.1) >>= λ rest. value_at (skip is_blank rest) >>= λ value. Some (record { name = name.0; value = value.0 }, value.1)) x e λ blanks e0 f0.
+    bind_some (run_at is_name_byte blanks.1) (λ name. strip_prefix (61 ∷ []) (skip is_blank name.1) >>= λ rest. value_at (skip is_blank rest) >>= λ value. Some (record { name = name.0; value = value.0 }, value.1)) x f0 λ name e1 f1.
+    bind_some (strip_prefix (61 ∷ []) (skip is_blank name.1)) (λ rest. value_at (skip is_blank rest) >>= λ value. Some (record { name = name.0; value = value.0 }, value.1)) x f1 λ rest e2 f2.
     bind_some (value_at (skip is_blank rest)) (λ value. Some (record { name = name.0; value = value.0 }, value.1)) x f2 λ value e3 f3.
     let t0 = run_takes is_blank bytes blanks e0 in
     let t1 = run_takes is_name_byte blanks.1 name e1 in
-    let t2 = behind_takes (61 ∷ []) (skip is_blank name.1) rest e2 in
+    let t2 = strip_prefix_takes (61 ∷ []) (skip is_blank name.1) rest e2 in
     let t3 = value_takes (skip is_blank rest) value e3 in
     let w : WrittenAttribute = record { blanks = blanks.0; name = name.0; left = take_while is_blank name.1; right = take_while is_blank rest; quote = t3.quote; value = value.0 } in
     let right : rest ≡ w.right ++ w.quote ∷ (w.value ++ w.quote ∷ value.1) = onto rest w.right (skip is_blank rest) (w.quote ∷ (w.value ++ w.quote ∷ value.1)) (run_whole is_blank rest) t3.parts in
@@ -82,7 +82,7 @@ attribute_takes bytes x e =
     let is : IsAttribute w = record { blanks = t0.1; name = t1.1; left = run_passes is_blank name.1; right = run_passes is_blank rest; quote = t3.is; value = t3.pass } in
     subst (λ (y : Written × List ℕ). AttributeTaken bytes y) (same_Some (written w, value.1) x f3) (w, is, refl, whole ∙ sym (print_attribute-append w value.1))
 
--- attributes were cut, one behind another
+-- attributes were cut, one after another
 pub record AttributesTaken (bytes : List ℕ) (x : List Written × List ℕ) : Type 0 where
   pub parts : List WrittenAttribute
   pub each : AllByRecursion IsAttribute parts
@@ -121,15 +121,15 @@ ItemTaken bytes x = BeginsItem bytes x.0 x.1
 
 tag_end_takes : (bytes : List ℕ) (x : Bool × List ℕ) → tag_end_at bytes ≡ Some x → bytes ≡ print_tag_end x.0 ++ x.1
 unfolding tag_end_at
-tag_end_takes bytes x e = closes (behind (47 ∷ 62 ∷ []) bytes) refl e
+tag_end_takes bytes x e = closes (strip_prefix (47 ∷ 62 ∷ []) bytes) refl e
   where
-    opens : (o : Option (List ℕ)) → behind (62 ∷ []) bytes ≡ o → option_map (λ rest. (false, rest)) o ≡ Some x → bytes ≡ print_tag_end x.0 ++ x.1
+    opens : (o : Option (List ℕ)) → strip_prefix (62 ∷ []) bytes ≡ o → option_map (λ rest. (false, rest)) o ≡ Some x → bytes ≡ print_tag_end x.0 ++ x.1
     opens None is e = absurd cc
-    opens (Some rest) is e = subst (λ (y : Bool × List ℕ). bytes ≡ print_tag_end y.0 ++ y.1) (same_Some (false, rest) x e) (behind_takes (62 ∷ []) bytes rest is)
+    opens (Some rest) is e = subst (λ (y : Bool × List ℕ). bytes ≡ print_tag_end y.0 ++ y.1) (same_Some (false, rest) x e) (strip_prefix_takes (62 ∷ []) bytes rest is)
 
-    closes : (o : Option (List ℕ)) → behind (47 ∷ 62 ∷ []) bytes ≡ o → elim o [ Some rest ↦ Some (true, rest) | None ↦ option_map (λ rest. (false, rest)) (behind (62 ∷ []) bytes) ] ≡ Some x → bytes ≡ print_tag_end x.0 ++ x.1
-    closes None is e = opens (behind (62 ∷ []) bytes) refl e
-    closes (Some rest) is e = subst (λ (y : Bool × List ℕ). bytes ≡ print_tag_end y.0 ++ y.1) (same_Some (true, rest) x e) (behind_takes (47 ∷ 62 ∷ []) bytes rest is)
+    closes : (o : Option (List ℕ)) → strip_prefix (47 ∷ 62 ∷ []) bytes ≡ o → elim o [ Some rest ↦ Some (true, rest) | None ↦ option_map (λ rest. (false, rest)) (strip_prefix (62 ∷ []) bytes) ] ≡ Some x → bytes ≡ print_tag_end x.0 ++ x.1
+    closes None is e = opens (strip_prefix (62 ∷ []) bytes) refl e
+    closes (Some rest) is e = subst (λ (y : Bool × List ℕ). bytes ≡ print_tag_end y.0 ++ y.1) (same_Some (true, rest) x e) (strip_prefix_takes (47 ∷ 62 ∷ []) bytes rest is)
 
 pub print_tag-append : (t : WrittenTag) (rest : List ℕ) → print_tag t ++ rest ≡ 60 ∷ (t.name ++ (flat_map print_attribute t.attributes ++ (t.blanks ++ (print_tag_end t.closed ++ rest))))
 print_tag-append t rest = regroup t.name (flat_map print_attribute t.attributes) t.blanks (print_tag_end t.closed) rest
@@ -158,11 +158,11 @@ start_takes bytes x e =
 finish_takes : (bytes : List ℕ) (x : Item × List ℕ) → finish_at bytes ≡ Some x → ItemTaken (60 ∷ 47 ∷ bytes) x
 unfolding finish_at IsItem print_item meaning
 finish_takes bytes x e =
-    bind_some (run_at is_name_byte bytes) (λ name. behind (62 ∷ []) (skip is_blank name.1) >>= λ rest. Some (finish name.0, rest)) x e λ name e0 f0.
-    bind_some (behind (62 ∷ []) (skip is_blank name.1)) (λ rest. Some (finish name.0, rest)) x f0 λ rest e1 f1.
+    bind_some (run_at is_name_byte bytes) (λ name. strip_prefix (62 ∷ []) (skip is_blank name.1) >>= λ rest. Some (finish name.0, rest)) x e λ name e0 f0.
+    bind_some (strip_prefix (62 ∷ []) (skip is_blank name.1)) (λ rest. Some (finish name.0, rest)) x f0 λ rest e1 f1.
     let t0 = run_takes is_name_byte bytes name e0 in
     let blanks : List ℕ = take_while is_blank name.1 in
-    let ends : name.1 ≡ blanks ++ 62 ∷ rest = onto name.1 blanks (skip is_blank name.1) (62 ∷ rest) (run_whole is_blank name.1) (behind_takes (62 ∷ []) (skip is_blank name.1) rest e1) in
+    let ends : name.1 ≡ blanks ++ 62 ∷ rest = onto name.1 blanks (skip is_blank name.1) (62 ∷ rest) (run_whole is_blank name.1) (strip_prefix_takes (62 ∷ []) (skip is_blank name.1) rest e1) in
     let whole : bytes ≡ name.0 ++ (blanks ++ 62 ∷ rest) = onto bytes name.0 name.1 (blanks ++ 62 ∷ rest) t0.0 ends in
     let grouped : (name.0 ++ (blanks ++ 62 ∷ [])) ++ rest ≡ name.0 ++ (blanks ++ 62 ∷ rest) = three name.0 blanks (62 ∷ []) rest in
     subst (λ (y : Item × List ℕ). ItemTaken (60 ∷ 47 ∷ bytes) y) (same_Some (finish name.0, rest) x f1)
@@ -173,37 +173,37 @@ finish_takes bytes x e =
 dashes_take : (bytes : List ℕ) (x : List ℕ × List ℕ) → dashes_at bytes ≡ Some x → IsRemark x.0 × (bytes ≡ x.0 ++ 45 ∷ 45 ∷ x.1)
 unfolding dashes_at
 dashes_take [] x e = absurd cc
-dashes_take (b ∷ bytes) x e = here (behind (45 ∷ 45 ∷ []) (b ∷ bytes)) refl (dashes_take bytes) e
+dashes_take (b ∷ bytes) x e = here (strip_prefix (45 ∷ 45 ∷ []) (b ∷ bytes)) refl (dashes_take bytes) e
   where
-    -- two dashes don't stand here, so none of them stand in one more byte of the comment
-    one_more : (t r : List ℕ) → behind (45 ∷ 45 ∷ []) (b ∷ (t ++ 45 ∷ 45 ∷ r)) ≡ None → IsRemark t → IsRemark (b ∷ t)
-    one_more [] r none is = λ b-is. (let found = behind_again (45 ∷ 45 ∷ []) (45 ∷ r) in let here : behind (45 ∷ 45 ∷ []) (45 ∷ 45 ∷ 45 ∷ r) ≡ None = subst (λ (y : ℕ). behind (45 ∷ 45 ∷ []) (y ∷ 45 ∷ 45 ∷ r) ≡ None) b-is none in cc)
+    -- two dashes don't occur here, so a comment with one more byte contains none
+    one_more : (t r : List ℕ) → strip_prefix (45 ∷ 45 ∷ []) (b ∷ (t ++ 45 ∷ 45 ∷ r)) ≡ None → IsRemark t → IsRemark (b ∷ t)
+    one_more [] r none is = λ b-is. (let found = strip_prefix_again (45 ∷ 45 ∷ []) (45 ∷ r) in let here : strip_prefix (45 ∷ 45 ∷ []) (45 ∷ 45 ∷ 45 ∷ r) ≡ None = subst (λ (y : ℕ). strip_prefix (45 ∷ 45 ∷ []) (y ∷ 45 ∷ 45 ∷ r) ≡ None) b-is none in cc)
     one_more (c ∷ t) r none is = (
-      λ both. let found = behind_again (45 ∷ 45 ∷ []) (t ++ 45 ∷ 45 ∷ r) in let front : b ∷ c ∷ (t ++ 45 ∷ 45 ∷ r) ≡ 45 ∷ 45 ∷ (t ++ 45 ∷ 45 ∷ r) = cc in let here : behind (45 ∷ 45 ∷ []) (45 ∷ 45 ∷ (t ++ 45 ∷ 45 ∷ r)) ≡ None = subst (λ (y : List ℕ). behind (45 ∷ 45 ∷ []) y ≡ None) front none in cc,
+      λ both. let found = strip_prefix_again (45 ∷ 45 ∷ []) (t ++ 45 ∷ 45 ∷ r) in let front : b ∷ c ∷ (t ++ 45 ∷ 45 ∷ r) ≡ 45 ∷ 45 ∷ (t ++ 45 ∷ 45 ∷ r) = cc in let here : strip_prefix (45 ∷ 45 ∷ []) (45 ∷ 45 ∷ (t ++ 45 ∷ 45 ∷ r)) ≡ None = subst (λ (y : List ℕ). strip_prefix (45 ∷ 45 ∷ []) y ≡ None) front none in cc,
       is,
     )
 
-    later : (o : Option (List ℕ × List ℕ)) → dashes_at bytes ≡ o → ((cut : List ℕ × List ℕ) → dashes_at bytes ≡ Some cut → IsRemark cut.0 × (bytes ≡ cut.0 ++ 45 ∷ 45 ∷ cut.1)) → behind (45 ∷ 45 ∷ []) (b ∷ bytes) ≡ None → option_map (λ cut. (b ∷ cut.0, cut.1)) o ≡ Some x → IsRemark x.0 × (b ∷ bytes ≡ x.0 ++ 45 ∷ 45 ∷ x.1)
+    later : (o : Option (List ℕ × List ℕ)) → dashes_at bytes ≡ o → ((cut : List ℕ × List ℕ) → dashes_at bytes ≡ Some cut → IsRemark cut.0 × (bytes ≡ cut.0 ++ 45 ∷ 45 ∷ cut.1)) → strip_prefix (45 ∷ 45 ∷ []) (b ∷ bytes) ≡ None → option_map (λ cut. (b ∷ cut.0, cut.1)) o ≡ Some x → IsRemark x.0 × (b ∷ bytes ≡ x.0 ++ 45 ∷ 45 ∷ x.1)
     later None is inner none e = absurd cc
     later (Some cut) is taken none e =
         let inner = taken cut is in
-        let no_dashes : behind (45 ∷ 45 ∷ []) (b ∷ (cut.0 ++ 45 ∷ 45 ∷ cut.1)) ≡ None = subst (λ (y : List ℕ). behind (45 ∷ 45 ∷ []) (b ∷ y) ≡ None) inner.1 none in
+        let no_dashes : strip_prefix (45 ∷ 45 ∷ []) (b ∷ (cut.0 ++ 45 ∷ 45 ∷ cut.1)) ≡ None = subst (λ (y : List ℕ). strip_prefix (45 ∷ 45 ∷ []) (b ∷ y) ≡ None) inner.1 none in
         subst (λ (y : List ℕ × List ℕ). IsRemark y.0 × (b ∷ bytes ≡ y.0 ++ 45 ∷ 45 ∷ y.1)) (same_Some (b ∷ cut.0, cut.1) x e)
         (one_more cut.0 cut.1 no_dashes inner.0, ap (λ (r : List ℕ). b ∷ r) inner.1)
 
-    here : (o : Option (List ℕ)) → behind (45 ∷ 45 ∷ []) (b ∷ bytes) ≡ o → ((cut : List ℕ × List ℕ) → dashes_at bytes ≡ Some cut → IsRemark cut.0 × (bytes ≡ cut.0 ++ 45 ∷ 45 ∷ cut.1)) → elim o [ Some rest ↦ Some ([], rest) | None ↦ option_map (λ cut. (b ∷ cut.0, cut.1)) (dashes_at bytes) ] ≡ Some x → IsRemark x.0 × (b ∷ bytes ≡ x.0 ++ 45 ∷ 45 ∷ x.1)
-    here (Some rest) is taken e = subst (λ (y : List ℕ × List ℕ). IsRemark y.0 × (b ∷ bytes ≡ y.0 ++ 45 ∷ 45 ∷ y.1)) (same_Some ([], rest) x e) (tt, behind_takes (45 ∷ 45 ∷ []) (b ∷ bytes) rest is)
+    here : (o : Option (List ℕ)) → strip_prefix (45 ∷ 45 ∷ []) (b ∷ bytes) ≡ o → ((cut : List ℕ × List ℕ) → dashes_at bytes ≡ Some cut → IsRemark cut.0 × (bytes ≡ cut.0 ++ 45 ∷ 45 ∷ cut.1)) → elim o [ Some rest ↦ Some ([], rest) | None ↦ option_map (λ cut. (b ∷ cut.0, cut.1)) (dashes_at bytes) ] ≡ Some x → IsRemark x.0 × (b ∷ bytes ≡ x.0 ++ 45 ∷ 45 ∷ x.1)
+    here (Some rest) is taken e = subst (λ (y : List ℕ × List ℕ). IsRemark y.0 × (b ∷ bytes ≡ y.0 ++ 45 ∷ 45 ∷ y.1)) (same_Some ([], rest) x e) (tt, strip_prefix_takes (45 ∷ 45 ∷ []) (b ∷ bytes) rest is)
     here None is taken e = later (dashes_at bytes) refl taken is e
 
 comment_takes : (bytes : List ℕ) (x : Item × List ℕ) → comment_at bytes ≡ Some x → ItemTaken (60 ∷ 33 ∷ bytes) x
 unfolding comment_at IsItem print_item meaning
 comment_takes bytes x e =
-    bind_some (behind (45 ∷ 45 ∷ []) bytes) (λ text. dashes_at text >>= λ cut. behind (62 ∷ []) cut.1 >>= λ rest. Some (comment cut.0, rest)) x e λ front e0 f0.
-    bind_some (dashes_at front) (λ cut. behind (62 ∷ []) cut.1 >>= λ rest. Some (comment cut.0, rest)) x f0 λ cut e1 f1.
-    bind_some (behind (62 ∷ []) cut.1) (λ rest. Some (comment cut.0, rest)) x f1 λ rest e2 f2.
-    let t0 = behind_takes (45 ∷ 45 ∷ []) bytes front e0 in
+    bind_some (strip_prefix (45 ∷ 45 ∷ []) bytes) (λ text. dashes_at text >>= λ cut. strip_prefix (62 ∷ []) cut.1 >>= λ rest. Some (comment cut.0, rest)) x e λ front e0 f0.
+    bind_some (dashes_at front) (λ cut. strip_prefix (62 ∷ []) cut.1 >>= λ rest. Some (comment cut.0, rest)) x f0 λ cut e1 f1.
+    bind_some (strip_prefix (62 ∷ []) cut.1) (λ rest. Some (comment cut.0, rest)) x f1 λ rest e2 f2.
+    let t0 = strip_prefix_takes (45 ∷ 45 ∷ []) bytes front e0 in
     let t1 = dashes_take front cut e1 in
-    let t2 = behind_takes (62 ∷ []) cut.1 rest e2 in
+    let t2 = strip_prefix_takes (62 ∷ []) cut.1 rest e2 in
     let whole : front ≡ cut.0 ++ 45 ∷ 45 ∷ 62 ∷ rest = t1.1 ∙ ap (λ (r : List ℕ). cut.0 ++ 45 ∷ 45 ∷ r) t2 in
     let grouped : (cut.0 ++ 45 ∷ 45 ∷ 62 ∷ []) ++ rest ≡ cut.0 ++ 45 ∷ 45 ∷ 62 ∷ rest = append_assoc cut.0 (45 ∷ 45 ∷ 62 ∷ []) rest in
     subst (λ (y : Item × List ℕ). ItemTaken (60 ∷ 33 ∷ bytes) y) (same_Some (comment cut.0, rest) x f2)
@@ -214,14 +214,14 @@ comment_takes bytes x e =
 declaration_takes : (bytes : List ℕ) (x : Item × List ℕ) → declaration_at bytes ≡ Some x → ItemTaken (60 ∷ 63 ∷ bytes) x
 unfolding declaration_at IsItem print_item meaning
 declaration_takes bytes x e =
-    bind_some (behind (120 ∷ 109 ∷ 108 ∷ []) bytes) (λ parts. behind (63 ∷ 62 ∷ []) (skip is_blank (attributes_at parts).1) >>= λ rest. cond (declares (attributes_at parts).0) (Some (declaration, rest)) None) x e λ front e0 f0.
-    bind_some (behind (63 ∷ 62 ∷ []) (skip is_blank (attributes_at front).1)) (λ rest. cond (declares (attributes_at front).0) (Some (declaration, rest)) None) x f0 λ rest e1 f1.
-    let t0 = behind_takes (120 ∷ 109 ∷ 108 ∷ []) bytes front e0 in
+    bind_some (strip_prefix (120 ∷ 109 ∷ 108 ∷ []) bytes) (λ parts. strip_prefix (63 ∷ 62 ∷ []) (skip is_blank (attributes_at parts).1) >>= λ rest. cond (declares (attributes_at parts).0) (Some (declaration, rest)) None) x e λ front e0 f0.
+    bind_some (strip_prefix (63 ∷ 62 ∷ []) (skip is_blank (attributes_at front).1)) (λ rest. cond (declares (attributes_at front).0) (Some (declaration, rest)) None) x f0 λ rest e1 f1.
+    let t0 = strip_prefix_takes (120 ∷ 109 ∷ 108 ∷ []) bytes front e0 in
     let some = attributes_take front in
     let behind_them : List ℕ = (attributes_at front).1 in
     let blanks : List ℕ = take_while is_blank behind_them in
     let says = cond_some (declares (attributes_at front).0) (declaration, rest) x f1 in
-    let ends : behind_them ≡ blanks ++ 63 ∷ 62 ∷ rest = onto behind_them blanks (skip is_blank behind_them) (63 ∷ 62 ∷ rest) (run_whole is_blank behind_them) (behind_takes (63 ∷ 62 ∷ []) (skip is_blank behind_them) rest e1) in
+    let ends : behind_them ≡ blanks ++ 63 ∷ 62 ∷ rest = onto behind_them blanks (skip is_blank behind_them) (63 ∷ 62 ∷ rest) (run_whole is_blank behind_them) (strip_prefix_takes (63 ∷ 62 ∷ []) (skip is_blank behind_them) rest e1) in
     let whole : front ≡ flat_map print_attribute some.parts ++ (blanks ++ 63 ∷ 62 ∷ rest) = onto front (flat_map print_attribute some.parts) behind_them (blanks ++ 63 ∷ 62 ∷ rest) some.whole ends in
     let grouped : (flat_map print_attribute some.parts ++ (blanks ++ 63 ∷ 62 ∷ [])) ++ rest ≡ flat_map print_attribute some.parts ++ (blanks ++ 63 ∷ 62 ∷ rest) = three (flat_map print_attribute some.parts) blanks (63 ∷ 62 ∷ []) rest in
     let declared : declares (map written some.parts) ≡ true = rw some.means says.0 in
@@ -250,7 +250,7 @@ text_takes b bytes other =
     let some : IsSome is_text_byte (take_while is_text_byte (b ∷ bytes)) = some_run is_text_byte b bytes (rw other refl) in
     (text (take_while is_text_byte (b ∷ bytes)), (some, run_stops is_text_byte (b ∷ bytes)), refl, run_whole is_text_byte (b ∷ bytes))
 
--- what is cut is written so
+-- an item that is cut was written there
 pub item_taken : (bytes : List ℕ) (x : Item × List ℕ) → item_at bytes ≡ Some x → ItemTaken bytes x
 unfolding item_at
 item_taken [] x e = absurd cc

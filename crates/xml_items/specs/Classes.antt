@@ -1,11 +1,11 @@
--- Classes of bytes, and what an XML declaration says.
+-- Classes of bytes, and the content of an XML declaration.
 use Rattle.std.specs.Prelude.{ℕ, List, [], ◌∷◌, Bool, false, not, ◌&&◌, ◌||◌, ◌==◌, nat_le, codes, map}
 use Rattle.std.specs.Char.{is_ascii_alphanumeric, to_ascii_lowercase}
 use Rattle.std.specs.Str.{bytes_eq}
 use Rattle.xml_items.specs.Items.{Written}
 
 -- a byte of a name: a letter, a digit, `-`, `.`, `:`, `_`, or one of a character past ASCII (XML 1.0, section 2.3;
--- which of them may begin a name isn't asked here)
+-- which of them may begin a name isn't checked here)
 abbrev pub is_name_byte : ℕ → Bool
 is_name_byte b = is_ascii_alphanumeric b || (b == 45) || (b == 46) || (b == 58) || (b == 95) || nat_le 128 b
 
@@ -21,7 +21,7 @@ is_value_byte quote b = not ((b == quote) || (b == 60))
 abbrev pub is_text_byte : ℕ → Bool
 is_text_byte b = not (b == 60)
 
--- this name with this value
+-- an attribute with this name and this value
 abbrev pub says : List ℕ → List ℕ → Written → Bool
 says name value a = bytes_eq a.name name && bytes_eq a.value value
 
@@ -37,8 +37,8 @@ is_encoding a = bytes_eq a.name (codes "encoding") && bytes_eq (map to_ascii_low
 unfoldable pub is_standalone : Written → Bool
 is_standalone a = says (codes "standalone") (codes "yes") a || says (codes "standalone") (codes "no") a
 
--- what an XML declaration says: its version, then perhaps an encoding, then perhaps whether it stands alone
--- (XML 1.0, sections 2.8, 2.9 and 4.3.3)
+-- an XML declaration: its version, then an optional encoding, then an optional standalone part (XML 1.0, sections 2.8,
+-- 2.9 and 4.3.3)
 unfoldable pub declares : List Written → Bool
 declares [] = false
 declares (v ∷ []) = is_version v

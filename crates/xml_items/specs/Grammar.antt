@@ -1,17 +1,17 @@
--- How the items of a document are written (XML 1.0, sections 2.3 to 2.5, 2.8 and 3.1): each a tree, a printer from
--- the tree to its bytes, a fact that says which trees are right, and the item that it means.
+-- How the items of a document are written (XML 1.0, sections 2.3 to 2.5, 2.8 and 3.1). For each item: a tree, a printer
+-- from the tree to its bytes, a condition on valid trees, and the item that the tree means.
 use Rattle.std.specs.Prelude.{◌≡◌, ℕ, ◌<◌, List, [], ◌∷◌, ◌++◌, Bool, true, false, IsTrue, codes, length, map, ⊤}
 use Rattle.std.specs.List.{flat_map, AllByRecursion, AllPass}
-use Rattle.as4_values.specs.Texts.{is_blank}
+use Rattle.byte_forms.specs.Classes.{is_blank}
 use Rattle.xml_items.specs.Classes.{is_name_byte, is_quote, is_value_byte, is_text_byte, declares}
 use Rattle.xml_items.specs.Items.{Written, Item, declaration, comment, start, finish, run}
 
--- at least one byte, and each of a class
+-- at least one byte, all of a class
 pub record IsSome (class : ℕ → Bool) (bytes : List ℕ) : Type 0 where
   pub some : 0 < length bytes
   pub pass : AllPass class bytes
 
--- the bytes don't begin with one of a class
+-- the bytes don't begin with a byte of a class
 abbrev pub Stops : (ℕ → Bool) → List ℕ → Type 0
 Stops class [] = ⊤
 Stops class (b ∷ bytes) = class b ≡ false
@@ -49,7 +49,7 @@ pub record WrittenTag : Type 0 where
   pub blanks : List ℕ
   pub closed : Bool
 
--- `/>` or `>`
+-- the end of a start tag, `/>` or `>`
 abbrev pub print_tag_end : Bool → List ℕ
 print_tag_end true = codes "/>"
 print_tag_end false = codes ">"
@@ -62,8 +62,8 @@ pub record IsTag (t : WrittenTag) : Type 0 where
   pub attributes : AllByRecursion IsAttribute t.attributes
   pub blanks : AllPass is_blank t.blanks
 
--- an XML declaration with its parts and the blanks behind them; what stands in a comment; a start tag; an end tag with
--- its name and the blanks behind it; a text
+-- an XML declaration with its parts and the blanks after them; the content of a comment; a start tag; an end tag with
+-- its name and the blanks after it; a text
 pub data WrittenItem : Type 0 where
   xml_declaration : List WrittenAttribute → List ℕ → WrittenItem
   remark : List ℕ → WrittenItem
@@ -85,7 +85,7 @@ IsRemark [] = ⊤
 IsRemark (b ∷ []) = ¬ (b ≡ 45)
 IsRemark (b ∷ c ∷ bytes) = ¬ ((b ≡ 45) × (c ≡ 45)) × IsRemark (c ∷ bytes)
 
--- the item is right where these bytes stand behind it: a text goes on up to the next `<` or the end
+-- the item is valid before these bytes: a text extends to the next `<` or the end
 unfoldable pub IsItem : WrittenItem → List ℕ → Type 0
 IsItem (xml_declaration parts blanks) rest =
     AllByRecursion IsAttribute parts × IsTrue (declares (map written parts)) × AllPass is_blank blanks
@@ -94,7 +94,7 @@ IsItem (start_tag t) rest = IsTag t
 IsItem (end_tag name blanks) rest = IsSome is_name_byte name × AllPass is_blank blanks
 IsItem (text bytes) rest = IsSome is_text_byte bytes × Stops is_text_byte rest
 
--- what an item says
+-- the meaning of an item
 unfoldable pub meaning : WrittenItem → Item
 meaning (xml_declaration parts blanks) = declaration
 meaning (remark bytes) = comment bytes
@@ -102,7 +102,7 @@ meaning (start_tag t) = start (record { name = t.name; attributes = map written 
 meaning (end_tag name blanks) = finish name
 meaning (text bytes) = run bytes
 
--- the bytes are an item that says this, and then the rest
+-- the bytes are an item with this meaning, followed by the rest
 abbrev pub BeginsItem : List ℕ → Item → List ℕ → Type 0
 BeginsItem bytes item rest =
     (w : WrittenItem) × IsItem w rest × (meaning w ≡ item) × (bytes ≡ print_item w ++ rest)

@@ -1,3 +1,4 @@
+-- How a document's bytes are cut into items, and how items are written.
 pub mod Classes
 pub mod Cutting
 pub mod Grammar

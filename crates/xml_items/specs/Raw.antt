@@ -1,4 +1,4 @@
--- What a cut item is, without where it lies in memory.
+-- A cut item as a value, without its address in memory.
 use Rattle.std.specs.Prelude.{List, map}
 use Rattle.xml_items.specs.Items.{Written, Item, declaration, comment, start, finish, run}
 use Rattle.xml_items.specs.declared.item.RawAttribute.{RawAttribute}
@@ -8,7 +8,7 @@ use Rattle.xml_items.specs.declared.item.RawItem.TheVariants as raw
 abbrev pub written_of : RawAttribute → Written
 written_of a = record { name = a.name.now; value = a.value.now }
 
--- the item, of which these are the attributes
+-- the item with these attributes
 abbrev pub item_of : RawItem → List RawAttribute → Item
 item_of raw.Declaration attributes = declaration
 item_of (raw.Comment bytes) attributes = comment bytes.now

@@ -1,4 +1,4 @@
-//! Attributes, one behind another (XML 1.0, sections 2.3 and 3.1).
+//! Attributes, one after another (XML 1.0, sections 2.3 and 3.1).
 ghost use Rattle.std.specs.Prelude.{◌≡◌, [], IfOk, map};
 ghost use Rattle.std.specs.Option.{option_map};
 ghost use Rattle.xml_items.specs.Classes.{is_quote};
@@ -6,11 +6,11 @@ ghost use Rattle.xml_items.specs.Cutting.{value_in, value_at, attribute_at, attr
 ghost use Rattle.xml_items.specs.Raw.{written_of};
 
 use crate::item::RawAttribute;
-use crate::runs::{behind_blanks, name_at, skip_blanks, split_value};
+use crate::runs::{NameByte, split_value};
 use as4_values::NoMemory;
-use byte_forms::behind;
+use byte_forms::{Blank, run_at, skip, strip_prefix};
 
-/// The attributes that stand in front, each behind blanks, and what stands behind them all.
+/// The leading attributes, each after blanks, and the rest.
 #[tactic(auto, using(crate::proofs::AttributeLemmas::all_of))]
 pub fn attributes_at<'a>(
     bytes: &'a [u8],
@@ -20,26 +20,26 @@ pub fn attributes_at<'a>(
     ensures { IfOk result (λ rest. (map written_of attributes.new.items, rest.now) ≡ attributes_at bytes.now) }
 {
     let mut rest = bytes;
-    'attributes: while let Some((attribute, behind)) = attribute_at(rest) {
+    'attributes: while let Some((attribute, after)) = attribute_at(rest) {
         attributes.push(attribute)?;
-        rest = behind;
+        rest = after;
     }
     Ok(rest)
 }
 
-// An attribute behind blanks, and what stands behind it.
+// An attribute after blanks, and the rest.
 #[tactic(auto, unfolding(crate::specs::Cutting::attribute_at))]
 fn attribute_at(bytes: &[u8]) -> Option<(RawAttribute<'_>, &[u8])>
     ensures { option_map (λ x. (written_of x.0, x.1.now)) result ≡ attribute_at bytes.now }
 {
-    let rest = behind_blanks(bytes)?;
-    let (name, rest) = name_at(rest)?;
-    let rest = behind(b"=", skip_blanks(rest))?;
-    let (value, rest) = value_at(skip_blanks(rest))?;
+    let (_, rest) = run_at(Blank, bytes)?;
+    let (name, rest) = run_at(NameByte, rest)?;
+    let rest = strip_prefix(b"=", skip(Blank, rest))?;
+    let (value, rest) = value_at(skip(Blank, rest))?;
     Some((RawAttribute { name, value }, rest))
 }
 
-// A value between its quotes, and what stands behind it.
+// A value between its quotes, and the rest.
 #[tactic(auto, unfolding(crate::specs::Cutting::value_at))]
 fn value_at(bytes: &[u8]) -> Option<(&[u8], &[u8])>
     ensures { option_map (λ x. (x.0.now, x.1.now)) result ≡ value_at bytes.now }
@@ -55,13 +55,13 @@ fn value_at(bytes: &[u8]) -> Option<(&[u8], &[u8])>
     }
 }
 
-// A value behind its first quote, and what stands behind the second.
+// A value after its first quote, and the bytes after the second.
 #[tactic(auto, unfolding(crate::specs::Cutting::value_in))]
 fn value_in(quote: u8, bytes: &[u8]) -> Option<(&[u8], &[u8])>
     ensures { option_map (λ x. (x.0.now, x.1.now)) result ≡ value_in quote bytes.now }
 {
     let (value, rest) = split_value(quote, bytes);
-    let rest = behind(&[quote], rest)?;
+    let rest = strip_prefix(&[quote], rest)?;
     Some((value, rest))
 }
 

@@ -5,21 +5,21 @@ ghost use Rattle.xml_items.specs.Cutting.{dashes_at, comment_at};
 ghost use Rattle.xml_items.specs.Raw.{item_of};
 
 use crate::item::RawItem;
-use byte_forms::behind;
+use byte_forms::strip_prefix;
 use memchr::memmem;
 
-/// A comment, behind its `<!`, and what stands behind it.
+/// A comment, given the bytes after its `<!`, and the rest.
 #[tactic(auto, unfolding(crate::specs::Cutting::comment_at))]
 pub fn comment_at(bytes: &[u8]) -> Option<(RawItem<'_>, &[u8])>
     ensures { option_map (λ x. (item_of x.0 [], x.1.now)) result ≡ comment_at bytes.now }
 {
-    let rest = behind(b"--", bytes)?;
+    let rest = strip_prefix(b"--", bytes)?;
     let (text, rest) = dashes_at(rest)?;
-    let rest = behind(b">", rest)?;
+    let rest = strip_prefix(b">", rest)?;
     Some((RawItem::Comment(text), rest))
 }
 
-// What stands before and behind the first `--`.
+// The bytes before and after the first `--`.
 #[tactic(auto, using(crate::proofs::CommentLemmas::dashes_found, crate::proofs::CommentLemmas::no_dashes_found))]
 fn dashes_at(bytes: &[u8]) -> Option<(&[u8], &[u8])>
     ensures { option_map (λ x. (x.0.now, x.1.now)) result ≡ dashes_at bytes.now }

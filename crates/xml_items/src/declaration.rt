@@ -7,11 +7,10 @@ ghost use Rattle.xml_items.specs.Raw.{written_of, item_of};
 
 use crate::attributes::attributes_at;
 use crate::item::{RawAttribute, RawItem};
-use crate::runs::skip_blanks;
 use as4_values::NoMemory;
-use byte_forms::behind;
+use byte_forms::{Blank, skip, strip_prefix};
 
-/// An XML declaration, behind its `<?`, and what stands behind it. Its parts are cut as attributes are.
+/// An XML declaration, given the bytes after its `<?`, and the rest. Its parts are cut like attributes.
 #[tactic(auto, unfolding(crate::specs::Cutting::declaration_at))]
 pub fn declaration_at<'a>(
     bytes: &'a [u8],
@@ -21,11 +20,11 @@ pub fn declaration_at<'a>(
     ensures { IfOk result (λ found.
         option_map (λ x. (item_of x.0 parts.new.items, x.1.now)) found ≡ declaration_at bytes.now) }
 {
-    let Some(rest) = behind(b"xml", bytes) else {
+    let Some(rest) = strip_prefix(b"xml", bytes) else {
         return Ok(None);
     };
     let rest = attributes_at(rest, parts)?;
-    let Some(rest) = behind(b"?>", skip_blanks(rest)) else {
+    let Some(rest) = strip_prefix(b"?>", skip(Blank, rest)) else {
         return Ok(None);
     };
     if !declares(parts.as_slice()) {

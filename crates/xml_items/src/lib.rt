@@ -1,4 +1,4 @@
-//! The items of an XML document, cut by bytes alone. What their texts, names and values say is judged above.
+//! The items of an XML document, cut by bytes alone. The layer above checks their texts, names and values.
 #![tactic(auto)]
 
 mod attributes;

@@ -1,8 +1,8 @@
-//! The item at the front of a document's bytes (XML 1.0, sections 2.4, 2.5, 2.8 and 3.1).
+//! The first item of a document's bytes (XML 1.0, sections 2.4, 2.5, 2.8 and 3.1).
 //!
 //!     <?xml version="1.0" ..?>    a declaration
 //!     <!-- .. -->                 a comment
-//!     <name attribute ..>         a start tag, closed where it ends in `/>`
+//!     <name attribute ..>         a start tag, closed if it ends in `/>`
 //!     </name>                     an end tag
 //!     anything but `<`            a text, up to the next `<` or the end
 ghost use Rattle.std.specs.Prelude.{◌≡◌, [], IfOk};
@@ -17,10 +17,9 @@ use crate::runs::split_text;
 use crate::tags::{finish_at, start_at};
 use as4_values::NoMemory;
 
-/// The item at the front of the bytes, and what stands behind it; `None` where no item stands there, and at the
-/// end. The attributes of a start tag go into `attributes`, in the order in which they stand; what stood there goes.
-/// Behind any other item, and behind `NoMemory`, what stands there says nothing. Memory is taken for attributes
-/// alone, and one vector serves all tags.
+/// The first item of the bytes, and the rest; `None` if there is no item, and at the end. The attributes of a start tag
+/// replace the content of `attributes`, in order. After any other item and after `NoMemory`, the content of
+/// `attributes` is unspecified. Only attributes allocate, and one vector serves all tags.
 #[tactic(auto, unfolding(crate::specs::Cutting::item_at))]
 pub fn next_item<'a>(
     bytes: &'a [u8],
@@ -40,7 +39,7 @@ pub fn next_item<'a>(
     }
 }
 
-// The item whose first byte is `<`, behind that, and what stands behind it.
+// The item whose first byte is `<`, given the bytes after it, and the rest.
 #[tactic(auto, unfolding(crate::specs::Cutting::markup_at))]
 fn markup_at<'a>(
     bytes: &'a [u8],

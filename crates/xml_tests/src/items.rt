@@ -1,11 +1,11 @@
-//! Texts by hand, and the items that are cut off them, one behind another, until none stands in front.
+//! Sample texts, and the items that are cut off them, one after another, until the rest begins with none.
 //!
 //!     D;                      a declaration
 //!     Ctext;                  a comment
-//!     Sname name=value ../;   a start tag with its attributes; `/` where it is closed
+//!     Sname name=value ../;   a start tag with its attributes; `/` if it is closed
 //!     Ename;                  an end tag
 //!     Ttext;                  a text
-//!     |                       and behind it what is left
+//!     |                       followed by the rest
 
 use as4_values::NoMemory;
 use std::alloc::Global;
@@ -149,7 +149,7 @@ fn add_item(
     add_named(out, b";", b"")
 }
 
-/// The items of a text of less than 100, and what is left.
+/// The items of a text of less than 100 bytes, and the rest.
 fn cut(alloc: Global, text: &[u8]) -> Result<Vec<u8>, NoMemory> {
     let mut out = Vec::new(alloc);
     let mut attributes = Vec::new(alloc);
@@ -167,7 +167,7 @@ fn cut(alloc: Global, text: &[u8]) -> Result<Vec<u8>, NoMemory> {
     Ok(out)
 }
 
-/// The first of the texts of which other items are cut.
+/// The first of the texts from which other items are cut.
 fn first_other(alloc: Global, texts: &[(&[u8], &[u8])]) -> Result<Option<usize>, NoMemory> {
     for (at, (text, items)) in texts.iter().enumerate() {
         if cut(alloc, text)?.as_slice() != *items {

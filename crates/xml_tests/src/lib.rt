@@ -1,4 +1,4 @@
-//! Tests of `xml_items`, by what it makes public.
+//! Tests of the public interface of `xml_items`.
 #![tactic(auto)]
 
 #[cfg(test)]

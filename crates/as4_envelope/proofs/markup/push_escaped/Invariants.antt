@@ -3,7 +3,7 @@ use Rattle.std.specs.Prelude.{slice_range}
 use Rattle.as4_envelope.specs.Markup.{escaped}
 use Rattle.as4_envelope.proofs.markup.push_escaped.Given as goal
 
--- what is written and the bytes since then are the bytes so far, escaped
+-- the written bytes and those since then are the bytes so far, escaped
 abbrev pub invariant-loop-at : goal.invariant-loop-at
 invariant-loop-at l =
     (l.done ≤ l.at)

@@ -2,6 +2,6 @@ use Rattle.std.proofs.Common.{◌≡◌, drop}
 use Rattle.as4_envelope.specs.Writable.{names_differ}
 use Rattle.as4_envelope.proofs.writable.names_differ.Given as goal
 
--- all depends on the attributes that are left
+-- the result depends only on the remaining attributes
 abbrev pub invariant-loop-at : goal.invariant-loop-at
 invariant-loop-at l = names_differ l.attributes ≡ names_differ (drop l.at l.attributes)

@@ -2,7 +2,7 @@ use Rattle.std.proofs.Common.{length}
 use Rattle.mime_fields.proofs.LineLemmas.{GoOn}
 use Rattle.mime_fields.proofs.fields.behind_lines.Given as goal
 
--- what stands behind the lines of the rest stands behind them all
+-- the bytes after the lines of the rest are those after all lines
 abbrev pub invariant-loop-next : goal.invariant-loop-next
 invariant-loop-next l = GoOn l.bytes l.rest
 

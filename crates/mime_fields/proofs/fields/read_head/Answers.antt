@@ -17,13 +17,13 @@ returns-in_default c =
 
 pub loop-fields-smaller : goal.loop-fields-smaller
 loop-fields-smaller c =
-    field_shortens c.loop-fields.rest.now (field_of c.in-Some.field, c.in-Some.behind.now) (sym c.in-Some.ensures)
+    field_shortens c.loop-fields.rest.now (field_of c.in-Some.field, c.in-Some.after.now) (sym c.in-Some.ensures)
 
 pub loop-fields-preserved : goal.loop-fields-preserved
 loop-fields-preserved c =
     let more : map field_of c.push.new.self.items ≡ map field_of c.loop-fields.fields.items ++ field_of c.in-Some.field ∷ [] = rw c.in_ok-push.ensures.items (map_push field_of c.loop-fields.fields.items c.in-Some.field) in
     rw more (
-    one_on max_fields c.args.bytes.now c.loop-fields.rest.now (map field_of c.loop-fields.fields.items) (field_of c.in-Some.field, c.in-Some.behind.now)
+    one_on max_fields c.args.bytes.now c.loop-fields.rest.now (map field_of c.loop-fields.fields.items) (field_of c.in-Some.field, c.in-Some.after.now)
     (sym c.goes_on.ensures ∙ c.loop-fields-test.true) (λ all. c.if-len-eq-MAX_FIELDS.false (omega (arith, length-map c.loop-fields.fields.items field_of, c.loop-fields.fields.ok.0, c.len.ensures))) (sym c.in-Some.ensures) c.loop-fields.invariant
     )
 

@@ -3,7 +3,7 @@ use Rattle.mime_fields.specs.Lent.{parameter_of}
 use Rattle.mime_fields.proofs.ParameterLemmas.{GoOn}
 use Rattle.mime_fields.proofs.media_type.parameters_in.Given as goal
 
--- the parameters so far stand before those of the rest
+-- the parameters so far precede those of the rest
 abbrev pub invariant-loop-rest : goal.invariant-loop-rest
 invariant-loop-rest l = GoOn l.bytes (map parameter_of l.parameters.items) l.rest
 

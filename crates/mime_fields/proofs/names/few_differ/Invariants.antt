@@ -3,6 +3,6 @@ use Rattle.mime_fields.specs.MediaTypes.{names_differ}
 use Rattle.mime_fields.specs.Lent.{parameter_of}
 use Rattle.mime_fields.proofs.names.few_differ.Given as goal
 
--- all depends on the parameters that are left
+-- the result depends only on the remaining parameters
 abbrev pub invariant-loop-at : goal.invariant-loop-at
 invariant-loop-at l = names_differ (map parameter_of l.parameters) ≡ names_differ (map parameter_of (drop l.at l.parameters))

@@ -2,7 +2,7 @@ use Rattle.std.proofs.Common.{◌-◌, length}
 use Rattle.mime_fields.proofs.QuoteLemmas.{EndsBehind}
 use Rattle.mime_fields.proofs.value.quoted_len.Given as goal
 
--- the quote that ends the rest ends all of them
+-- the closing quote of the rest is that of the whole
 abbrev pub invariant-loop-at : goal.invariant-loop-at
 invariant-loop-at l = EndsBehind l.bytes l.at
 

@@ -2,7 +2,7 @@ use Rattle.std.proofs.Common.{◌-◌, length}
 use Rattle.mime_fields.proofs.QuoteLemmas.{MeantSoFar}
 use Rattle.mime_fields.proofs.value.unescaped.Given as goal
 
--- the bytes so far stand before those of the rest
+-- the bytes so far precede those of the rest
 abbrev pub invariant-loop-at : goal.invariant-loop-at
 invariant-loop-at l = MeantSoFar l.quoted l.bytes.items l.at
 

@@ -3,7 +3,7 @@ use Rattle.tree_reader.specs.Halts.{Reached}
 use Rattle.tree_reader.specs.Views.{state_of}
 use Rattle.tree_reader.proofs.read.read_items.Given as goal
 
--- the items up to the rest are read
+-- the items before the rest are read
 abbrev pub invariant-loop-rest : goal.invariant-loop-rest
 invariant-loop-rest l = record {
   within : length l.rest ≤ length l.bytes;

@@ -3,7 +3,7 @@ use Rattle.tree_reader.specs.Scopes.{found, scope_of}
 use Rattle.tree_reader.specs.Views.{stack_of}
 use Rattle.tree_reader.proofs.scope.found_around.Given as goal
 
--- all depends on the elements before this place
+-- the result depends only on the elements before this index
 abbrev pub invariant-loop-at : goal.invariant-loop-at
 invariant-loop-at l = record {
   within : l.at ≤ length l.around;

@@ -6,10 +6,10 @@ use Rattle.xml_items.proofs.attributes.attributes_at.Goals as goal
 
 pub attributes-smaller : goal.attributes-smaller
 attributes-smaller c =
-    attribute_shortens c.attributes.rest.now (written_of c.in-Some.attribute, c.in-Some.behind.now) (sym c.in-Some.ensures)
+    attribute_shortens c.attributes.rest.now (written_of c.in-Some.attribute, c.in-Some.after.now) (sym c.in-Some.ensures)
 
 pub attributes-preserved : goal.attributes-preserved
 attributes-preserved c =
-    let on = one_on c.args.bytes.now c.attributes.rest.now (map written_of c.attributes.attributes.items) (written_of c.in-Some.attribute, c.in-Some.behind.now) (sym c.in-Some.ensures) c.attributes.invariant in
+    let on = one_on c.args.bytes.now c.attributes.rest.now (map written_of c.attributes.attributes.items) (written_of c.in-Some.attribute, c.in-Some.after.now) (sym c.in-Some.ensures) c.attributes.invariant in
     let more : map written_of c.push.new.self.items ≡ map written_of c.attributes.attributes.items ++ written_of c.in-Some.attribute ∷ [] = rw c.in_ok-push.ensures.items (map_push written_of c.attributes.attributes.items c.in-Some.attribute) in
     rw more on

@@ -3,7 +3,7 @@ use Rattle.xml_items.specs.Raw.{written_of}
 use Rattle.xml_items.proofs.AttributeLemmas.{GoesOn}
 use Rattle.xml_items.proofs.attributes.attributes_at.Given as goal
 
--- the attributes so far stand in front of those of the rest
+-- the attributes so far precede those of the rest
 abbrev pub invariant-attributes : goal.invariant-attributes
 invariant-attributes l = GoesOn l.bytes (map written_of l.attributes.items) l.rest
 

@@ -1,6 +1,6 @@
 use Rattle.std.proofs.Common.{inl, refl, sym, ◌∙◌, arith}
 use Rattle.drill_script.proofs.FrontLemmas.{BeginsLong_told}
-use Rattle.drill_script.proofs.LackingLemmas.{Lacks_none}
+use Rattle.byte_forms.proofs.PartedLemmas.{Lacks_none}
 use Rattle.drill_script.proofs.lines.LineReader.next.Goals as goal
 
 pub pieces-init : goal.pieces-init

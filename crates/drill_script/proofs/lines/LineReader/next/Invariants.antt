@@ -1,6 +1,6 @@
 use Rattle.std.proofs.Common.{◌≡◌, ◌⊎◌, ◌+◌, ◌-◌, ◌≤◌, length, take}
 use Rattle.as4_flow.specs.Flow.{before}
-use Rattle.drill_script.specs.Lacking.{Lacks}
+use Rattle.byte_forms.specs.Parted.{Lacks}
 use Rattle.drill_script.specs.LineText.{line_limit}
 use Rattle.drill_script.specs.Lines.{BeginsLong, ahead_limit}
 use Rattle.drill_script.proofs.lines.LineReader.next.Given as goal

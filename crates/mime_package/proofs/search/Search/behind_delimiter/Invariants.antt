@@ -3,7 +3,7 @@ use Rattle.mime_package.specs.Reading.{delimiter_at}
 use Rattle.mime_package.proofs.UpToLemmas.{GoesTo}
 use Rattle.mime_package.proofs.search.Search.behind_delimiter.Given as goal
 
--- no delimiter stands before the rest
+-- no delimiter begins before the rest
 abbrev pub invariant-search : goal.invariant-search
 invariant-search l = GoesTo (delimiter_at l.self.boundary.now) l.bytes l.rest
 

@@ -6,7 +6,7 @@ use Rattle.std.proofs.lemmas.List.{get_or-take, get_or_default, length-take, tak
 use Rattle.std.proofs.Math.Seq.{drop-cons}
 use Rattle.std.proofs.lemmas.List.Elements.{All-nil, All-cons, All-head, All-tail, All-append, All-take}
 use Rattle.memchr.specs.Find.{IsFirstByte, is_byte}
-use Rattle.drill_script.specs.Lacking.{Lacks, parted}
+use Rattle.byte_forms.specs.Parted.{Lacks, parted}
 
 pub Lacks_none : (byte : ℕ) → Lacks byte []
 unfolding Lacks

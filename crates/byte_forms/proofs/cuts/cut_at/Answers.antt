@@ -1,7 +1,7 @@
 use Rattle.std.proofs.Common.{◌+◌, take, drop, sym, ◌∙◌}
 use Rattle.std.proofs.lemmas.List.{take_rest}
-use Rattle.drill_script.proofs.LackingLemmas.{Lacks_nowhere, Lacks_before, parted_at, Lacks_unparted, one_cut}
-use Rattle.drill_script.proofs.words.cut.Goals as goal
+use Rattle.byte_forms.proofs.PartedLemmas.{Lacks_nowhere, Lacks_before, parted_at, Lacks_unparted, one_cut}
+use Rattle.byte_forms.proofs.cuts.cut_at.Goals as goal
 
 pub returns-in_err-at-clause-none : goal.returns-in_err-at-clause-none
 returns-in_err-at-clause-none c = rw c.from_residual.ensures (Lacks_nowhere c.args.byte c.args.bytes.now c.in_err-at.ensures)

@@ -1,6 +1,6 @@
 use Rattle.std.proofs.Common.{◌≡◌, ◌≤◌, length}
-use Rattle.header_reader.specs.Values.{end_of}
-use Rattle.header_reader.proofs.values.end_without_blanks.Given as goal
+use Rattle.byte_forms.specs.Trimmed.{end_of}
+use Rattle.byte_forms.proofs.trim.end_without_blanks.Given as goal
 
 -- blanks from here on
 abbrev pub invariant-loop-end : goal.invariant-loop-end

@@ -1,8 +1,0 @@
-use Rattle.std.proofs.Common.{ℕ, Option, length, ap, ◌∙◌}
-use Rattle.std.specs.Prelude.{unwrap_or}
-use Rattle.mime_fields.proofs.SearchLemmas.{end_of_run}
-use Rattle.mime_fields.proofs.runs.run_len.Goals as goal
-
-pub returns-clause-value : goal.returns-clause-value
-returns-clause-value c =
-    c.unwrap_or.ensures ∙ ap (λ (o : Option ℕ). unwrap_or o (length c.args.bytes.now)) c.run_end.ensures ∙ end_of_run c.args.class c.args.bytes.now
