@@ -1,4 +1,4 @@
--- What holds of each row of the table, and of a code as it is sent.
+-- Properties of each row of the table, and of a code as it is sent.
 use Rattle.std.proofs.Common.{◌≡◌, ℕ, ◌+◌, ◌/◌, ◌%◌, ◌<◌, List, [], ◌∷◌, ◌++◌, Bool, true, false, cond, ◌&&◌, ◌==◌, nat_le, nat_lt, Some, find, length, map, arith, refl, slice_index, get_or}
 use Rattle.std.specs.Prelude.{◌≢◌, IsTrue, All, AllPairs, codes}
 use Rattle.std.specs.List.{list_all, AllByRecursion}
@@ -15,7 +15,7 @@ use Rattle.as4_codes.specs.ErrorCodes.{ErrorRow, error_row, error_table, code_te
 use Rattle.as4_codes.specs.declared.rows.Row.{Row}
 use Rattle.as4_codes.specs.Rows.{row_of}
 
--- what is found through a view is the view of what is found
+-- the view of the item that is found is the item that is found among the views
 find_map : {A B : Type 0} (view : A → B) (test : B → Bool) (xs : List A) → option_map view (find (λ x. test (view x)) xs) ≡ find test (map view xs)
 find_map view test [] = refl
 find_map view test (x ∷ xs) =
@@ -24,12 +24,12 @@ find_map view test (x ∷ xs) =
       | false ↦ find_map view test xs
     ]
 
--- the rows of a table that shows the rows of the standards find what these find
+-- a table that shows the rows of the specification finds the same rows
 pub found_row : (table : List Row) (code : ℕ) → map row_of table ≡ error_table → option_map row_of (find (λ row. row.code == code) table) ≡ error_row code
 unfolding error_row
 found_row table code same = rw (← same) (find_map row_of (λ row. row.code == code) table)
 
--- a test that each element passes is passed by what is found
+-- the item that is found passes a test that every item passes
 found_passes : {X : Type 0} (test good : X → Bool) (xs : List X) (x : X) → list_all good xs ≡ true → find test xs ≡ Some x → good x ≡ true
 found_passes test good (y ∷ ys) x each found =
     let first : good y ≡ true = grind (arith, nat_tests) in
@@ -75,7 +75,7 @@ all_of : {X : Type 0} (P : X → Type 0) (xs : List X) → AllByRecursion P xs �
 all_of P [] each = All-nil P
 all_of P (x ∷ xs) each = All-cons P x xs each.0 (all_of P xs each.1)
 
--- each row is the one that is found by its code
+-- looking up the code of a row finds that row
 pub found_by_code : All (λ row. error_row row.code ≡ Some row) error_table
 unfolding error_row error_table
 found_by_code =

@@ -1,11 +1,11 @@
--- The errors that a handler tells its partner (ebMS 3.0 Core, section 6.7.1; AS4 Profile, section 3.6).
+-- The errors that a handler reports to its partner (ebMS 3.0 Core, section 6.7.1; AS4 Profile, section 3.6).
 use Rattle.std.specs.Prelude.{ℕ, ◌==◌, List, [], ◌∷◌, ◌++◌, Option, Some, None, find, codes}
 use Rattle.as4_values.specs.Moment.{digits}
 use Rattle.as4_values.specs.declared.signal_body.Severity.{Severity}
 use Rattle.as4_values.specs.declared.signal_body.Severity.TheVariants.{Failure, Warning}
 use Rattle.as4_values.specs.declared.signal_body.ErrorItem.{ErrorItem}
 
--- an error: its number, its short description, how bad it is, and its category
+-- an error: its number, its short description, its severity, and its category
 pub record ErrorRow : Type 0 where
   pub code : ℕ
   pub short : List ℕ
@@ -37,7 +37,7 @@ error_row code = find (λ row. row.code == code) error_table
 unfoldable pub code_text : ℕ → List ℕ
 code_text code = codes "EBMS:" ++ digits 4 code
 
--- what an error signal says of an error, by its row, and of the message that it is about
+-- an error in a signal: its row, and the message that it is about
 abbrev pub error_item : ErrorRow → Option (List ℕ) → ErrorItem
 error_item row about = record {
   code = code_text row.code;

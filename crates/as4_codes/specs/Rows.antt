@@ -1,4 +1,4 @@
--- What a row of the table says.
+-- The row of the specification that a row of the table shows.
 use Rattle.as4_codes.specs.declared.rows.Row.{Row}
 use Rattle.as4_codes.specs.ErrorCodes.{ErrorRow}
 

@@ -1,3 +1,5 @@
+//! Error signals.
+
 ghost use Rattle.std.specs.Prelude.{◌≡◌, ◌<◌, ◌≤◌, ◌∷◌, [], IfOk, IsSome};
 ghost use Rattle.std.specs.Option.{option_copied};
 ghost use Rattle.as4_values.specs.PlainTexts.{IsPlainText};
@@ -12,9 +14,8 @@ use as4_values::{
 };
 use std::alloc::Global;
 
-/// The error signal of a code that the table has (ebMS 3.0 Core, section 6.2), about the message of this
-/// identifier where that is known, made at the moment `stamp`, in milliseconds since 1970-01-01T00:00:00Z,
-/// and named by the nonce.
+/// The error signal of a code in the table (ebMS 3.0 Core, section 6.2), about the message of this identifier where it
+/// is known. Made at the moment `stamp`, in milliseconds since 1970-01-01T00:00:00Z; the nonce makes its identifier.
 pub fn error_signal(
     alloc: Global,
     code: u16,
@@ -49,7 +50,7 @@ pub fn error_signal(
     }
 }
 
-/// The row of a code that the table has.
+/// The row of a code in the table.
 fn row_at(code: u16) -> &'static Row
     requires { IsSome (error_row code) }
     ensures row { error_row code ≡ Some (row_of result.now) }
@@ -63,7 +64,7 @@ fn row_at(code: u16) -> &'static Row
     }
 }
 
-/// The one error that the signal tells.
+/// The one error that the signal reports.
 fn items_of(alloc: Global, row: &Row, about: Option<&MessageId>) -> Result<Seq<ErrorItem>, NoMemory>
     requires sendable { row.now.code < 10000 }
     requires short { IsPlainText row.now.short.now }

@@ -1,4 +1,4 @@
-//! The errors that a handler tells its partner, a row for each code, and the signals that it makes: error signals,
+//! The errors that a handler reports to its partner, a row for each code, and the signals that it makes: error signals,
 //! receipts and pull requests.
 #![tactic(auto)]
 

@@ -1,3 +1,5 @@
+//! Pull requests.
+
 ghost use Rattle.std.specs.Prelude.{◌≤◌, IfOk};
 ghost use Rattle.as4_codes.specs.Signals.{IsPullOf, IsPairOf};
 
@@ -9,7 +11,7 @@ use as4_values::{
 use std::alloc::Global;
 
 /// The pull request for a channel (ebMS 3.0 Core, section 5.2.3.1), made at the moment `stamp`, in milliseconds since
-/// 1970-01-01T00:00:00Z, and named by the nonce.
+/// 1970-01-01T00:00:00Z; the nonce makes its identifier.
 pub fn pull_request(alloc: Global, mpc: &Text, stamp: u64, nonce: u128) -> Result<Signal, NoMemory>
     requires { stamp ≤ MAX_MOMENT }
     ensures { IfOk result (λ signal. IsPullOf mpc.now stamp nonce signal) }
@@ -24,8 +26,8 @@ pub fn pull_request(alloc: Global, mpc: &Text, stamp: u64, nonce: u128) -> Resul
     })
 }
 
-/// The receipt of a user message, bundled with the next pull request for a channel: the pull request is named by the
-/// nonce, the receipt by the next one.
+/// The receipt of a user message, bundled with the next pull request for a channel. The nonce makes the identifier of
+/// the pull request, and the next nonce that of the receipt.
 pub fn receipt_with_pull(
     alloc: Global,
     header: &UserHeader,

@@ -1,3 +1,5 @@
+//! Receipts.
+
 ghost use Rattle.std.specs.Prelude.{◌≤◌, IfOk};
 ghost use Rattle.as4_codes.specs.Signals.{IsReceiptOf};
 
@@ -6,8 +8,8 @@ use as4_values::{
 };
 use std::alloc::Global;
 
-/// The receipt of a user message (ebMS 3.0 Core, section 5.2.3.3; AS4 Profile, section 5.1.8), made at the
-/// moment `stamp`, in milliseconds since 1970-01-01T00:00:00Z, and named by the nonce.
+/// The receipt of a user message (ebMS 3.0 Core, section 5.2.3.3; AS4 Profile, section 5.1.8), made at the moment
+/// `stamp`, in milliseconds since 1970-01-01T00:00:00Z; the nonce makes its identifier.
 pub fn receipt(
     alloc: Global,
     header: &UserHeader,

@@ -1,3 +1,5 @@
+//! The table of errors.
+
 ghost use Rattle.std.specs.Prelude.{◌≡◌, ◌≢◌, ◌==◌, find, map, All, AllPairs};
 ghost use Rattle.std.specs.Option.{option_copied};
 ghost use Rattle.as4_codes.specs.Rows.{row_of};
@@ -5,7 +7,7 @@ ghost use Rattle.as4_codes.specs.ErrorCodes.{error_row, error_table};
 
 use as4_values::Severity;
 
-/// What is said of an error (ebMS 3.0 Core, section 6.2): its code is sent as `EBMS:` and four decimal digits.
+/// The properties of an error (ebMS 3.0 Core, section 6.2): its code is sent as `EBMS:` and four decimal digits.
 #[derive(Clone, Copy, Debug, PartialEq, Eq)]
 pub struct Row {
     pub code: u16,
@@ -14,7 +16,7 @@ pub struct Row {
     pub category: &'static str,
 }
 
-/// The errors that this handler tells (ebMS 3.0 Core, section 6.7.1; AS4 Profile, section 3.6).
+/// The errors that this handler reports (ebMS 3.0 Core, section 6.7.1; AS4 Profile, section 3.6).
 pub const TABLE: [Row; 10] = [
     Row {
         code: 1,
@@ -78,7 +80,7 @@ pub const TABLE: [Row; 10] = [
     },
 ];
 
-/// `TABLE`, lent for good.
+/// A reference to `TABLE`.
 #[tactic(auto, unfolding(crate::specs::ErrorCodes::error_table))]
 pub fn table() -> &'static [Row; 10]
     ensures { map row_of result.now ≡ error_table }
@@ -86,14 +88,14 @@ pub fn table() -> &'static [Row; 10]
     &TABLE
 }
 
-/// The first row of this code, and nothing exactly where no row has it.
+/// The first row of this code; None exactly where no row has it.
 pub fn find(table: &[Row], code: u16) -> Option<&Row>
     ensures { option_copied result ≡ find (λ row. row.code == code) table.now }
 {
     table.iter().find(|row| row.code == code)
 }
 
-/// No two rows of the table have one code, so each row is the one that is found by its code.
+/// No two rows of the table have the same code, so looking up a row's code finds that row.
 pub fn codes_differ()
     ensures differ { AllPairs (λ a b. a ≢ b) (map (λ row. row.code) error_table) }
     ensures found { All (λ row. error_row row.code ≡ Some row) error_table }

@@ -29,13 +29,13 @@ not_true false h = refl
 unequal : (a b : List ℕ) → a ≢ b → bytes_eq a b ≡ false
 unequal a b apart = not_true (bytes_eq a b) (λ h. apart ((bytes_eq-Decides a b).0 h))
 
--- a hyphen or a digit in front
+-- with a hyphen or a digit first
 no_less_by : (hyphen : Bool) (n b : ℕ) (text : List ℕ) → ((m : ℕ) → m ≤ number_in m text)
     → n ≤ (if hyphen then number_in n text else number_in (n * 16 + digit_of b) text)
 no_less_by true n b text more = more n
 no_less_by false n b text more = let h : n * 16 + digit_of b ≤ number_in (n * 16 + digit_of b) text = more (n * 16 + digit_of b) in omega arith
 
--- more digits never make it less
+-- more digits never make it smaller
 pub no_less : (n : ℕ) (text : List ℕ) → n ≤ number_in n text
 unfolding number_in
 no_less n [] = omega arith
@@ -53,14 +53,14 @@ submission_length : (number nonce : ℕ) → length (submission_id number nonce)
 submission_length number nonce =
     simp (length-append, length-uuid_text) (omega arith)
 
--- what the code cuts out is where the UUID stands
+-- the code takes the bytes of the UUID
 window : (number : ℕ) (id bytes digits : List ℕ) → digits ≡ decimal number → bytes ≡ id
     → take ((length digits + 37) - (length digits + 1)) (drop (length digits + 1) bytes) ≡ take 36 (drop (length (decimal number) + 1) id)
 window number id bytes digits e f =
     let cut : (length digits + 37) - (length digits + 1) ≡ 36 = omega arith in
     rw (cut, e, f) refl
 
--- an identifier of another length is none of this number
+-- an identifier of another length isn't one of this number
 pub wrong_length : (number : ℕ) (id bytes digits : List ℕ) → digits ≡ decimal number → bytes ≡ id
     → length bytes ≢ length digits + 41 → false ≡ is_id_of number id
 unfolding is_id_of
@@ -69,7 +69,7 @@ wrong_length number id bytes digits e f wrong =
     λ same. wrong (ap length (f ∙ same) ∙ submission_length number (nonce_in number id) ∙ ap (λ d. length d + 41) (sym e)) in
     rw (unequal id (submission_id number (nonce_in number id)) other) (sym (and_false (nat_lt (nonce_in number id) (2 ^ 128))))
 
--- so is one whose digits write too great a number
+-- nor is one whose digits write a number of more than 128 bits
 pub wrong_nonce : (number : ℕ) (id bytes digits : List ℕ) → digits ≡ decimal number → bytes ≡ id
     → 2 ^ 128 ≤ number_in 0 (take ((length digits + 37) - (length digits + 1)) (drop (length digits + 1) bytes))
     → false ≡ is_id_of number id

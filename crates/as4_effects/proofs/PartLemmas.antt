@@ -1,4 +1,4 @@
--- Values are told by their parts.
+-- Its parts determine a value.
 use Rattle.std.proofs.Common.{◌≡◌, ℕ, ◌≤◌, List, refl, ap}
 use Rattle.std.specs.Prelude.{Option, IsTrue}
 use Rattle.std.proofs.Props.{props}

@@ -1,7 +1,7 @@
 -- The bytes of effects, in this handler's own format. Numbers are big endian.
 --
 --     body     count of effects, 2 bytes, 1 to 1,024; then the effects
---     effect   1 byte that says which; then its fields
+--     effect   its kind, 1 byte; then its fields
 --     list     count, 4 bytes; then its items
 --     text     length, 4 bytes; then its bytes: texts, identifiers, codes, stamps and octets alike
 --     option   0, or 1 and then the value

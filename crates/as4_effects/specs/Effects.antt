@@ -1,4 +1,5 @@
--- The bytes of effects, in this handler's own format: each behind the byte that says which it is; and of a list.
+-- The bytes of effects and of lists of effects, in this handler's own format. The byte of its kind precedes each
+-- effect.
 use Rattle.std.specs.Prelude.{ℕ, ◌+◌, List, ◌∷◌, ◌++◌, length}
 use Rattle.std.specs.List.{flat_map}
 use Rattle.as4_effects.specs.Bodies.{number_body, text_body}
@@ -19,7 +20,7 @@ submission_body s = submitted_body s.number s.header s.payloads s.route s.retrie
 abbrev pub delivery_body : Delivery → List ℕ
 delivery_body d = delivered_body d.header d.payloads
 
--- the fields of the submission, how often it was sent, when last, and how it stands
+-- the fields of the submission, the number of tries, the time of the last one, and its state
 abbrev pub standing_body : CarriedValue → List ℕ
 standing_body c = fields_body c.submission ++ number_body 4 c.tries ++ number_body 8 c.last ++ mark_body c.standing
 
@@ -34,8 +35,8 @@ effect_body (Confirmed upto) = 7 ∷ number_body 8 upto
 effect_body (Carried carried) = 8 ∷ standing_body carried
 effect_body (Kept kept) = kept_body kept.header
 
--- how many bytes an effect may have: one that was carried up to 81 more than its submission, one of a number and a code
--- 77, one of a number 9
+-- the most bytes of an effect: a carried one has at most 81 more than its submission, one of a number and a code 77,
+-- one of a number 9
 abbrev pub carried_limit : ℕ
 carried_limit = effect_limit + 81
 
@@ -50,7 +51,7 @@ most_bytes_of (Confirmed upto) = 9
 most_bytes_of (Carried carried) = carried_limit
 most_bytes_of (Kept kept) = effect_limit
 
--- how many effects a list may have
+-- the most effects of a list
 abbrev pub effects_limit : ℕ
 effects_limit = 1024
 

@@ -1,6 +1,6 @@
--- How long bodies are.
+-- The lengths of bodies.
 use Rattle.std.specs.Prelude.{ℕ, ◌+◌, ◌-◌, ◌^◌, List, length, min}
 
--- the sum and as many more as there are bytes, but at most the greatest number of 64 bits
+-- the sum plus the number of bytes, at most the greatest number of 64 bits
 unfoldable pub grown : ℕ → List ℕ → ℕ
 grown sum bytes = min (sum + length bytes) (2 ^ 64 - 1)

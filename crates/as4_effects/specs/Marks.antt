@@ -1,4 +1,4 @@
--- The bytes of how a submission stands: a byte that says how, and the code behind it where it was refused.
+-- The bytes of a submission's state: its kind, followed by the code where it was refused.
 use Rattle.std.specs.Prelude.{ℕ, List, [], ◌∷◌}
 use Rattle.as4_effects.specs.Bodies.{text_body}
 use Rattle.as4_effects.specs.declared.mark.Mark.{Mark}

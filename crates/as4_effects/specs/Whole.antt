@@ -1,11 +1,11 @@
--- What makes fields a submission or a delivery: the facts that these types keep.
+-- When fields make a submission or a delivery: the facts that these types keep.
 use Rattle.std.specs.Prelude.{ℕ, ◌<◌, ◌≤◌, List, IsTrue}
-use Rattle.as4_values.specs.ModeRanges.{IsRetries, IsPeriod}
+use Rattle.mode_values.specs.ModeRanges.{IsRetries, IsPeriod}
 use Rattle.as4_values.specs.declared.header.UserHeader.{UserHeader}
 use Rattle.as4_values.specs.declared.payload.Payload.{Payload}
 use Rattle.as4_values.specs.declared.route.Route.{Route}
 use Rattle.as4_values.specs.declared.moment.TheConstants.{MAX_MOMENT}
-use Rattle.as4_effects.specs.Pairing.{pair}
+use Rattle.as4_values.specs.Pairing.{pair}
 use Rattle.as4_effects.specs.Sound.{is_id_of, is_route, submitted_body, delivered_body, fits_an_effect}
 
 -- the numbers of a submission

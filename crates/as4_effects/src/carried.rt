@@ -1,3 +1,5 @@
+//! Submissions as compaction carries them over.
+
 ghost use Rattle.std.specs.Prelude.{◌≤◌};
 ghost use Rattle.as4_values.specs.declared.moment.TheConstants.{MAX_MOMENT};
 
@@ -6,13 +8,13 @@ use crate::submission::Submission;
 use as4_values::{NoMemory, PlainData};
 use std::alloc::Global;
 
-/// A submission as it stands, where an end is written again.
+/// A submission with its current state, written by compaction.
 #[derive(Drop)]
 pub struct Carried {
     pub submission: Submission,
     /// How often it was sent.
     pub tries: u32,
-    /// When it was sent last, in milliseconds since 1970, before the year 10,000; 0 where it never was.
+    /// When it was last sent, in milliseconds since 1970, before the year 10,000; 0 where it was never sent.
     pub last: u64,
     pub standing: Mark,
     pub ghost dated: { last ≤ MAX_MOMENT },

@@ -1,11 +1,13 @@
+//! Deliveries.
+
 ghost use Rattle.std.specs.Prelude.{IsTrue};
-ghost use Rattle.as4_effects.specs.Pairing.{pair};
+ghost use Rattle.as4_values.specs.Pairing.{pair};
 ghost use Rattle.as4_effects.specs.Sound.{delivered_body, fits_an_effect};
 
 use as4_values::{NoMemory, Payload, PlainData, Seq, UserHeader};
 use std::alloc::Global;
 
-/// A user message that came and stands in the inbox.
+/// A user message that was received and is in the inbox.
 #[derive(Drop)]
 pub struct Delivery {
     pub header: UserHeader,

@@ -1,3 +1,5 @@
+//! Effects: the changes at one endpoint.
+
 ghost use Rattle.std.specs.Prelude.{◌≤◌};
 ghost use Rattle.as4_values.specs.declared.moment.TheConstants.{MAX_MOMENT};
 
@@ -16,26 +18,26 @@ pub struct Tick {
     pub ghost dated: { moment ≤ MAX_MOMENT },
 }
 
-/// One change at one end of an exchange.
+/// One change at one endpoint of an exchange.
 #[derive(Drop)]
 pub enum Effect {
-    /// A message was handed in to be sent.
+    /// A message was submitted.
     Submitted(Submission),
     /// The clock was set.
     Ticked(Tick),
-    /// The submission of this number was sent once more.
+    /// The submission of this number was sent again, or for the first time.
     Tried { number: u64 },
-    /// A message came.
+    /// A user message was received.
     Delivered(Delivery),
-    /// The receipt for the submission of this number came (ebMS 3.0 Core, section 5.2.3.3).
+    /// The receipt for the submission of this number was received (ebMS 3.0 Core, section 5.2.3.3).
     Receipted { number: u64 },
-    /// An error for the submission of this number came, and it is given up (ebMS 3.0 Core, section 6).
+    /// An error for the submission of this number was received: it is refused (ebMS 3.0 Core, section 6).
     Refused { number: u64, code: Code },
-    /// The messages that came up to this one, counted from 0, were taken over.
+    /// The received messages up to and including this one, counted from 0, were confirmed.
     Confirmed { upto: u64 },
-    /// An end was written again: this is a submission as it stood. No event makes it.
+    /// Written by compaction: a submission with its current state. No event makes it.
     Carried(Carried),
-    /// An end was written again: this is the header of a message that came and was taken over. No event makes it.
+    /// Written by compaction: the header of a message that was received and confirmed. No event makes it.
     Kept(Kept),
 }
 

@@ -1,10 +1,12 @@
+//! Headers that compaction keeps.
+
 ghost use Rattle.std.specs.Prelude.{IsTrue};
 ghost use Rattle.as4_effects.specs.Sound.{kept_body, fits_an_effect};
 
 use as4_values::{NoMemory, PlainData, UserHeader};
 use std::alloc::Global;
 
-/// A user message that came and was taken over: its header alone, where an end is written again.
+/// A user message that was received and confirmed: compaction keeps only its header.
 #[derive(Drop)]
 pub struct Kept {
     pub header: UserHeader,

@@ -1,4 +1,4 @@
-//! Effects: what an event changes at one end of an exchange of messages, and the bytes that a record of it has.
+//! Effects: the changes that an event makes at one endpoint of a message exchange, and the bytes of their records.
 #![tactic(auto)]
 
 mod carried;
@@ -7,9 +7,6 @@ mod effect;
 mod kept;
 mod mark;
 mod measured;
-mod media;
-mod named;
-mod pairing;
 mod queue;
 mod sound;
 mod submission;
@@ -20,9 +17,6 @@ pub use effect::{Effect, Tick};
 pub use kept::Kept;
 pub use mark::Mark;
 pub use measured::Measured;
-pub use media::is_media_text;
-pub use named::{Named, all_differ, are_among};
-pub use pairing::{cid_in, pairs};
 pub use queue::Queue;
 pub use sound::{delivery_fits, header_fits, is_id_of, is_route, submission_fits};
 pub use submission::Submission;

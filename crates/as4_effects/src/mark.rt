@@ -1,16 +1,18 @@
+//! The state of a submission.
+
 use as4_values::{Code, NoMemory, PlainData};
 use std::alloc::Global;
 
-/// How a submission stands.
+/// The state of a submission.
 #[derive(Drop)]
 pub enum Mark {
-    /// Its receipt hasn't come, and it isn't given up.
+    /// It has no receipt yet, and is neither expired nor refused.
     Pending,
-    /// Its receipt came.
+    /// Its receipt was received.
     Receipted,
-    /// It was given up, since no receipt came in time (`EBMS:0301`).
+    /// It expired: no receipt was received in time (`EBMS:0301`).
     Failed,
-    /// The other end refused it with this error.
+    /// The other endpoint refused it with this error.
     Refused { code: Code },
 }
 

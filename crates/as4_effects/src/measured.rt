@@ -1,4 +1,4 @@
-//! How many bytes values have in the body of an effect.
+//! The lengths of values in the body of an effect.
 #![tactic(auto, using(crate::proofs::LengthLemmas::grown_append), unfolding(crate::specs::Bodies::party_body, crate::specs::Bodies::side_body, crate::specs::Bodies::agreement_body, crate::specs::Bodies::service_body, crate::specs::Bodies::property_body, crate::specs::Bodies::part_body, crate::specs::Bodies::header_body, crate::specs::Bodies::payload_body, crate::specs::Bodies::route_body))]
 
 ghost use Rattle.std.specs.Prelude.{◌≡◌, ℕ, List, ◌∷◌};
@@ -19,16 +19,16 @@ use as4_values::{
     Side, StampText, Text, UserHeader,
 };
 
-/// What has bytes in the body of an effect.
+/// A value with bytes in the body of an effect.
 pub trait Measured {
     ghost body: { Self → List ℕ };
 
-    /// The sum and how many bytes there are, or the greatest number where they are more.
+    /// The sum plus the value's length, or `u64::MAX` where that is too large.
     fn add_len(&self, sum: u64) -> u64
         ensures { result ≡ grown sum (body self.now) };
 }
 
-/// Adds the length of a text with its count.
+/// Adds the length of a text, with the bytes of its count.
 #[tactic(auto, using(crate::proofs::LengthLemmas::grown_text))]
 fn add_text(sum: u64, text: &[u8]) -> u64
     ensures { result ≡ grown sum (text_body text.now) }

@@ -1,12 +1,14 @@
+//! The queues of submissions.
+
 use as4_values::{NoMemory, PlainData, Text};
 use std::alloc::Global;
 
-/// Where submissions wait to be sent.
+/// Where a submission waits to be sent.
 #[derive(Drop)]
 pub enum Queue {
-    /// Those that are pushed.
+    /// The queue of pushed submissions.
     Push,
-    /// Those that are pulled from this message partition channel (ebMS 3.0 Core, section 3.4.1).
+    /// The queue of this message partition channel, whose submissions are pulled (ebMS 3.0 Core, section 3.4.1).
     Channel(Text),
 }
 

@@ -1,4 +1,4 @@
-//! The facts that a submission and a delivery keep, as tests for whoever makes one.
+//! Tests of the facts that a submission and a delivery keep, for code that makes one.
 
 ghost use Rattle.std.specs.Prelude.{◌≡◌, ℕ, ◌≤◌, ◌^◌, IfOk, IfSome, IsNone};
 ghost use Rattle.as4_effects.specs.Sound.{digit_of, number_in, is_id_of, is_route, submitted_body, delivered_body, kept_body, fits_an_effect};
@@ -7,13 +7,13 @@ use crate::measured::Measured;
 use as4_values::{MessageId, NoMemory, Payload, Route, Seq, UserHeader, is_address};
 use std::alloc::Global;
 
-/// How many bytes an effect of an event has at most: two less than the body of one alone, which begins with their count.
+/// The most bytes of an effect that an event makes: the limit of a record's body less the two bytes of its count.
 const MAX_EFFECT: u64 = 536_870_910;
 
-/// How many bytes the identifier of a submission has behind its number.
+/// The length of a submission's identifier after its number.
 const BEHIND_NUMBER: usize = 41;
 
-/// Whether the identifier is that of a submission of this number, by any nonce.
+/// Whether the identifier is that of a submission of this number, with some nonce.
 pub fn is_id_of(alloc: Global, number: u64, id: &MessageId) -> Result<bool, NoMemory>
     ensures { IfOk result (λ same. same ≡ is_id_of number id.now) }
 {
@@ -29,7 +29,7 @@ pub fn is_id_of(alloc: Global, number: u64, id: &MessageId) -> Result<bool, NoMe
     Ok(bytes == wanted.bytes())
 }
 
-/// The number that the digits of a UUID's text write, and nothing where it has more than 128 bits.
+/// The number that the digits of a UUID's text write; None where it has more than 128 bits.
 #[tactic(auto, using(crate::proofs::NonceLemmas::too_great), unfolding(crate::specs::Sound::number_in))]
 fn number_in(text: &[u8]) -> Option<u128>
     ensures some { IfSome result (λ number. number ≡ number_in 0 text.now) }
@@ -46,7 +46,7 @@ fn number_in(text: &[u8]) -> Option<u128>
     Some(number)
 }
 
-/// The value of a hexadecimal digit in small letters.
+/// The value of a lower-case hexadecimal digit.
 fn digit_of(byte: u8) -> u8
     ensures { result ≡ digit_of byte }
 {
@@ -57,7 +57,7 @@ fn digit_of(byte: u8) -> u8
     }
 }
 
-/// Whether the address of the route is one.
+/// Whether the address of the route is well-formed.
 #[tactic(auto, unfolding(crate::specs::Sound::is_route))]
 pub fn is_route(route: &Route) -> bool
     ensures { result ≡ is_route route.now }
@@ -68,7 +68,7 @@ pub fn is_route(route: &Route) -> bool
     }
 }
 
-/// Whether a submission of these fits an effect, whatever its numbers are.
+/// Whether a submission with these fields fits an effect, whatever its numbers are.
 #[tactic(auto, using(crate::proofs::LengthLemmas::grown_append, crate::proofs::LengthLemmas::grown_cons, crate::proofs::LengthLemmas::grown_number, crate::proofs::LengthLemmas::fits_by_length))]
 pub fn submission_fits(header: &UserHeader, payloads: &Seq<Payload>, route: &Route) -> bool
     ensures { (number retries period moment : ℕ)
@@ -80,7 +80,7 @@ pub fn submission_fits(header: &UserHeader, payloads: &Seq<Payload>, route: &Rou
     len <= MAX_EFFECT
 }
 
-/// Whether a delivery of these fits an effect.
+/// Whether a delivery with these fields fits an effect.
 #[tactic(auto, using(crate::proofs::LengthLemmas::grown_append, crate::proofs::LengthLemmas::grown_cons, crate::proofs::LengthLemmas::fits_by_length))]
 pub fn delivery_fits(header: &UserHeader, payloads: &Seq<Payload>) -> bool
     ensures { result ≡ fits_an_effect (delivered_body header.now payloads.now) }
@@ -88,7 +88,7 @@ pub fn delivery_fits(header: &UserHeader, payloads: &Seq<Payload>) -> bool
     payloads.add_len(header.add_len(1)) <= MAX_EFFECT
 }
 
-/// Whether what is kept of a message of this header fits an effect.
+/// Whether the effect `Kept` of this header fits an effect's limit.
 #[tactic(auto, using(crate::proofs::LengthLemmas::grown_cons, crate::proofs::LengthLemmas::fits_by_length))]
 pub fn header_fits(header: &UserHeader) -> bool
     ensures { result ≡ fits_an_effect (kept_body header.now) }

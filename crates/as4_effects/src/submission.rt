@@ -1,16 +1,18 @@
+//! Submissions.
+
 ghost use Rattle.std.specs.Prelude.{◌<◌, ◌≤◌, IsTrue};
 ghost use Rattle.as4_values.specs.declared.moment.TheConstants.{MAX_MOMENT};
-ghost use Rattle.as4_values.specs.ModeRanges.{IsRetries, IsPeriod};
-ghost use Rattle.as4_effects.specs.Pairing.{pair};
+ghost use Rattle.mode_values.specs.ModeRanges.{IsRetries, IsPeriod};
+ghost use Rattle.as4_values.specs.Pairing.{pair};
 ghost use Rattle.as4_effects.specs.Sound.{is_id_of, is_route, submitted_body, fits_an_effect};
 
 use as4_values::{NoMemory, Payload, PlainData, Route, Seq, UserHeader};
 use std::alloc::Global;
 
-/// A user message that was handed in to be sent.
+/// A user message that was submitted.
 #[derive(Drop)]
 pub struct Submission {
-    /// How many submissions came before it: below 1,048,576.
+    /// The number of submissions before it: below 1,048,576.
     pub number: u64,
     /// Its identifier is made of the number and a nonce.
     pub header: UserHeader,
@@ -21,7 +23,7 @@ pub struct Submission {
     pub retries: u32,
     /// The time between two tries, 1 to 1,000,000,000 milliseconds.
     pub period: u64,
-    /// When it was handed in, in milliseconds since 1970, before the year 10,000.
+    /// When it was submitted, in milliseconds since 1970, before the year 10,000.
     pub moment: u64,
     pub ghost numbered: { number < 1048576 },
     pub ghost identified: { IsTrue (is_id_of number header.id) },

@@ -92,7 +92,7 @@ fits_rest xs ys text n fits = record {
 
 -- forms that begin with the same bytes
 
--- the text begins with `xs`, and what fits a form past it fits one behind `xs`
+-- the text begins with `xs`, and what fits a whole form past `xs` fits a form of the rest after `xs`
 pub record Opens (IsWhole IsRest : List ℕ → Type 0) (xs text : List ℕ) : Type 0 where
   pub fits : Fits xs text (length xs)
   pub into : (ys : List ℕ) → IsRest ys → IsWhole (xs ++ ys)
@@ -189,7 +189,7 @@ mark form text n zone fits some = mark_by form text n (zone_is form zone) fits s
 pub local_whole : (zone : List ℕ) → length zone ≡ 0 → Has IsZoneForm zone
 local_whole zone none = ([], no_zone, sym none, rw none (fits_none [] zone))
 
--- no zone begins so
+-- no zone begins with another byte
 pub mark_stops : (zone : List ℕ) → 0 < length zone → (Marks (get_or zone 0 0) → ⊥) → Stops IsZoneForm zone 0
 mark_stops zone some no_mark = record {
   begins = ([], no_zone, fits_none [] zone);
@@ -262,12 +262,12 @@ offset_opens zone some (is_hyphen is) = record {
   out = λ form n one fits less more. (offset, refl, rw is (behind_out form zone n is (zone_is form one) fits (omega arith)));
 }
 
--- the places behind the point, and the zone
+-- the decimal places, and the zone
 
 abbrev pub nine : List ℕ
 nine = codes "000000000"
 
--- so many digits, and a point before them
+-- `count` digits, and a point before them
 abbrev pub zeros : ℕ → List ℕ
 zeros count = replicate count 48
 
@@ -322,7 +322,7 @@ plus_none n = omega arith
 one_plus : (n : ℕ) → 1 + n ≡ suc n
 one_plus n = omega arith
 
--- a point with no digit behind it
+-- a point that no digit follows
 point_fits : (tail : List ℕ) → 0 < length tail → get_or tail 0 0 ≡ 46 → Fits (46 ∷ []) tail 1
 point_fits tail some is = record {
   in_form = omega arith;
@@ -330,7 +330,7 @@ point_fits tail some is = record {
   each = λ k below. let first : k ≡ 0 = omega arith in rw (first, is) (mark_fits 46 (λ e. omega arith));
 }
 
--- the byte behind the point is a digit
+-- the byte after the point is a digit
 digit_next : (tail form : List ℕ) (n places : ℕ) (zone : List ℕ) → IsZoneForm zone → form ≡ fraction_form places ++ zone
     → get_or tail 0 0 ≡ 46 → Fits form tail n → 1 < n → IsTrue (fits_byte 48 (get_or tail 1 0))
 digit_next tail form n zero zone is e point fits more =
@@ -365,7 +365,7 @@ point_stops tail some point no_digit = record {
       no_digit (one_digit tail some (digit_next tail has.0 (length tail) has.1.0 has.1.1 has.1.3 has.1.4 point has.3 more) more);
 }
 
--- so many places and no more: then the zone
+-- exactly `count` places, then the zone
 
 digits_fit : (rest : List ℕ) (count : ℕ) → Fits nine rest count → Fits (zeros count) rest count
 digits_fit rest count fits =
@@ -381,13 +381,13 @@ zone_digit b (letter e) digit = let range = digit_of_form b digit in absurd (ome
 zone_digit b (plus e) digit = let range = digit_of_form b digit in absurd (omega (arith, range.0, range.1))
 zone_digit b (hyphen e) digit = let range = digit_of_form b digit in absurd (omega (arith, range.0, range.1))
 
--- the form's byte behind the point and `k` digits
+-- the form's byte after the point and `k` digits
 form_digit : (places k : ℕ) (zone : List ℕ) → k < suc places → get_or (fraction_form (suc places) ++ zone) (suc k) 0 ≡ 48
 form_digit places k zone below =
     read_front (zeros (suc places)) zone k (omega (arith, zeros_length (suc places)))
     ∙ zero_at (suc places) k below
 
--- of a form with fewer places than there are digits, the zone would begin with a digit
+-- with a form of fewer places than there are digits, the zone would begin with a digit
 fewer : (tail : List ℕ) (n count places : ℕ) (zone : List ℕ) → IsZoneForm zone → Fits nine (drop 1 tail) count → suc places < count
     → Fits (fraction_form (suc places) ++ zone) tail n → suc count ≤ n → ⊥
 fewer tail n count places zone is digits less fits le =
@@ -404,7 +404,7 @@ fewer tail n count places zone is digits less fits le =
     (mark zone (drop (length (pointed (suc places))) tail) (n - suc (suc places)) is rest (omega arith))
     (rw byte digit)
 
--- of a form with more places than there are digits, one more digit would fit
+-- with a form of more places than there are digits, one more digit would fit
 more_digits : (tail : List ℕ) (n count places : ℕ) (zone : List ℕ) → suc places ≤ 9 → Fits nine (drop 1 tail) count → count < suc places
     → Fits (fraction_form (suc places) ++ zone) tail n → suc count < n → Fits nine (drop 1 tail) (count + 1)
 more_digits tail n count places zone small digits less fits more =
@@ -459,7 +459,7 @@ places_open tail count some point any digits no_more =
           (one.1, one.3, one.4 ∙ ap (λ xs. xs ++ one.1) (ap fraction_form same ∙ fraction_some count any));
     }
 
--- no sign and no letter
+-- neither a sign nor a letter
 pub unmarked : (b : ℕ) → (b ≡ 90 → ⊥) → (b ≡ 43 → ⊥) → (b ≡ 45 → ⊥) → Marks b → ⊥
 unmarked b no_letter no_plus no_hyphen (letter is) = no_letter is
 unmarked b no_letter no_plus no_hyphen (plus is) = no_plus is

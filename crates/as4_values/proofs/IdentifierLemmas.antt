@@ -1,4 +1,4 @@
--- The identifiers that a handler makes are identifiers.
+-- The identifiers that a handler makes are well-formed.
 use Rattle.std.proofs.Common.{◌≡◌, ℕ, ◌^◌, ◌<◌, ◌≤◌, ◌++◌, List, [], ◌∷◌, Bool, true, false, if◌then◌else◌, length, arith, refl, ap, length-append, append_assoc, take, sym, ◌∙◌}
 use Rattle.std.specs.Prelude.{IsTrue, codes}
 use Rattle.std.specs.Int.{w128, to_be_bytes, IsInRange}
@@ -17,7 +17,7 @@ use Rattle.as4_values.specs.declared.word.Word.TheVariants.{Identifier}
 use Rattle.as4_values.specs.Word.{IsWord, allows}
 use Rattle.as4_values.specs.Identifiers.{uuid_text, signal_id, submission_id}
 
--- the byte may stand in an identifier
+-- an identifier may contain the byte
 abbrev pub IsAllowed : ℕ → Type 0
 IsAllowed b = IsTrue (allows Identifier b)
 
@@ -76,7 +76,7 @@ submission_id_is_word number nonce fits =
     (allowed_is_word (decimal number ++ tail) (omega (arith, length-append (decimal number) tail)) (omega (arith, length-append (decimal number) tail))
     (All-append IsAllowed (decimal number) tail (digits_are_allowed (decimal number) (decimal_is_IsNumeral number fits).0.1) behind))
 
--- the number stands in front of a text of 41 bytes
+-- the number precedes a text of 41 bytes
 pub submission_number : (number other nonce another : ℕ) → number < 2 ^ 64 → other < 2 ^ 64
     → submission_id number nonce ≡ submission_id other another → number ≡ other
 submission_number number other nonce another fits other_fits same =

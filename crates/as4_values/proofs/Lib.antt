@@ -1,9 +1,9 @@
 pub mod AddressLemmas
 pub mod FormLemmas
 pub mod IdentifierLemmas
-pub mod MatchLemmas
 pub mod MomentLemmas
 pub mod MomentTextLemmas
+pub mod PairingLemmas
 pub mod PayloadLemmas
 pub mod SignalLemmas
 pub mod StampLemmas

@@ -11,7 +11,7 @@ use Rattle.jiff_core.proofs.CalendarLemmas.{day_count-epoch, day_count-lt_year, 
 use Rattle.jiff_core.proofs.DateLemmas.{civil, epoch_day_injective}
 use Rattle.as4_values.specs.Moment.{Civil, IsCivil, digits, stamp_of, time_of, IsStampOf}
 
--- one more digit behind
+-- one more digit at the end
 pub push_digit : (out : List ℕ) (places fewer n : ℕ) → places ≡ suc fewer → (out ++ digits fewer (n / 10)) ++ (48 + n % 10) ∷ [] ≡ out ++ digits places n
 unfolding digits
 push_digit out places fewer n more = rw (more, append_assoc) refl
@@ -20,7 +20,7 @@ pub push_none : (out : List ℕ) (places n : ℕ) → places ≡ 0 → out ≡ o
 unfolding digits
 push_none out places n none = rw (none, append-nil) refl
 
--- day 0 and what follows lie in 1970 and later
+-- day 0 and the days after it are in 1970 or later
 since_1970 : (y : ℤ) (m d day : ℕ) → IsCivilDate y m d → days_from_civil y m d ≡ pos day → pos 1970 ≤ℤ y
 since_1970 y m d day there is =
     by_lt_z y (pos 1970)
@@ -35,7 +35,7 @@ pub year_since_1970 : (date : Date) (day : ℕ) → epoch_day date ≡ pos day �
 year_since_1970 date day is =
     from_1970 date.year (since_1970 date.year date.month date.day day (civil date) is)
 
--- a date, and so many milliseconds of its day
+-- a date, and a number of milliseconds of its day
 abbrev pub civil_at : Date → ℕ → Civil
 civil_at date time = record {
   year = unsigned_abs date.year;
@@ -65,7 +65,7 @@ stamp_is_of ms date text is spelled =
       spelled,
     )
 
--- the hours, minutes, seconds and milliseconds of a day are told by their sum
+-- the sum determines the hours, minutes, seconds and milliseconds of a day
 same_time : (h m s u k n t v : ℕ) → m < 60 → s < 60 → u < 1000 → n < 60 → t < 60 → v < 1000
     → h * 3600000 + m * 60000 + s * 1000 + u ≡ k * 3600000 + n * 60000 + t * 1000 + v
     → (h ≡ k) × (m ≡ n) × (s ≡ t) × (u ≡ v)

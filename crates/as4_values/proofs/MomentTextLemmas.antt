@@ -1,4 +1,4 @@
--- The stamps of moments: each is a stamp, and they are told by their form and their fields.
+-- The stamps of moments: each is a stamp, and its form and its fields determine it.
 use Rattle.std.proofs.Common.{◌≡◌, ℕ, zero, suc, ◌+◌, ◌-◌, ◌*◌, ◌/◌, ◌%◌, ◌<◌, ◌≤◌, List, [], ◌∷◌, Bool, true, false, Option, Some, None, if◌then◌else◌, ◌||◌, length, drop, get_or, pos, ◌==◌, lit<, arith, refl, sym, ap, ◌∙◌, add-one, drop-cons}
 use Rattle.std.specs.Prelude.{IsTrue, is_some, not, codes, slice_index}
 use Rattle.std.specs.Int.{IsInRange}
@@ -27,7 +27,7 @@ civil_of text = record {
   milli = two text 20 * 10 + (slice_index text 22 - 48);
 }
 
--- numbers of digits
+-- the digits of numbers
 
 two_digits : (a b : ℕ) → IsInRange 48 57 a → IsInRange 48 57 b → digits 2 ((a - 48) * 10 + (b - 48)) ≡ a ∷ b ∷ []
 unfolding digits
@@ -57,7 +57,7 @@ four_digits a b c d a_in b_in c_in d_in =
     let fourth : 48 + n % 10 ≡ d = omega arith in
     cc
 
--- and the numbers back from their digits
+-- the number that its own digits write
 
 two_back : (n : ℕ) → n < 100 → (48 + n / 10 % 10 - 48) * 10 + (48 + n % 10 - 48) ≡ n
 two_back n small = omega arith
@@ -66,7 +66,7 @@ four_back : (n : ℕ) → n < 10000
     → ((48 + n / 10 / 10 / 10 % 10 - 48) * 10 + (48 + n / 10 / 10 % 10 - 48)) * 100 + ((48 + n / 10 % 10 - 48) * 10 + (48 + n % 10 - 48)) ≡ n
 four_back n small = omega arith
 
--- a text by its bytes
+-- a text, from its bytes
 
 abbrev bytes_from : List ℕ → ℕ → ℕ → List ℕ
 bytes_from text at zero = []
@@ -140,7 +140,7 @@ length-stamp_of : (c : Civil) → length (stamp_of c) ≡ 24
 unfolding digits
 length-stamp_of c = refl
 
--- ranges
+-- fields within their ranges
 
 inside : (low high n : ℕ) → low ≤ n → n ≤ high → outside low high n ≡ false
 unfolding outside
@@ -159,7 +159,7 @@ year_of_date year month day is = omega (arith, signed_arith, is.0.1)
 year_is : (year : ℕ) → year ≤ 9999 → IsYear (pos year)
 year_is year small = (omega (arith, signed_arith), omega (arith, signed_arith))
 
--- the first of six tests that holds, and then another
+-- the first of six tests that holds, and else another result
 abbrev first_of_six : Bool → Bool → Bool → Bool → Bool → Bool → Option ℕ → Option ℕ
 first_of_six a b c d e f r =
     if a then Some 0 else if b then Some 5 else if c then Some 8 else if d then Some 11 else if e then Some 14 else if f then Some 17 else r
@@ -245,7 +245,7 @@ moment_fields c is =
           (moment_is_utc c),
     )
 
--- what is told by the form and the fields
+-- the properties of a moment's stamp: its form and its fields
 
 pub record IsOfMoment (text : List ℕ) : Type 0 where
   pub len : length text ≡ 24
@@ -298,7 +298,7 @@ moment_is_stamp text is =
 pub stamp_of_moment : (ms : ℕ) (text : List ℕ) → IsStampOf ms text → IsStamp text
 stamp_of_moment ms text is = moment_is_stamp text (is.0, is.1, is.4)
 
--- tests of what was found
+-- tests of Boolean and optional results
 
 pub not_true : IsTrue false → ⊥
 not_true t = cc

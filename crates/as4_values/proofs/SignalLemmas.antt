@@ -1,4 +1,4 @@
--- A signal is told by its four fields.
+-- The four fields of a signal determine it.
 use Rattle.std.proofs.Common.{◌≡◌, ℕ, List, Bool, Option, sym, ap, subst}
 use Rattle.std.specs.Prelude.{IsTrue}
 use Rattle.std.proofs.Props.{props}

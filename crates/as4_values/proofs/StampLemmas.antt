@@ -1,4 +1,4 @@
--- Where a text is no stamp.
+-- Where a text goes wrong as a stamp.
 use Rattle.std.proofs.Common.{◌≡◌, ℕ, ◌+◌, ◌<◌, ◌≤◌, inl, inr, List, Some, arith, sym, ◌∙◌}
 use Rattle.std.proofs.lemmas.Bool.{cases_lt}
 use Rattle.as4_values.specs.Stamp.{IsForm, Begins, StampGoesWrong}

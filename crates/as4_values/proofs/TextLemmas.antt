@@ -1,19 +1,23 @@
--- What stands between blanks, where bytes are no text, and plain texts.
+-- Bytes between blanks, the place where bytes go wrong as a text, and plain texts.
 use Rattle.std.proofs.Common.{◌≡◌, ℕ, ◌+◌, ◌-◌, ◌<◌, ◌≤◌, inl, inr, List, [], ◌++◌, Bool, false, length, take, drop, get_or, arith, refl, sym, ◌∙◌, ap, append_assoc, length-append, length-drop}
 use Rattle.std.specs.Prelude.{IsTrue, slice_index, encode_utf8_all, IsUtf8}
 use Rattle.std.specs.Str.{IsAscii}
-use Rattle.std.specs.List.{All, AllWithin}
+use Rattle.std.specs.List.{All, AllWithin, prefix_len}
 use Rattle.std.proofs.lemmas.Bool.{cases_lt}
 use Rattle.std.proofs.lemmas.Bool.Decides.{nat_tests}
 use Rattle.std.proofs.lemmas.Str.{IsUtf8-take, IsUtf8-drop, IsUtf8-from_ascii, IsCharBoundary-from_take, IsCharBoundary-at_seam, encodes-IsAscii, encodes-append, encodes_same}
 use Rattle.std.proofs.lemmas.Str.Ascii.{IsAscii-from_reads}
 use Rattle.std.proofs.lemmas.List.{get_or_default, get_or-append_right, get_or_append_left, get_or-drop, get_or-take, take-append-drop, drop-take, take-take, take_at, drop_at, length-take-le, append-nil}
 use Rattle.std.proofs.lemmas.List.Elements.{All-append, All-take, All-drop, AllWithin-from_all, All-from_all_within}
-use Rattle.as4_values.specs.Texts.{IsXml, IsBlank, IsTrimmed, IsText, HasCore, Spells, TextGoesWrong, text_limit, is_blank}
+use Rattle.as4_values.specs.Texts.{IsXml, IsBlank, IsTrimmed, IsText, HasCore, Spells, TextGoesWrong, text_limit}
+use Rattle.std.proofs.lemmas.List.Sums.{prefix_len_passes, prefix_len_stops}
+use Rattle.byte_forms.specs.Classes.{is_blank}
+use Rattle.byte_forms.specs.Trimmed.{end_of}
+use Rattle.byte_forms.proofs.TrimLemmas.{end_blank, end_stops, end_within}
 use Rattle.as4_values.specs.PlainTexts.{IsPlainText, is_plain, allows_at}
 use Rattle.as4_values.proofs.XmlLemmas.{XmlChar, xml_is_utf8, xml_has_no_stop, one_stop}
 
--- the core, by its places: blanks before and behind it, and none at its ends
+-- the core, by its places: blanks before and after it, and none at its ends
 pub record Cut (bytes : List ℕ) (start end : ℕ) : Type 0 where
   pub some : start < end
   pub within : end ≤ length bytes
@@ -38,7 +42,7 @@ plus_none n = omega arith
 last_of : (n m : ℕ) → 0 < m → n + m - 1 ≡ n + (m - 1)
 last_of n m some = omega arith
 
--- bytes are cut at one place
+-- bytes have one cut
 same_start : (bytes : List ℕ) (a b c d : ℕ) → Cut bytes a b → Cut bytes c d → a ≡ c
 same_start bytes a b c d one other =
     let one_within = one.within in
@@ -115,7 +119,7 @@ core_at bytes start end cut =
       sym len,
     )
 
--- and the other way
+-- from the core to its places
 read_front : (front rest : List ℕ) (k d : ℕ) → k < length front → get_or (front ++ rest) k d ≡ get_or front k d
 read_front front rest k d within = get_or_append_left front rest d k within
 
@@ -163,7 +167,7 @@ one_core bytes a b at bt one other =
     let len : length a ≡ length b = omega arith in
     core_part bytes a at one ∙ (rw (len, place) (sym (core_part bytes b bt other)))
 
--- between blanks, what stands in characters of XML is characters of XML
+-- the core of characters of XML is characters of XML
 
 blank_is_ascii : (b : ℕ) → IsTrue (is_blank b) → b < 128
 blank_is_ascii b blank = grind (arith, nat_tests)
@@ -229,7 +233,7 @@ spelled_is_xml : (bytes core : List ℕ) (at : ℕ) → HasCore bytes core at �
 spelled_is_xml bytes core at has xml =
     rw (has.5 ∙ append_assoc has.0 core has.1) (whole_is_xml has.0 core has.1 has.2 has.3 xml)
 
--- what is read, and where bytes are no text
+-- the text that is read, and where bytes go wrong
 
 pub core_is_text : (bytes core : List ℕ) (at : ℕ) → IsXml bytes → HasCore bytes core at → length core ≤ text_limit → Spells bytes core
 core_is_text bytes core at xml has limited = (
@@ -310,7 +314,7 @@ plain_is_text bytes plain =
       );
     }
 
--- and is read as it stands
+-- a plain text is read unchanged
 pub plain_spells : (bytes : List ℕ) → IsPlainText bytes → Spells bytes bytes
 plain_spells bytes plain =
     let text = plain_is_text bytes plain in
@@ -327,6 +331,23 @@ pub cut_between : (bytes : List ℕ) (start end : ℕ) → start < end → end �
     → Cut bytes start end
 cut_between bytes start end some within front back first last =
     record { some = some; within = within; front = front; back = back; first = first (omega arith); last = last (omega arith) }
+
+-- between the blanks that are found at both ends
+pub cut_here : (bytes : List ℕ) → prefix_len is_blank bytes < end_of bytes (length bytes) → Cut bytes (prefix_len is_blank bytes) (end_of bytes (length bytes))
+cut_here bytes some =
+    cut_between bytes (prefix_len is_blank bytes) (end_of bytes (length bytes)) some (end_within bytes (length bytes))
+    (λ k d low high. prefix_len_passes is_blank bytes k d high)
+    (λ k d low high. rw (get_or_default bytes k d 0 high) (end_blank bytes (length bytes) k low high))
+    (λ short. prefix_len_stops is_blank bytes 0 short)
+    (λ last. end_stops bytes (length bytes) last)
+
+-- no core between them
+pub all_blank : (bytes : List ℕ) (end : ℕ) → end ≤ prefix_len is_blank bytes → AllWithin (λ b. IsTrue (is_blank b)) bytes end (length bytes) → IsBlank bytes
+all_blank bytes end none back k d low high =
+    elim (cases_lt k (prefix_len is_blank bytes)) [
+      | inl less ↦ prefix_len_passes is_blank bytes k d less
+      | inr more ↦ back k d (omega arith) high
+    ]
 
 core_length : (bytes : List ℕ) (start end : ℕ) → Cut bytes start end → length (take (end - start) (drop start bytes)) ≡ end - start
 core_length bytes start end cut =

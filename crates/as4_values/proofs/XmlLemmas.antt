@@ -40,7 +40,7 @@ xml_is_scalar c xml = grind (arith, nat_tests)
 long_enough : (c : ℕ) → 1 ≤ length (encode_utf8 c)
 long_enough c = rw length-encode ((len_utf8_bounds c).0)
 
--- where a character stands that a document may not hold, by the character's bytes
+-- where a forbidden character is, by its bytes
 
 allowed_1 : (c : ℕ) (rest : List ℕ) → c < 128 → forbidden_at (c ∷ rest) 0 ≡ false → XmlChar c
 unfolding forbidden_at
@@ -76,12 +76,12 @@ lead_4 : (c : ℕ) (rest : List ℕ) → forbidden_at ((240 + c / 262144) ∷ re
 unfolding forbidden_at
 lead_4 c rest = grind (arith, nat_tests)
 
--- a byte from 128 to 191, which goes on with a character
+-- a byte from 128 to 191 continues a character
 inner_byte : (bytes : List ℕ) (k : ℕ) → 128 ≤ get_or bytes k 0 → get_or bytes k 0 < 192 → forbidden_at bytes k ≡ false
 unfolding forbidden_at
 inner_byte bytes k low high = grind (arith, nat_tests)
 
--- the same of a character and what follows it
+-- the same for a character and the bytes after it
 
 -- the four lengths of a character
 pub data Sized (c : ℕ) : Type 0 where
@@ -126,7 +126,7 @@ forbidden_by c rest (four low) is =
 forbidden : (c : ℕ) (rest : List ℕ) → forbidden_at (encode_utf8 c ++ rest) 0 ≡ true → is_xml_char c ≡ false
 forbidden c rest is = forbidden_by c rest (sized c) is
 
--- within a character: only bytes that go on with one
+-- within a character: only continuation bytes
 
 inner_by : (c : ℕ) (rest : List ℕ) (k : ℕ) → Sized c → IsScalar c → 0 < k → k < length (encode_utf8 c)
     → (128 ≤ get_or (encode_utf8 c ++ rest) k 0) × (get_or (encode_utf8 c ++ rest) k 0 < 192)
@@ -182,7 +182,7 @@ xml_chars (c ∷ cs) scalars each =
     All-cons XmlChar c cs (allowed c (encode_utf8_all cs) split.0 (each 0 (omega arith)))
     (xml_chars cs split.1 (λ k within. sym (past (encode_utf8 c) (encode_utf8_all cs) k) ∙ each (length (encode_utf8 c) + k) (omega arith)))
 
--- so many characters of XML, and then another
+-- a prefix of characters of XML, and then another character
 pub record FirstStop (cs : List ℕ) (at : ℕ) : Type 0 where
   front : List ℕ
   stop : ℕ
@@ -244,7 +244,7 @@ scalars_of (c ∷ cs) xml = both_back c cs (xml_is_scalar c (All-head XmlChar c 
 pub xml_is_utf8 : (bytes : List ℕ) → IsXml bytes → IsUtf8 bytes
 xml_is_utf8 bytes xml = (xml.0, (scalars_of xml.0 (All-from_all_within XmlChar xml.0 xml.1), xml.2))
 
--- so many bytes of XML, and then another character
+-- a prefix of XML, and then another character
 pub record StopsAtChar (bytes : List ℕ) (at : ℕ) : Type 0 where
   stop : ℕ
   rest : List ℕ
@@ -286,7 +286,7 @@ no_xml c d r t not_xml xml e =
     let same : c ≡ d = (encode_same c d r t e).0 in
     grind (arith, same)
 
--- the first character that isn't one of XML is no such character in what follows either
+-- the first forbidden character isn't one of XML, whatever bytes follow it
 pub no_xml_at_forbidden : (bytes : List ℕ) (valid at : ℕ) → valid ≤ length bytes → IsUtf8 (take valid bytes) → at < length (take valid bytes)
     → forbidden_at (take valid bytes) at ≡ true → ((k : ℕ) → k < at → forbidden_at (take valid bytes) k ≡ false) → IsNoXmlFrom bytes at
 no_xml_at_forbidden bytes valid at in_bytes utf8 within is each =
@@ -303,7 +303,7 @@ no_xml_at_forbidden bytes valid at in_bytes utf8 within is each =
       none = λ c rest xml starts. no_xml stops.stop c (stops.rest ++ drop valid bytes) rest stops.not_xml xml (sym whole ∙ starts);
     }
 
--- where UTF-8 ends no character begins
+-- where the UTF-8 ends, no character begins
 pub no_xml_past_valid : (bytes : List ℕ) (valid : ℕ) → IsValidUpTo bytes valid → IsXml (take valid bytes) → IsNoXmlFrom bytes valid
 no_xml_past_valid bytes valid longest xml = record {
   short = longest.short;
@@ -319,7 +319,7 @@ no_xml_past_valid bytes valid longest xml = record {
       longest.longest (valid + len) (omega arith) (rw whole (IsUtf8-append (take valid bytes) (encode_utf8 c) longest.front (IsUtf8-encode c (xml_is_scalar c is))));
 }
 
--- what follows characters in characters begins with one of them
+-- if a text of characters has a prefix of characters, the rest begins with one of them
 next_char : (ds cs rest : List ℕ) → All XmlChar ds → encode_utf8_all ds ≡ encode_utf8_all cs ++ rest → 0 < length rest
     → (c : ℕ) × (others : List ℕ) × XmlChar c × (rest ≡ encode_utf8 c ++ others)
 next_char [] [] rest xml e some = absurd (omega (arith, ap length e))

@@ -43,7 +43,7 @@ xml_found bytes tested =
     let parts : (list_all is_xml_char (chars bytes) ≡ true) × (bytes_eq (encode_utf8_all (chars bytes)) bytes ≡ true) = and_parts _ _ tested in
     (chars bytes, all_xml (chars bytes) parts.0, (bytes_eq-Decides (encode_utf8_all (chars bytes)) bytes).0 parts.1)
 
--- so whether no wrong byte is found tells what the test tells
+-- so the search for a wrong byte and the test agree
 pub xml_told : (is : Bool) (wrong : Option ℕ) (bytes : List ℕ) → is_some wrong ≡ not is → (IsNone wrong ↔ IsXml bytes) → is ≡ is_xml bytes
 xml_told true None bytes told same = sym (xml_tested bytes (same.0 refl))
 xml_told false None bytes told same = absurd (false≢true told)

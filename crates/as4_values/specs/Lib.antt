@@ -1,10 +1,9 @@
+-- The specs of as4_values.
 pub mod Address
 pub mod Counts
 pub mod Identifiers
-pub mod ModeFields
-pub mod ModeMatch
-pub mod ModeRanges
 pub mod Moment
+pub mod Pairing
 pub mod Payload
 pub mod PlainTexts
 pub mod SignalParts

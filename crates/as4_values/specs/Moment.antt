@@ -1,4 +1,4 @@
--- Moments as texts, by the calendar: the stamps that are written (XML Schema Part 2, section 3.2.7).
+-- Moments as texts, by the calendar: the stamps that this handler writes (XML Schema Part 2, section 3.2.7).
 use Rattle.std.specs.Prelude.{◌≡◌, ℕ, zero, suc, ◌+◌, ◌*◌, ◌/◌, ◌%◌, ◌<◌, ◌≤◌, List, [], ◌∷◌, ◌++◌, pos, codes}
 use Rattle.jiff_core.specs.Calendar.{IsCivilDate, days_from_civil}
 
@@ -12,7 +12,7 @@ pub record Civil : Type 0 where
   pub second : ℕ
   pub milli : ℕ
 
--- the calendar has this date, from 1970 to 9999, and the day this time
+-- the calendar has this date, from 1970 to 9999, and the time is one of a day
 pub record IsCivil (c : Civil) : Type 0 where
   pub since : 1970 ≤ c.year
   pub date : IsCivilDate (pos c.year) c.month c.day
@@ -21,7 +21,7 @@ pub record IsCivil (c : Civil) : Type 0 where
   pub second : c.second < 60
   pub milli : c.milli < 1000
 
--- so many decimal digits of a number, with leading zeros
+-- the last `places` decimal digits of a number, with leading zeros
 unfoldable pub digits : ℕ → ℕ → List ℕ
 digits zero n = []
 digits (suc places) n = digits places (n / 10) ++ (48 + n % 10) ∷ []
@@ -44,7 +44,7 @@ stamp_of c =
 abbrev pub IsMomentStamp : List ℕ → Type 0
 IsMomentStamp text = (c : Civil) × IsCivil c × (text ≡ stamp_of c)
 
--- the milliseconds of its day that have passed
+-- the milliseconds since midnight
 abbrev pub time_of : Civil → ℕ
 time_of c = c.hour * 3600000 + c.minute * 60000 + c.second * 1000 + c.milli
 

@@ -1,6 +1,7 @@
--- What names and types a part of a package.
+-- The name and the type of a part of a package.
 use Rattle.std.specs.Prelude.{ℕ, ◌-◌, List, Bool, not, ◌&&◌, ◌||◌, ◌==◌, nat_lt, nat_le, length, slice_index}
 use Rattle.std.specs.List.{list_all}
+use Rattle.byte_forms.specs.Classes.{is_space}
 use Rattle.as4_values.specs.Word.{IsWord}
 use Rattle.as4_values.specs.declared.word.Word.TheVariants.{Identifier}
 
@@ -8,11 +9,8 @@ use Rattle.as4_values.specs.declared.word.Word.TheVariants.{Identifier}
 abbrev pub IsContentId : List ℕ → Type 0
 IsContentId bytes = IsWord Identifier bytes
 
--- a space or a tab
-abbrev pub is_space : ℕ → Bool
-is_space b = (b == 32) || (b == 9)
-
--- the media text of a part (RFC 2045, section 5.1): one line of at most 1,024 bytes, without a space or tab at either end
+-- the media text of a part (RFC 2045, section 5.1): empty, or one line of at most 1,024 bytes without a space or tab at
+-- either end
 unfoldable pub is_media_text : List ℕ → Bool
 is_media_text text =
     nat_le (length text) 1024

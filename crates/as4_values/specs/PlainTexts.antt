@@ -1,14 +1,14 @@
--- Texts that are spelled as they are: in a document (XML 1.0, section 2.4) and behind `cid:` (RFC 3986, section 2.1).
+-- Texts that need no escape: in a document (XML 1.0, section 2.4) and after `cid:` (RFC 3986, section 2.1).
 use Rattle.std.specs.Prelude.{ℕ, ◌+◌, ◌<◌, ◌≤◌, List, Bool, not, ◌&&◌, ◌||◌, ◌==◌, nat_le, IsTrue, length, slice_index}
 use Rattle.as4_values.specs.Texts.{text_limit}
 
--- printable ASCII but for what is escaped in XML, `"`, `&`, `<` and `>`, and for `%`, which begins an escape of a URL
+-- printable ASCII without what XML escapes (`"`, `&`, `<`, `>`) and without `%`, which begins an escape of a URL
 abbrev pub is_plain : ℕ → Bool
 is_plain b =
     nat_le 32 b && nat_le b 126
     && not ((b == 34) || (b == 37) || (b == 38) || (b == 60) || (b == 62))
 
--- the byte at a place of a plain text: at both ends no space
+-- the byte at this place may be in a plain text: a space is not allowed at either end
 abbrev pub allows_at : List ℕ → ℕ → Bool
 allows_at bytes at =
     is_plain (slice_index bytes at)

@@ -2,14 +2,11 @@
 use Rattle.std.specs.Prelude.{◌≡◌, ◌≢◌, ℕ, ◌+◌, ◌-◌, ◌<◌, ◌≤◌, ◌⊎◌, List, ◌++◌, Bool, false, ◌&&◌, ◌||◌, ◌==◌, nat_le, IsTrue, length, take, drop, slice_index, encode_utf8, encode_utf8_all}
 use Rattle.std.specs.List.{AllWithin, list_all}
 use Rattle.std.specs.Str.{bytes_eq, chars}
+use Rattle.byte_forms.specs.Classes.{is_blank}
 
--- how many bytes a text has at most
+-- the most bytes that a text may have
 abbrev pub text_limit : ℕ
 text_limit = 65536
-
--- a blank (XML 1.0, section 2.3)
-abbrev pub is_blank : ℕ → Bool
-is_blank c = (c == 32) || (c == 9) || (c == 10) || (c == 13)
 
 -- a character that a document may hold (XML 1.0, section 2.2)
 abbrev pub is_xml_char : ℕ → Bool
@@ -23,7 +20,7 @@ IsXml bytes =
     (chars : List ℕ) × AllWithin (λ c. IsTrue (is_xml_char c)) chars 0 (length chars)
     × (encode_utf8_all chars ≡ bytes)
 
--- the same, as a test
+-- the same, as a Boolean test
 unfoldable pub is_xml : List ℕ → Bool
 is_xml bytes = list_all is_xml_char (chars bytes) && bytes_eq (encode_utf8_all (chars bytes)) bytes
 
@@ -31,7 +28,7 @@ is_xml bytes = list_all is_xml_char (chars bytes) && bytes_eq (encode_utf8_all (
 abbrev pub IsBlank : List ℕ → Type 0
 IsBlank bytes = AllWithin (λ b. IsTrue (is_blank b)) bytes 0 (length bytes)
 
--- something that neither begins nor ends with a blank
+-- nonempty, and neither the first nor the last byte is a blank
 pub record IsTrimmed (bytes : List ℕ) : Type 0 where
   pub some : 0 < length bytes
   pub first : is_blank (slice_index bytes 0) ≡ false
@@ -43,7 +40,7 @@ pub record IsText (bytes : List ℕ) : Type 0 where
   pub limited : length bytes ≤ text_limit
   pub spelled : IsXml bytes
 
--- `core` is what the bytes have between the blanks at both ends, `at` where it begins
+-- `core` is the bytes without the blanks at both ends, and begins at `at`
 abbrev pub HasCore : List ℕ → List ℕ → ℕ → Type 0
 HasCore bytes core at =
     (front back : List ℕ) × IsBlank front × IsBlank back × IsTrimmed core
@@ -53,14 +50,14 @@ HasCore bytes core at =
 abbrev pub Spells : List ℕ → List ℕ → Type 0
 Spells bytes text = IsText text × ((at : ℕ) × HasCore bytes text at)
 
--- at this place no character of XML begins, though all bytes before it are such characters
+-- no character of XML begins at this place, and all bytes before it are such characters
 pub record IsNoXmlFrom (bytes : List ℕ) (at : ℕ) : Type 0 where
   pub short : at < length bytes
   pub front : IsXml (take at bytes)
   pub none : (c : ℕ) (rest : List ℕ) → IsTrue (is_xml_char c) → drop at bytes ≢ encode_utf8 c ++ rest
 
--- the bytes are no text, for what stands at this place: no character of XML, wherever it comes; else the
--- first byte past the limit; else, where there are only blanks, the end
+-- why the bytes are no text: at this place is no character of XML; else it is the first byte past the limit; else the
+-- bytes are all blank, and it is their end
 abbrev pub TextGoesWrong : List ℕ → ℕ → Type 0
 TextGoesWrong bytes at =
     IsNoXmlFrom bytes at

@@ -8,12 +8,12 @@ use Rattle.as4_values.specs.declared.word.Word.TheVariants.{Identifier, ErrorCod
 abbrev pub is_graphic : ℕ → Bool
 is_graphic b = nat_le 33 b && nat_le b 126
 
--- the bytes of a word: an identifier (RFC 2822, section 3.6.4) stands in angle brackets and has none
+-- the bytes of a word: an identifier (RFC 2822, section 3.6.4) is written in angle brackets and contains none
 abbrev pub allows : Word → ℕ → Bool
 allows Identifier b = is_graphic b && not (b == 60) && not (b == 62)
 allows ErrorCode b = is_graphic b
 
--- how many bytes a word has at most
+-- the most bytes that a word may have
 abbrev pub limit_of : Word → ℕ
 limit_of Identifier = 255
 limit_of ErrorCode = 64
@@ -28,8 +28,8 @@ pub record IsWord (word : Word) (bytes : List ℕ) : Type 0 where
   pub limited : length bytes ≤ limit_of word
   pub each : IsAllowedUpTo word bytes (length bytes)
 
--- the bytes stop being such a word at this place: there is no byte at all, or the first byte that isn't
--- allowed, or the first one past the limit
+-- the bytes stop being such a word at this place: there are no bytes, or it is the first byte that isn't allowed, or
+-- the first past the limit
 abbrev pub GoesWrong : Word → List ℕ → ℕ → Type 0
 GoesWrong word bytes at =
     IsAllowedUpTo word bytes at

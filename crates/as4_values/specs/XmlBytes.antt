@@ -1,12 +1,12 @@
--- Where in UTF-8 a character stands that a document may not hold, by its bytes (XML 1.0, section 2.2).
+-- Where UTF-8 has a character that a document may not hold, by its bytes (XML 1.0, section 2.2).
 use Rattle.std.specs.Prelude.{ℕ, ◌+◌, List, Bool, not, ◌&&◌, ◌||◌, ◌==◌, nat_lt, nat_le, slice_index}
-use Rattle.as4_values.specs.Texts.{is_blank}
+use Rattle.byte_forms.specs.Classes.{is_blank}
 
 -- a control character other than a blank
 abbrev pub is_control : ℕ → Bool
 is_control b = nat_lt b 0x20 && not (is_blank b)
 
--- at this place begins a control character other than a blank, U+FFFE or U+FFFF
+-- a control character other than a blank, U+FFFE or U+FFFF begins at this place
 unfoldable pub forbidden_at : List ℕ → ℕ → Bool
 forbidden_at bytes at =
     is_control (slice_index bytes at)

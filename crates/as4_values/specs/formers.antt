@@ -1,1 +1,2 @@
+-- The formers of the crate's types.
 pub mod lists

@@ -1,5 +1,4 @@
-//! Addresses of the other end: `http://`, a host, where there is one a `:` and a port, and where there is one
-//! a target.
+//! Addresses of the other endpoint: `http://`, a host, optionally `:` and a port, and optionally a target.
 
 ghost use Rattle.std.specs.Prelude.{◌≡◌, ◌≤◌, ◌==◌, not, length, position};
 ghost use Rattle.std.specs.List.{list_all};
@@ -8,7 +7,7 @@ ghost use Rattle.as4_values.specs.Word.{is_graphic};
 
 use crate::text::Text;
 
-/// How many bytes an address has at most.
+/// The most bytes that an address may have.
 pub const MAX_ADDRESS: usize = 255;
 
 const _: () = prove!(MAX_ADDRESS == 255);
@@ -23,7 +22,7 @@ pub fn is_address(text: &Text) -> bool
     text.bytes().len() <= MAX_ADDRESS && has_address_form(text.bytes())
 }
 
-/// Whether the bytes are an address, of any length.
+/// Whether the bytes have the form of an address, of any length.
 #[tactic(auto, unfolding(crate::specs::Address::has_address_form))]
 pub fn has_address_form(bytes: &[u8]) -> bool
     ensures { result ≡ has_address_form bytes.now }
@@ -60,7 +59,7 @@ fn is_behind_scheme(rest: &[u8]) -> bool
     host > 0 && is_behind_host(&rest[host..])
 }
 
-#[tactic(auto, using(crate::proofs::AddressLemmas::position_or_end))]
+#[tactic(auto, using(byte_forms::proofs::SearchLemmas::position_or_end))]
 fn host_len(rest: &[u8]) -> usize
     ensures value { result ≡ host_len rest.now }
     ensures within { result ≤ length rest.now }
@@ -85,7 +84,7 @@ fn is_behind_host(rest: &[u8]) -> bool
     }
 }
 
-#[tactic(auto, using(crate::proofs::AddressLemmas::position_or_end))]
+#[tactic(auto, using(byte_forms::proofs::SearchLemmas::position_or_end))]
 fn port_len(rest: &[u8]) -> usize
     ensures value { result ≡ port_len rest.now }
     ensures within { result ≤ length rest.now }
@@ -105,7 +104,7 @@ fn is_port(digits: &[u8]) -> bool
     !(!digits.is_empty() && digits[0] == b'0') && writes_port(digits)
 }
 
-// Whether these are digits that write a number from 1 to 65,535.
+// Whether the bytes are digits that write a number from 1 to 65,535.
 #[tactic(auto, using(crate::proofs::AddressLemmas::number_step, crate::proofs::AddressLemmas::number_grows), unfolding(crate::specs::Address::writes_port))]
 fn writes_port(digits: &[u8]) -> bool
     ensures { result ≡ writes_port digits.now }

@@ -1,3 +1,5 @@
+//! Error codes.
+
 ghost use Rattle.std.specs.Prelude.{◌≡◌, ℕ, ◌↔◌, ◌++◌, codes, IfOk, IfErr, List};
 ghost use Rattle.as4_values.specs.Word.{IsWord, GoesWrong};
 ghost use Rattle.as4_values.specs.declared.word.Word.TheVariants.{ErrorCode};
@@ -24,7 +26,7 @@ impl Model for Code {
 }
 
 impl Code {
-    /// Reads a code: all of the bytes, as they stand.
+    /// Reads a code: all of the bytes, unchanged.
     pub fn read(alloc: Global, bytes: &[u8]) -> Result<Code, IdRefusal>
         ensures found { IfOk result (λ code. (code ≡ bytes.now) × IsWord ErrorCode bytes.now) }
         ensures only { IsWord ErrorCode bytes.now → IfErr result (λ e. e ≡ IdRefusal.NoMemory) }

@@ -51,11 +51,11 @@ pub struct Property {
     pub name: Text,
     /// The attribute `type`.
     pub kind: Option<Text>,
-    /// Nothing where the value is empty.
+    /// None where the value is empty.
     pub value: Option<Text>,
 }
 
-/// `eb:PartInfo`: what is said of one part of the message.
+/// `eb:PartInfo`: describes one part of the message.
 #[derive(Drop)]
 pub struct PartInfo {
     /// The reference to the part, as `cid:` and its Content-ID (RFC 2392).
@@ -65,7 +65,7 @@ pub struct PartInfo {
     pub ghost counted: { IsPropertyCount properties },
 }
 
-/// `eb:UserMessage`: all that is said of a message but for its payloads.
+/// `eb:UserMessage`: a message without its payloads.
 #[derive(Drop)]
 pub struct UserHeader {
     /// The message partition channel.
@@ -79,7 +79,7 @@ pub struct UserHeader {
     pub agreement: Option<Agreement>,
     pub service: Service,
     pub action: Text,
-    /// Nothing where the conversation's identifier is empty.
+    /// None where the conversation's identifier is empty.
     pub conversation: Option<Text>,
     /// At most 256 properties.
     pub properties: Seq<Property>,

@@ -1,5 +1,5 @@
-//! The two lists that values are made of. Contracts see each as the list of what it holds: neither room
-//! nor place in memory is part of a value.
+//! The two lists that values are made of. Contracts see each as the list of its items: neither capacity nor address is
+//! part of the value.
 
 ghost use Rattle.std.specs.Prelude.{◌≡◌, ℕ, List, length};
 
@@ -21,14 +21,14 @@ impl Model for Octets {
 }
 
 impl Octets {
-    /// Takes the bytes over, without a copy.
+    /// Wraps the bytes, without a copy.
     pub fn of(items: Vec<u8>) -> Octets
         ensures { result ≡ items.items }
     {
         Octets { items }
     }
 
-    /// Gives the bytes back, without a copy.
+    /// Returns the bytes, without a copy.
     pub fn into_vec(self) -> Vec<u8>
         ensures { result.items ≡ self }
     {
@@ -66,14 +66,14 @@ impl<T> Model for Seq<T> {
 }
 
 impl<T> Seq<T> {
-    /// Takes the values over, without a copy.
+    /// Wraps the values, without a copy.
     pub fn of(items: Vec<T>) -> Seq<T>
         ensures { result ≡ items.items }
     {
         Seq { items }
     }
 
-    /// Gives the values back, without a copy.
+    /// Returns the values, without a copy.
     pub fn into_vec(self) -> Vec<T>
         ensures { result.items ≡ self }
     {

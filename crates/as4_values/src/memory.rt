@@ -1,6 +1,8 @@
+//! The error of an allocation that failed.
+
 use std::alloc::{AllocError, AllocFailed};
 
-/// Memory ran out: what was asked for wasn't made, and what was lent is as it was.
+/// Out of memory: the value wasn't made.
 #[derive(Clone, Copy, Debug, PartialEq, Eq)]
 pub struct NoMemory;
 

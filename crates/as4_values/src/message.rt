@@ -1,3 +1,5 @@
+//! Messages, and the units that an envelope holds.
+
 ghost use Rattle.std.specs.Prelude.{IsTrue};
 ghost use Rattle.as4_values.specs.SignalParts.{is_receipt, is_pull};
 

@@ -1,3 +1,5 @@
+//! Message identifiers: read, and made for this handler's own messages.
+
 ghost use Rattle.std.specs.Prelude.{◌≡◌, ℕ, ◌<◌, ◌^◌, ◌↔◌, ◌++◌, codes, IfOk, IfErr, List, OnOk};
 ghost use Rattle.as4_values.specs.Identifiers.{uuid_text, signal_id, submission_id};
 ghost use Rattle.as4_values.specs.Word.{IsWord, GoesWrong};
@@ -27,7 +29,7 @@ impl Model for MessageId {
 }
 
 impl MessageId {
-    /// Reads an identifier: all of the bytes, as they stand.
+    /// Reads an identifier: all of the bytes, unchanged.
     pub fn read(alloc: Global, bytes: &[u8]) -> Result<MessageId, IdRefusal>
         ensures found { IfOk result (λ id. (id ≡ bytes.now) × IsWord Identifier bytes.now) }
         ensures only { IsWord Identifier bytes.now → IfErr result (λ e. e ≡ IdRefusal.NoMemory) }
@@ -44,7 +46,7 @@ impl MessageId {
         }
     }
 
-    /// The identifier of a signal message, by a nonce.
+    /// The identifier of a signal message, made of a nonce.
     #[tactic(auto, using(crate::proofs::IdentifierLemmas::signal_id_is_word))]
     pub fn of_signal(alloc: Global, nonce: u128) -> Result<MessageId, NoMemory>
         ensures { IfOk result (λ id. id ≡ signal_id nonce) }
@@ -57,7 +59,7 @@ impl MessageId {
         })
     }
 
-    /// The identifier of the user message of a submission, by its number.
+    /// The identifier of the user message of a submission, made of its number and a nonce.
     pub fn of_submission(alloc: Global, number: u64, nonce: u128) -> Result<MessageId, NoMemory>
         ensures { IfOk result (λ id. id ≡ submission_id number nonce) }
     {
@@ -95,7 +97,7 @@ pub fn submission_ids_differ()
         → submission_id number nonce ≡ submission_id other another → number ≡ other }
 {}
 
-/// Adds the text of the UUID with these 128 bits.
+/// Appends the text of the UUID with these 128 bits.
 fn push_uuid(out: &mut Vec<u8>, nonce: u128) -> Result<(), NoMemory>
     ensures { OnOk result (out.new.items ≡ out.old.items ++ uuid_text nonce) }
 {

@@ -1,4 +1,4 @@
-//! Identifiers are equal, stand in order and hash as their bytes.
+//! Equality, order and hash of identifiers: those of their bytes.
 
 ghost use Rattle.std.specs.Prelude.{Some, refl};
 ghost use Rattle.std.proofs.Common.{rules};

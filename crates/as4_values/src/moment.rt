@@ -19,7 +19,7 @@ pub const MAX_MOMENT: u64 = 253_402_300_799_999;
 
 const _: () = prove!(MAX_MOMENT == 253402300799999);
 
-/// The form of a moment's stamp, where `0` stands for any digit.
+/// The form of a moment's stamp; `0` matches any digit.
 const FORM: &[u8; 24] = b"0000-00-00T00:00:00.000Z";
 
 const MS_PER_DAY: u64 = 86_400_000;
@@ -58,7 +58,7 @@ pub fn is_moment_stamp(bytes: &[u8]) -> bool
     wrong_field(bytes).is_none()
 }
 
-/// The date so many days after 1970-01-01.
+/// The date that is `day` days after 1970-01-01.
 fn date_of(day: u64) -> Date
     requires { day ≤ 2_932_896 }
     ensures { epoch_day result ≡ pos day }
@@ -76,7 +76,7 @@ fn push_date(out: &mut Vec<u8>, date: Date) -> Result<(), NoMemory>
     push_digits(out, 2, date.day as u64)
 }
 
-/// Adds the time of the day, of which so many milliseconds have passed.
+/// Appends the time of day that is `time` milliseconds after midnight.
 fn push_time(out: &mut Vec<u8>, time: u64) -> Result<(), NoMemory>
     ensures { OnOk result (out.new.items
         ≡ out.old.items ++ time_text (time / 3600000) (time % 3600000 / 60000) (time % 60000 / 1000) (time % 1000)) }
@@ -90,7 +90,7 @@ fn push_time(out: &mut Vec<u8>, time: u64) -> Result<(), NoMemory>
     push_digits(out, 3, time % 1000)
 }
 
-/// Adds so many decimal digits of the number, with leading zeros.
+/// Appends the last `places` decimal digits of the number, with leading zeros.
 #[tactic(auto, using(crate::proofs::MomentLemmas::push_digit, crate::proofs::MomentLemmas::push_none))]
 fn push_digits(out: &mut Vec<u8>, places: u32, number: u64) -> Result<(), NoMemory>
     ensures { OnOk result (out.new.items ≡ out.old.items ++ digits places number) }

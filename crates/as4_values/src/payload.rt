@@ -1,3 +1,5 @@
+//! Payloads of user messages.
+
 ghost use Rattle.std.specs.Prelude.{IsTrue};
 ghost use Rattle.as4_values.specs.Payload.{IsContentId, is_media_text};
 
@@ -6,7 +8,7 @@ use crate::memory::NoMemory;
 use crate::plain_data::PlainData;
 use std::alloc::Global;
 
-/// A payload of a user message: a part of its package, behind the root.
+/// A payload of a user message: a part of its package, after the root.
 #[derive(Drop)]
 pub struct Payload {
     /// The part's Content-ID without its angle brackets (RFC 2392): 1 to 255 bytes from `!` to `~` without
@@ -15,13 +17,13 @@ pub struct Payload {
     /// The part's Content-Type, one line of at most 1,024 bytes without a space or tab at either end; empty
     /// where the part has none.
     pub media: Octets,
-    /// The part's bytes, as they came.
+    /// The part's bytes, as received.
     pub content: Octets,
     pub ghost named: { IsContentId cid },
     pub ghost typed: { IsTrue (is_media_text media) },
 }
 
-/// What is handed in to be sent as a payload.
+/// A payload as it is submitted.
 #[derive(Drop)]
 pub struct Load {
     pub media: Octets,

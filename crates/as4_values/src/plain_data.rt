@@ -1,11 +1,13 @@
+//! Copies and comparisons of values, with allocation failure as an error.
+
 ghost use Rattle.std.specs.Prelude.{◌≡◌, ◌↔◌, IsTrue, IfOk};
 
 use crate::memory::NoMemory;
 use std::alloc::Global;
 
-/// Data without identity: a copy equals its source, and equality can be asked without memory.
+/// Data without identity: a copy equals its source, and comparing two values takes no memory.
 pub trait PlainData {
-    /// An equal value of its own.
+    /// An equal value with memory of its own.
     fn try_clone(&self, alloc: Global) -> Result<Self, NoMemory>
         ensures { IfOk result (λ copy. copy ≡ self.now) };
 
@@ -31,8 +33,8 @@ impl<T: PlainData> PlainData for Option<T> {
     }
 }
 
-/// Copies of two values. Where one lacks, the other is let go by name: one way out is proved sooner than one for each
-/// value.
+/// Copies of two values. If one copy fails, the other is dropped by name: a single error path is proved faster than one
+/// for each value.
 pub fn try_clone_two<A: PlainData + Drop, B: PlainData + Drop>(
     alloc: Global,
     first: &A,

@@ -1,4 +1,4 @@
-//! Texts that stand in a document and in a URL as they are.
+//! Texts that need no escape in a document or in a URL.
 
 ghost use Rattle.std.specs.Prelude.{◌≡◌, ◌<◌, ◌↔◌, IsTrue, length};
 ghost use Rattle.as4_values.specs.PlainTexts.{IsPlainText, allows_at, is_plain};

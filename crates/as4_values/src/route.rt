@@ -1,15 +1,17 @@
+//! Routes.
+
 use crate::memory::NoMemory;
 use crate::plain_data::PlainData;
 use crate::text::Text;
 use std::alloc::Global;
 
-/// How messages reach the other end (ebMS 3.0 Core, section 2.2).
+/// How messages reach the other endpoint (ebMS 3.0 Core, section 2.2).
 #[derive(Drop)]
 pub enum Route {
     /// One-Way/Push: they are sent to this address.
     Push { address: Text },
-    /// One-Way/Pull: they wait in this message partition channel until they are asked for; whoever asks sends
-    /// to this address.
+    /// One-Way/Pull: they wait in this message partition channel until the other endpoint pulls them; a puller sends
+    /// its pull requests to this address.
     Pull { mpc: Text, address: Text },
 }
 

@@ -1,3 +1,5 @@
+//! Signal messages.
+
 ghost use Rattle.std.specs.Prelude.{IsTrue};
 ghost use Rattle.as4_values.specs.SignalParts.{is_signal};
 

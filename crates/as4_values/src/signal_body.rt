@@ -1,3 +1,5 @@
+//! The bodies of signal messages: pull requests, receipts and errors.
+
 use crate::code::Code;
 use crate::header::UserHeader;
 use crate::lists::Seq;
@@ -12,7 +14,7 @@ use std::alloc::Global;
 pub enum Severity {
     /// The message wasn't processed.
     Failure,
-    /// The message was processed all the same.
+    /// The message was processed nevertheless.
     Warning,
 }
 
@@ -32,12 +34,12 @@ pub struct ErrorItem {
     pub detail: Option<Text>,
 }
 
-/// What a signal message says.
+/// The content of a signal message.
 #[derive(Drop)]
 pub enum SignalBody {
-    /// `eb:PullRequest`: the next message of this channel is asked for.
+    /// `eb:PullRequest`: asks for the next message of this channel.
     Pull { mpc: Text },
-    /// `eb:Receipt`: the message came; with a copy of its header.
+    /// `eb:Receipt`: the message was received. May hold a copy of its header.
     Receipt { copy: Option<UserHeader> },
     /// One or more `eb:Error`, at most 256.
     Errors { items: Seq<ErrorItem> },

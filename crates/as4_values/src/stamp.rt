@@ -1,3 +1,5 @@
+//! Stamps: dates with times, as texts.
+
 ghost use Rattle.std.specs.Prelude.{◌≡◌, ℕ, ◌+◌, ◌<◌, ◌≤◌, ◌↔◌, List, pos, IsNone, IfSome, IfOk, IfErr, IsTrue, false, length};
 ghost use Rattle.as4_values.specs.Stamp.{IsStamp, StampGoesWrong, wrong_field, wrong_offset, has_offset, outside, two, year_of};
 ghost use Rattle.jiff_core.specs.Calendar.{days_in_month};
@@ -10,9 +12,8 @@ use jiff_core::civil::Date;
 use std::alloc::Global;
 use std::marker::Model;
 
-/// A stamp (XML Schema Part 2, section 3.2.7), kept as its text: a date from the year 1 to 9999 and a time
-/// to the second or with one to nine places behind it, in UTC, at an offset of at most 14 hours from it, or
-/// without a zone.
+/// A stamp (XML Schema Part 2, section 3.2.7), kept as its text: a date from the year 1 to 9999 and a time with zero to
+/// nine decimal places of a second. Its zone is UTC, an offset of at most 14 hours, or missing.
 #[derive(Drop)]
 pub struct StampText {
     pub(crate) octets: Octets,
@@ -47,18 +48,18 @@ impl PlainData for StampText {
     }
 }
 
-/// Why bytes are no stamp.
+/// Why the bytes aren't a stamp.
 #[derive(Clone, Copy, Debug, PartialEq, Eq)]
 pub enum StampRefusal {
-    /// The first byte that fits no form of a stamp, which is how many there are where they end too soon.
-    /// Where all fit, the first digit of the first field that is out of range: year, month, day, hour,
-    /// minute, second, and the offset's hours and minutes.
+    /// The place of the first byte that fits no form of a stamp, or the length where the bytes end too soon. Where all
+    /// bytes fit, the place of the first field that is out of range: year, month, day, hour, minute, second, the
+    /// offset's hours, the offset's minutes.
     BadStamp { at: usize },
     /// Memory ran out.
     NoMemory,
 }
 
-/// Reads a stamp, all of the bytes as they stand.
+/// Reads a stamp: all of the bytes, unchanged.
 pub fn read_stamp(alloc: Global, bytes: &[u8]) -> Result<StampText, StampRefusal>
     ensures found { IfOk result (λ stamp. (stamp ≡ bytes.now) × IsStamp bytes.now) }
     ensures only { IsStamp bytes.now → IfErr result (λ e. e ≡ StampRefusal.NoMemory) }
@@ -75,7 +76,7 @@ pub fn read_stamp(alloc: Global, bytes: &[u8]) -> Result<StampText, StampRefusal
     }
 }
 
-/// Where the text is no stamp, and nothing where it is one.
+/// Where the text goes wrong; None where it is a stamp.
 fn wrong_place(text: &[u8]) -> Option<usize>
     ensures none { IsNone result ↔ IsStamp text.now }
     ensures wrong { IfSome result (StampGoesWrong text.now) }
@@ -113,7 +114,7 @@ pub fn wrong_field(text: &[u8]) -> Option<usize>
     }
 }
 
-/// The place of the first field of the offset that is out of range: at most 14:00.
+/// The place of the first field of the offset that is out of range: an offset is at most 14:00.
 fn wrong_offset(text: &[u8], at: usize) -> Option<usize>
     requires { at + 5 ≤ length text.now }
     ensures { result ≡ wrong_offset text.now at }

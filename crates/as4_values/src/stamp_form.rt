@@ -1,7 +1,7 @@
-//! The forms of a stamp.
+//! The forms of a stamp; `0` is any digit.
 //!
-//!     0000-00-00T00:00:00   any digits, then
-//!     .0 to .000000000      one to nine of them, or nothing, then
+//!     0000-00-00T00:00:00   then
+//!     .0 to .000000000      one to nine digits, or nothing, then
 //!     Z, +00:00 or -00:00   or nothing
 
 ghost use Rattle.std.specs.Prelude.{◌≡◌, ◌+◌, ℕ, IsNone, IfSome, length};
@@ -11,13 +11,14 @@ ghost use Rattle.as4_values.specs.StampParts.{Has, Stops, IsTailForm, IsZoneForm
 /// A date and a time to the second.
 const SECONDS: &[u8; 19] = b"0000-00-00T00:00:00";
 
-/// The most digits behind the point.
+/// The decimal places, at most nine.
 const PLACES: &[u8; 9] = b"000000000";
 
-/// How far a zone is from UTC, without its sign.
+/// An offset from UTC, without its sign.
 const OFFSET: &[u8; 5] = b"00:00";
 
-/// How many bytes go as those of some stamp do, and nothing where all of them do and it may end there.
+/// The length of the longest prefix that fits the beginning of some form of a stamp; None where the whole text fits a
+/// form.
 pub fn form_end(text: &[u8]) -> Option<usize>
     ensures whole { IsNone result → Has IsForm text.now }
     ensures stop { IfSome result (Stops IsForm text.now) }
@@ -29,7 +30,7 @@ pub fn form_end(text: &[u8]) -> Option<usize>
     Some(SECONDS.len() + tail_end(&text[SECONDS.len()..])?)
 }
 
-/// The same of what follows the seconds.
+/// The same for the text after the seconds.
 fn tail_end(tail: &[u8]) -> Option<usize>
     ensures whole { IsNone result → Has IsTailForm tail.now }
     ensures stop { IfSome result (Stops IsTailForm tail.now) }
@@ -44,7 +45,7 @@ fn tail_end(tail: &[u8]) -> Option<usize>
     Some(1 + places + zone_end(&tail[1 + places..])?)
 }
 
-/// The same of the zone.
+/// The same for the zone.
 #[tactic(auto, using(crate::proofs::FormLemmas::local_whole, crate::proofs::FormLemmas::utc_whole, crate::proofs::FormLemmas::utc_stops))]
 fn zone_end(zone: &[u8]) -> Option<usize>
     ensures whole { IsNone result → Has IsZoneForm zone.now }
@@ -62,7 +63,7 @@ fn zone_end(zone: &[u8]) -> Option<usize>
     Some(1 + offset_end(&zone[1..])?)
 }
 
-/// The same of what follows the sign of an offset.
+/// The same for the text after the sign of an offset.
 fn offset_end(offset: &[u8]) -> Option<usize>
     ensures whole { IsNone result → Has IsOffsetForm offset.now }
     ensures stop { IfSome result (Stops IsOffsetForm offset.now) }
@@ -75,7 +76,7 @@ fn offset_end(offset: &[u8]) -> Option<usize>
     }
 }
 
-/// How many bytes fit the form, from the front on.
+/// The length of the longest prefix of the text that fits the form.
 pub fn matching(form: &[u8], text: &[u8]) -> usize
     ensures fits { Fits form.now text.now result }
     ensures no_more { Fits form.now text.now (result + 1) → ⊥ }

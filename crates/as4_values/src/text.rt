@@ -1,33 +1,37 @@
+//! Texts of headers.
+
 ghost use Rattle.std.specs.Prelude.{◌≡◌, ℕ, ◌-◌, ◌<◌, ◌≤◌, ◌↔◌, List, false, IfOk, IfErr, IsTrue, length, slice_index};
 ghost use Rattle.std.specs.List.{AllWithin};
 ghost use Rattle.as4_values.specs.PlainTexts.{IsPlainText};
-ghost use Rattle.as4_values.specs.Texts.{IsText, Spells, TextGoesWrong, is_blank};
+ghost use Rattle.as4_values.specs.Texts.{IsText, Spells, TextGoesWrong};
+ghost use Rattle.byte_forms.specs.Classes.{is_blank};
 
 use crate::lists::Octets;
 use crate::memory::NoMemory;
 use crate::plain_data::PlainData;
-use crate::xml::{first_not_xml, is_blank};
+use crate::xml::first_not_xml;
+use byte_forms::{Blank, end_without_blanks, run_len};
 use std::alloc::Global;
 use std::marker::Model;
 
-/// How many bytes a text has at most.
+/// The most bytes that a text may have.
 pub const MAX_TEXT: usize = 65_536;
 
 const _: () = prove!(MAX_TEXT == 65536);
 
-/// A text of a header: 1 to 65,536 bytes of UTF-8, characters that XML allows (XML 1.0, section 2.2),
-/// without a blank at either end.
+/// A text of a header: 1 to 65,536 bytes of UTF-8. All its characters are allowed in XML (XML 1.0, section 2.2), and it
+/// neither begins nor ends with a blank.
 #[derive(Drop)]
 pub struct Text {
     octets: Octets,
 }
 
-/// Why bytes are read as no text.
+/// Why the bytes aren't read as a text.
 #[derive(Clone, Copy, Debug, PartialEq, Eq)]
 pub enum TextRefusal {
-    /// The first byte of all that belongs to no character that XML allows; of a broken sequence, its first.
-    /// Where there is none, the 65,537th byte from the first that is no blank on; where there are only
-    /// blanks, or nothing, how many bytes there are.
+    /// The first byte that isn't part of a character that XML allows; of a broken sequence, its first byte. Otherwise
+    /// the first byte past the limit, counted from the first byte that isn't a blank. Where the bytes are empty or all
+    /// blank, their length.
     BadText { at: usize },
     /// Memory ran out.
     NoMemory,
@@ -42,7 +46,7 @@ impl Model for Text {
 }
 
 impl Text {
-    /// Reads a text: what stands between the blanks at both ends (XML 1.0, section 2.3).
+    /// Reads a text: the bytes without the blanks at both ends (XML 1.0, section 2.3).
     pub fn read(alloc: Global, bytes: &[u8]) -> Result<Text, TextRefusal>
         ensures found { IfOk result (λ text. Spells bytes.now text) }
         ensures only { (text : List ℕ) → Spells bytes.now text → IfErr result (λ e. e ≡ TextRefusal.NoMemory) }
@@ -59,8 +63,8 @@ impl Text {
         }
     }
 
-    /// The text that plain bytes are: printable ASCII without `"`, `%`, `&`, `<` and `>`, and without a space at either
-    /// end.
+    /// The text with exactly these bytes, which are plain: printable ASCII without `"`, `%`, `&`, `<` and `>`, and
+    /// without a space at either end.
     pub fn plain(alloc: Global, bytes: &[u8]) -> Result<Text, NoMemory>
         requires { IsPlainText bytes.now }
         ensures { IfOk result (λ text. text ≡ bytes.now) }
@@ -92,12 +96,12 @@ impl PlainData for Text {
     }
 }
 
-/// No bytes are read as two texts.
+/// The same bytes are never read as two different texts.
 pub fn one_text()
     ensures { (bytes a b : List ℕ) → Spells bytes a → Spells bytes b → a ≡ b }
 {}
 
-/// The text that the bytes are read as, or the place for which they are none.
+/// The text in the bytes, or the place where they go wrong.
 fn text_in(bytes: &[u8]) -> Result<&[u8], usize>
     ensures found { IfOk result (λ text. Spells bytes.now text.now) }
     ensures wrong { IfErr result (TextGoesWrong bytes.now) }
@@ -105,7 +109,7 @@ fn text_in(bytes: &[u8]) -> Result<&[u8], usize>
     if let Some(at) = first_not_xml(bytes) {
         return Err(at);
     }
-    let (start, end) = (blanks_at_start(bytes), end_without_blanks(bytes));
+    let (start, end) = (run_len(Blank, bytes), end_without_blanks(bytes));
     if end <= start {
         return Err(bytes.len());
     }
@@ -113,31 +117,4 @@ fn text_in(bytes: &[u8]) -> Result<&[u8], usize>
         return Err(start + MAX_TEXT);
     }
     Ok(&bytes[start..end])
-}
-
-/// How many blanks stand at the front.
-fn blanks_at_start(bytes: &[u8]) -> usize
-    ensures within { result ≤ length bytes.now }
-    ensures blank { AllWithin (λ b. IsTrue (is_blank b)) bytes.now 0 result }
-    ensures next { result < length bytes.now → is_blank (slice_index bytes.now result) ≡ false }
-{
-    for (at, byte) in bytes.iter().enumerate() {
-        if !is_blank(*byte) {
-            return at;
-        }
-    }
-    bytes.len()
-}
-
-/// How many bytes there are without the blanks behind.
-fn end_without_blanks(bytes: &[u8]) -> usize
-    ensures within { result ≤ length bytes.now }
-    ensures blank { AllWithin (λ b. IsTrue (is_blank b)) bytes.now result (length bytes.now) }
-    ensures last { 0 < result → is_blank (slice_index bytes.now (result - 1)) ≡ false }
-{
-    let mut end = bytes.len();
-    while end > 0 && is_blank(bytes[end - 1]) {
-        end -= 1;
-    }
-    end
 }

@@ -1,12 +1,11 @@
-//! Words of graphic characters with a limit: what identifiers and codes have in common.
+//! Words of graphic characters with a limit: the common form of identifiers and codes.
 
 ghost use Rattle.std.specs.Prelude.{◌≡◌, ℕ, ◌↔◌, IsNone, IfSome};
 
-/// Why bytes are no identifier, or no code.
+/// Why the bytes aren't an identifier or a code.
 #[derive(Clone, Copy, Debug, PartialEq, Eq)]
 pub enum IdRefusal {
-    /// The first byte that isn't allowed; the limit where all bytes before it are allowed and more follow;
-    /// 0 where there are no bytes.
+    /// The first byte that isn't allowed or is past the limit; 0 where there are no bytes.
     BadId { at: usize },
     /// Memory ran out.
     NoMemory,
@@ -42,7 +41,7 @@ impl Word {
         }
     }
 
-    /// Where the bytes stop being such a word, and nothing where they are one.
+    /// Where the bytes stop being such a word; None where they are one.
     pub fn first_wrong(self, bytes: &[u8]) -> Option<usize>
         ensures none { IsNone result ↔ IsWord self bytes.now }
         ensures wrong { IfSome result (GoesWrong self bytes.now) }

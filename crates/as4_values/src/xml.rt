@@ -2,10 +2,13 @@
 
 ghost use Rattle.std.specs.Prelude.{◌≡◌, ℕ, ◌<◌, ◌≤◌, ◌↔◌, List, IsNone, IfSome, IsUtf8, false, true, length, take};
 ghost use Rattle.std.specs.Str.{IsValidUpTo};
-ghost use Rattle.as4_values.specs.Texts.{IsXml, IsNoXmlFrom, is_blank};
+ghost use Rattle.as4_values.specs.Texts.{IsXml, IsNoXmlFrom};
+ghost use Rattle.byte_forms.specs.Classes.{is_blank};
 ghost use Rattle.as4_values.specs.XmlBytes.{is_control, forbidden_at};
 
-/// The first byte that belongs to no character that a document may hold (XML 1.0, section 2.2).
+use byte_forms::is_blank;
+
+/// The first byte that isn't part of a character that a document may hold (XML 1.0, section 2.2).
 pub fn first_not_xml(bytes: &[u8]) -> Option<usize>
     ensures none { IsNone result ↔ IsXml bytes.now }
     ensures wrong { IfSome result (IsNoXmlFrom bytes.now) }
@@ -22,7 +25,7 @@ pub fn first_not_xml(bytes: &[u8]) -> Option<usize>
     }
 }
 
-/// How many bytes from the front on are UTF-8.
+/// The length of the longest prefix that is UTF-8.
 fn valid_len(bytes: &[u8]) -> usize
     ensures bound { result ≤ length bytes.now }
     ensures front { IsUtf8 (take result bytes.now) }
@@ -34,7 +37,7 @@ fn valid_len(bytes: &[u8]) -> usize
     }
 }
 
-/// Where in a text a character first stands that a document may not hold.
+/// Where in the text the first character is that a document may not hold.
 fn first_forbidden(text: &[u8]) -> Option<usize>
     ensures none { IsNone result → (k : ℕ) → k < length text.now → forbidden_at text.now k ≡ false }
     ensures some { IfSome result (λ at. (at < length text.now) × (forbidden_at text.now at ≡ true)
@@ -62,11 +65,4 @@ fn is_control(byte: u8) -> bool
     ensures { result ≡ is_control byte }
 {
     byte < b' ' && !is_blank(byte)
-}
-
-/// Whether a byte is a space, a tab or the end of a line (XML 1.0, section 2.3).
-pub fn is_blank(byte: u8) -> bool
-    ensures { result ≡ is_blank byte }
-{
-    matches!(byte, b' ' | b'\t' | b'\n' | b'\r')
 }

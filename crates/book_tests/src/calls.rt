@@ -1,4 +1,4 @@
-//! Calls of one thread.
+//! Calls from one thread.
 ghost use Rattle.std.specs.Prelude.{◌≡◌};
 
 use pass_book::{Keeper, MAX_ENTRIES, Pass};
@@ -15,7 +15,7 @@ fn enter_four(keeper: &mut Keeper<'_, u64>, pass: &mut Pass<'_, u64>)
     }
 }
 
-/// What it has seen, its share and its stake.
+/// The number of entries that the pass has seen, its share and its stake.
 fn numbers(pass: &Pass<'_, u64>) -> [u64; 3] {
     [pass.seen(), pass.share(), pass.stake()]
 }

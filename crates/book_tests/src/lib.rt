@@ -1,4 +1,4 @@
-//! Tests of `pass_book`, by what it makes public.
+//! Tests of the public interface of `pass_book`.
 #![tactic(auto)]
 
 #[cfg(test)]

@@ -1,4 +1,4 @@
-//! Calls of four threads, which share a keeper under a lock. Each has a pass of its own.
+//! Calls from four threads, which share a keeper under a lock. Each thread has its own pass.
 ghost use Rattle.std.specs.Prelude.{◌≡◌, ◌<◌, ◌-◌, ◌^◌};
 
 use pass_book::{Keeper, Pass};
@@ -8,7 +8,7 @@ use std::test::Fail;
 use std::thread;
 use std::thread::Threads;
 
-/// Names the opening, since nothing else of a value under a lock is known.
+/// Names the opening, since nothing else is known about a value under a lock.
 trait Named {
     ghost use Rattle.pass_book.specs.States.{Book};
 
@@ -48,7 +48,7 @@ fn call<J: Named>(rt: &impl Wait, desk: &Mutex<Entering<'_, J>>, caller: &mut Ca
     }
 }
 
-/// A caller who has a part of the stakes.
+/// A caller with a part of the stakes.
 fn hired<'a, J: Named>(pass: &mut Pass<'a, u64>) -> Calling<'a, J>
     requires stake { 1 < pass.old.stake }
     requires book { pass.old.book ≡ J.book }
@@ -60,8 +60,8 @@ fn hired<'a, J: Named>(pass: &mut Pass<'a, u64>) -> Calling<'a, J>
     }
 }
 
-/// Four callers, each in a thread of its own, make four calls each. It answers the share of the pass that
-/// they are joined to, and the number of entries.
+/// Four callers, each in its own thread, make four calls each. Returns the share of the pass into which theirs are
+/// joined, and the number of entries.
 fn call_in_threads<J: Named + Send + Sync, R: Threads + Wait + Sync>(
     rt: &R,
     keeper: Keeper<'_, u64>,

@@ -1,4 +1,4 @@
--- What passes two tests, one after the other.
+-- Items that pass two tests, one after the other.
 use Rattle.std.proofs.Common.{◌≡◌, List, [], ◌∷◌, Bool, true, false, cond, ◌&&◌, refl, ap}
 use Rattle.std.specs.List.{filter}
 

@@ -1,4 +1,4 @@
--- The head of a queue is the first of its heap, where that is due.
+-- The head of a queue is the first of its heap, if that is due.
 use Rattle.std.proofs.Common.{◌≡◌, ◌≢◌, ℕ, ◌+◌, ◌<◌, ◌≤◌, List, [], ◌∷◌, Bool, true, false, cond, ◌&&◌, Option, Some, None, leb, inl, inr, refl, sym, ap, ◌∙◌, arith}
 use Rattle.std.specs.List.{filter}
 use Rattle.std.specs.Option.{option_map}
@@ -21,13 +21,13 @@ pub record Passes (p : Waiting → Bool) (xs : List Waiting) (w : Waiting) : Typ
   pub waits : waiting_at w.number xs ≡ Some w
   pub test : p w ≡ true
 
--- what waits behind waits
+-- a later one that waits
 behind : (p : Waiting → Bool) (x : Waiting) (xs : List Waiting) (w : Waiting) → RisesFrom (x.number + 1) xs → Passes p xs w → Passes p (x ∷ xs) w
 behind p x xs w rises passes =
     let past = found_at (x.number + 1) w.number w xs rises passes.waits in
     record { waits = at_behind w.number x xs (λ e. omega (arith, past.from, e)) ∙ passes.waits; test = passes.test }
 
--- of one in front that passes and the first of those behind
+-- an earlier one that passes, and the first of the later ones
 of_rest : (p : Waiting → Bool) (x : Waiting) (xs : List Waiting) (w : Waiting) (o : Option Waiting) → RisesFrom (x.number + 1) xs → ((y : Waiting) → o ≡ Some y → Passes p xs y) → p x ≡ true → Some (lesser (λ v. v.due) x o) ≡ Some w → Passes p (x ∷ xs) w
 of_rest p x xs w None rises rest passes found =
     rw (← same_Some x w found) (record { waits = at_first x.number x xs refl; test = passes })
@@ -63,18 +63,18 @@ no_least p low xs rises none =
     by_answer None never = refl
     by_answer (Some w) never = absurd (never w refl)
 
--- it passes, and is up to each that does
+-- it passes, and is up to each that passes
 pub record IsFirst (p : Waiting → Bool) (xs : List Waiting) (w : Waiting) : Type 0 where
   pub passes : Passes p xs w
   pub due : (v : Waiting) → Passes p xs v → w.due ≤ v.due
   pub number : (v : Waiting) → Passes p xs v → w.due ≡ v.due → w.number ≤ v.number
 
--- one in front that is up to those behind is the lesser
+-- one that is up to the later ones is the lesser
 lesser_front : (x : Waiting) (o : Option Waiting) → ((y : Waiting) → o ≡ Some y → x.due ≤ y.due) → lesser (λ v. v.due) x o ≡ x
 lesser_front x None up_to = refl
 lesser_front x (Some y) up_to = rw (le-ltb y.due x.due (up_to y refl)) refl
 
--- one in front that fails, or that the first of those behind is due before, leaves that the first
+-- an earlier one that fails, or is due after the first of the later ones, doesn't change the first
 behind_first : (p : Waiting → Bool) (x : Waiting) (xs : List Waiting) (w : Waiting) (b : Bool) → p x ≡ b → (p x ≡ true → w.due < x.due) → first_least (λ v. v.due) (filter p xs) ≡ Some w → first_least (λ v. v.due) (cond b (x ∷ filter p xs) (filter p xs)) ≡ Some w
 unfolding first_least
 behind_first p x xs w true passes before is =

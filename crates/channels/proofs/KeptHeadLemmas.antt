@@ -11,19 +11,19 @@ use Rattle.channels.proofs.RisingLemmas.{without_rises, without_here, without_ot
 use Rattle.channels.proofs.ViewLemmas.{in_rises, stands, waits_in}
 use Rattle.due_heap.specs.Heaps.{Heaps, HasPair, HasPairBut, IsLeastOf}
 
--- what waits in the queue of a heap stands there
+-- a submission that waits in the queue of a heap is in the heap
 in_heap : (names : List (List ℕ)) (heaps : Heaps) (q : Queue) (heap : ℕ) (v : Waiting) → IsKept names heaps → queue_at names heap ≡ Some q → waiting_at v.number (waiting_in names heaps) ≡ Some v → v.queue ≡ q → HasPair heaps heap (v.due, v.number)
 in_heap names heaps q heap v kept is waits same =
     let s = stands names heaps v waits in
     s.place ∙ ap (λ h. Some (record { heap = h; due = v.due })) (one_heap names s.heap heap q kept.distinct (s.queue ∙ ap (λ (x : Queue). Some x) same) is)
 
--- nothing waits in a queue that has no heap
+-- nothing waits in a queue without a heap
 in_none : (names : List (List ℕ)) (heaps : Heaps) (q : Queue) (v : Waiting) → IsKept names heaps → ((heap : ℕ) → queue_at names heap ≡ Some q → heap < heaps.count → ⊥) → waiting_at v.number (waiting_in names heaps) ≡ Some v → v.queue ≡ q → ⊥
 in_none names heaps q v kept none waits same =
     let s = stands names heaps v waits in
     none s.heap (s.queue ∙ ap (λ (x : Queue). Some x) same) (kept.there v.number (record { heap = s.heap; due = v.due }) s.place)
 
--- what waits without a number has another one
+-- without a number, each waiting one has another number
 other_number : (number : ℕ) (xs : List Waiting) (v : Waiting) → waiting_at v.number (without number xs) ≡ Some v → v.number ≢ number
 other_number number xs v waits same =
     none-some v (sym (without_here number xs) ∙ sym (ap (λ n. waiting_at n (without number xs)) same) ∙ waits)

@@ -16,7 +16,7 @@ use Rattle.due_heap.proofs.PlaceLemmas.{get-push_last, get-push_other}
 abbrev pub names_of : List (Vec ℕ Global) → List (List ℕ)
 names_of keys = map (λ key. key.items) keys
 
--- no key has a name that no place has
+-- no key has a name that is at no place
 none_has : (name : List ℕ) (keys : List (Vec ℕ Global)) → ((at : ℕ) → slice_get (names_of keys) at ≢ Some name) → list_any (λ k. pointwise nat_eq name k.items) keys ≡ false
 none_has name [] none = refl
 none_has name (k ∷ keys) none =
@@ -25,7 +25,7 @@ none_has name (k ∷ keys) none =
       | false ↦ λ e. none_has name keys (λ at. none (suc at))
     ] refl
 
--- a new one is put behind the others
+-- a new one is added after the others
 pub names_added : (v : Vec ℕ Global) (name : List ℕ) (keys keys' : List (Vec ℕ Global)) → v.items ≡ name → ((at : ℕ) → slice_get (names_of keys) at ≢ Some name) → keys' ≡ cond (list_any (λ k. pointwise nat_eq v.items k.items) keys) keys (keys ++ v ∷ []) → names_of keys' ≡ names_of keys ++ name ∷ []
 names_added v name keys keys' spelled none added =
     let absent = rw (← spelled) at (none_has name keys none) in
@@ -51,7 +51,7 @@ distinct_added name names distinct none i j n at_i at_j =
 pub none_distinct : AreDistinct []
 none_distinct i j name at_i at_j = absurd (none-some name at_i)
 
--- what is found has the name
+-- the key that is found has the name
 pub name_found : (name : List ℕ) (keys : List (Vec ℕ Global)) (at : ℕ) → Some at ≡ position (λ k. pointwise nat_eq name k.items) keys → slice_get (names_of keys) at ≡ Some name
 name_found name [] at found = absurd (none-some at (sym found))
 name_found name (k ∷ keys) at found =
@@ -60,7 +60,7 @@ name_found name (k ∷ keys) at found =
     ∙ ap (option_map (λ (key : Vec ℕ Global). key.items)) (slice_get-get_or (k ∷ keys) at k is.0)
     ∙ ap (λ (n : List ℕ). Some n) (sym ((bytes_eq-Decides name (get_or (k ∷ keys) at k).items).0 is.1))
 
--- where none is found, none has the name
+-- where none is found, no key has the name
 pub name_missed : (name : List ℕ) (keys : List (Vec ℕ Global)) → list_any (λ k. pointwise nat_eq name k.items) keys ≡ false → (at : ℕ) → slice_get (names_of keys) at ≢ Some name
 name_missed name [] none at has = none-some name has
 name_missed name (k ∷ keys) none zero has =

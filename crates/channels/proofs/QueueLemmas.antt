@@ -8,7 +8,7 @@ use Rattle.channels.specs.Keeping.{queue_at, KeepsNames, AreDistinct}
 use Rattle.channels.proofs.NameLemmas.{distinct_added}
 use Rattle.due_heap.proofs.PlaceLemmas.{get-push_last, get-push_other}
 
--- the name of a queue that is a channel
+-- the name of a queue, where it is a channel
 record IsChannel (q : Queue) (found : Option (List ℕ)) : Type 0 where
   mpc : List ℕ
   is : q ≡ queue.Channel mpc
@@ -18,7 +18,7 @@ is_channel : (q : Queue) (name : Option (List ℕ)) → option_map queue.Channel
 is_channel q None found = absurd (none-some q found)
 is_channel q (Some mpc) found = record { mpc = mpc; is = sym (same_Some (queue.Channel mpc) q found); name = refl }
 
--- a heap with a queue is that of those that are pushed, or has a name
+-- a heap with a queue is that of the push queue, or has a name
 pub queue_within : (names : List (List ℕ)) (heap : ℕ) (q : Queue) → queue_at names heap ≡ Some q → heap ≤ length names
 queue_within names zero q found = omega arith
 queue_within names (suc at) q found =
@@ -51,14 +51,14 @@ one_heap names (suc i) (suc j) q distinct found also =
     let same : one.mpc ≡ two.mpc = cc in
     ap suc (distinct i j two.mpc (one.name ∙ ap (λ (n : List ℕ). Some n) same) two.name)
 
--- a channel that has no heap has no name
+-- a channel without a heap has no name
 pub no_name : (names : List (List ℕ)) (count : ℕ) (mpc : List ℕ) → length names ≤ count - 1 → ((heap : ℕ) → queue_at names heap ≡ Some (queue.Channel mpc) → count ≤ heap) → (at : ℕ) → slice_get names at ≢ Some mpc
 no_name names count mpc enough none at has =
     let within = slice_get_within names at mpc has in
     let past = none (suc at) (ap (option_map queue.Channel) has) in
     omega arith
 
--- a new name leaves the others where they are, and has the heap behind theirs
+-- a new name leaves the others at their places, and has the heap after theirs
 pub name_keeps : (names names' : List (List ℕ)) (mpc : List ℕ) → ((at : ℕ) → slice_get names at ≢ Some mpc) → names' ≡ names ++ mpc ∷ [] → KeepsNames names names'
 name_keeps names names' mpc none is =
     let longer : length names' ≡ length names + 1 = ap length is ∙ length_push names mpc in
@@ -78,7 +78,7 @@ new_name names names' mpc is =
     ∙ ap (λ ns. queue_at ns (suc (length names))) is
     ∙ ap (option_map queue.Channel) (get-push_last names mpc)
 
--- the heap behind the place of a channel's name is that of the channel
+-- the heap after the place of a channel's name is that of the channel
 pub named_heap : (names : List (List ℕ)) (heap at : ℕ) (name mpc : List ℕ) (q : Queue) → heap ≡ at + 1 → slice_get names at ≡ Some name → name ≡ mpc → q ≡ queue.Channel mpc → queue_at names heap ≡ Some q
 named_heap names heap at name mpc q behind found same is =
     ap (queue_at names) (behind ∙ add-one at)

@@ -1,4 +1,4 @@
--- Submissions in rising order of number: two lists that have the same under each number are one.
+-- Submissions in rising order of number: two lists that have the same one for each number are equal.
 use Rattle.std.proofs.Common.{◌≡◌, ◌≢◌, ℕ, ◌+◌, ◌<◌, ◌≤◌, List, [], ◌∷◌, Some, None, inl, inr, refl, sym, ap, ◌∙◌, arith}
 use Rattle.std.proofs.lemmas.Bool.{cases_order, cases_lt, cases_eq, lt-ltb, le-ltb, eq-eqb, ne_eqb}
 use Rattle.std.proofs.lemmas.Option.{same_Some, none-some}
@@ -11,14 +11,14 @@ unfolding RisesFrom
 rises_lower low high [] le rises = tt
 rises_lower low high (x ∷ xs) le rises = (omega (arith, rises.0), rises.1)
 
--- the first one, and those behind it
+-- the first one and the later ones
 pub at_first : (m : ℕ) (x : Waiting) (xs : List Waiting) → x.number ≡ m → waiting_at m (x ∷ xs) ≡ Some x
 at_first m x xs same = rw (eq-eqb x.number m same) refl
 
 pub at_behind : (m : ℕ) (x : Waiting) (xs : List Waiting) → x.number ≢ m → waiting_at m (x ∷ xs) ≡ waiting_at m xs
 at_behind m x xs other = rw (ne_eqb x.number m other) refl
 
--- what is found has its number, and that is not below the least
+-- the one that is found has its number, which is not below the least
 pub record IsFound (low m : ℕ) (v : Waiting) : Type 0 where
   pub number : v.number ≡ m
   pub from : low ≤ m
@@ -36,7 +36,7 @@ found_at low m v (x ∷ xs) rises found =
           record { number = next.number; from = omega (arith, next.from, rises.0) }
     ]
 
--- nothing stands below the least
+-- nothing is below the least
 pub none_below : (low m : ℕ) (xs : List Waiting) → RisesFrom low xs → m < low → waiting_at m xs ≡ None
 unfolding RisesFrom
 none_below low m [] rises less = refl
@@ -79,7 +79,7 @@ inserted_rises low w (x ∷ xs) above rises absent =
       ]
     ]
 
--- it is there then
+-- then it is there
 inserted_here : (w : Waiting) (xs : List Waiting) → waiting_at w.number xs ≡ None → waiting_at w.number (inserted w xs) ≡ Some w
 unfolding inserted
 inserted_here w [] absent = at_first w.number w [] refl
@@ -95,7 +95,7 @@ inserted_here w (x ∷ xs) absent =
       ]
     ]
 
--- and the others are there as before
+-- and the others are unchanged
 inserted_others : (w : Waiting) (m : ℕ) (xs : List Waiting) → w.number ≢ m → waiting_at m (inserted w xs) ≡ waiting_at m xs
 unfolding inserted
 inserted_others w m [] other = at_behind m w [] other
@@ -110,7 +110,7 @@ inserted_others w m (x ∷ xs) other =
           ])
     ]
 
--- what rises, has it, and has the others as before, is the list with it put in
+-- a rising list that has it, with the others unchanged, is the list with it inserted
 pub is_inserted : (w : Waiting) (xs ys : List Waiting) → RisesFrom 0 xs → RisesFrom 0 ys → waiting_at w.number xs ≡ None → waiting_at w.number ys ≡ Some w → ((m : ℕ) → m ≢ w.number → waiting_at m ys ≡ waiting_at m xs) → ys ≡ inserted w xs
 is_inserted w xs ys up up' absent here others =
     same_rising 0 0 ys (inserted w xs) up' (inserted_rises 0 w xs (omega arith) up absent) (λ m.
@@ -119,7 +119,7 @@ is_inserted w xs ys up up' absent here others =
       | inr other ↦ others m other ∙ sym (inserted_others w m xs (λ e. other (sym e)))
     ])
 
--- they rise without one
+-- they rise without one too
 pub without_rises : (low number : ℕ) (xs : List Waiting) → RisesFrom low xs → RisesFrom low (without number xs)
 unfolding RisesFrom without
 without_rises low number [] rises = tt
@@ -129,7 +129,7 @@ without_rises low number (x ∷ xs) rises =
       | inr other ↦ rw (ne_eqb x.number number other) (rises.0, without_rises (x.number + 1) number xs rises.1)
     ]
 
--- it is not there then
+-- then it is not there
 pub without_here : (number : ℕ) (xs : List Waiting) → waiting_at number (without number xs) ≡ None
 unfolding without
 without_here number [] = refl
@@ -153,7 +153,7 @@ without_others number m (x ∷ xs) other =
           ])
     ]
 
--- what rises, lacks it, and has the others as before, is the list without it
+-- a rising list that lacks it, with the others unchanged, is the list without it
 pub is_without : (number : ℕ) (xs ys : List Waiting) → RisesFrom 0 xs → RisesFrom 0 ys → waiting_at number ys ≡ None → ((m : ℕ) → m ≢ number → waiting_at m ys ≡ waiting_at m xs) → ys ≡ without number xs
 is_without number xs ys up up' gone others =
     same_rising 0 0 ys (without number xs) up' (without_rises 0 number xs up) (λ m.

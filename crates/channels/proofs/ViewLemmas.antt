@@ -1,4 +1,4 @@
--- What waits, by the places of the numbers.
+-- The waiting submissions, by the places of the numbers.
 use Rattle.std.proofs.Common.{◌≡◌, ◌≢◌, ℕ, zero, suc, ◌+◌, ◌<◌, ◌≤◌, List, [], ◌∷◌, ◌++◌, Option, Some, None, length, slice_get, option_map, IsSome, inl, inr, refl, sym, ap, ◌∙◌, arith}
 use Rattle.std.specs.Option.{option_and_then, option_to_list}
 use Rattle.std.proofs.lemmas.Bool.{cases_eq}
@@ -13,7 +13,7 @@ use Rattle.channels.proofs.NameLemmas.{none_distinct}
 use Rattle.channels.proofs.QueueLemmas.{queue_known}
 use Rattle.due_heap.specs.Heaps.{Place, Heaps, standing_at, Sets, StandAs}
 
--- what waits has its number
+-- a waiting submission has its number
 made : (names : List (List ℕ)) (n : ℕ) (place : Option Place) (w : Waiting) → waiting_of names n place ≡ Some w → w.number ≡ n
 made names n None w is = absurd (none-some w is)
 made names n (Some place) w is = made_at n place (queue_at names place.heap) w is
@@ -22,7 +22,7 @@ made names n (Some place) w is = made_at n place (queue_at names place.heap) w i
     made_at n place None w is = absurd (none-some w is)
     made_at n place (Some q) w is = ap (λ (v : Waiting). v.number) (sym (same_Some (record { queue = q; due = place.due; number = n }) w is))
 
--- one more in front
+-- one more at the beginning
 front_rises : (n : ℕ) (o : Option Waiting) (xs : List Waiting) → ((w : Waiting) → o ≡ Some w → w.number ≡ n) → RisesFrom (n + 1) xs → RisesFrom n (option_to_list o ++ xs)
 unfolding RisesFrom
 front_rises n None xs number rises = rises_lower n (n + 1) xs (omega arith) rises
@@ -57,41 +57,41 @@ from_at names n (place ∷ places) (suc k) m is =
     front_behind n m (waiting_of names n place) (waiting_from names (n + 1) places) (made names n place) (λ e. omega (arith, is, e))
     ∙ from_at names (n + 1) places k m (omega (arith, is))
 
--- under each number waits what stands there
+-- for each number, the one that waits is the one in the heap
 pub in_at : (names : List (List ℕ)) (heaps : Heaps) (m : ℕ) → waiting_at m (waiting_in names heaps) ≡ waiting_of names m (standing_at m heaps)
 unfolding waiting_in standing_at
 in_at names heaps m = from_at names 0 heaps.places m m (omega arith)
 
--- nothing waits where nothing stands
+-- nothing waits where the heaps are empty
 pub none_waits : (names : List (List ℕ)) (heaps : Heaps) → heaps.places ≡ [] → waiting_in names heaps ≡ []
 unfolding waiting_in
 none_waits names heaps none = ap (waiting_from names 0) none
 
--- the queue of a place stays where the names do
+-- the queue of a place doesn't change if the names don't
 same_of : (names names' : List (List ℕ)) (n : ℕ) (place : Option Place) → KeepsNames names names' → ((p : Place) → place ≡ Some p → p.heap ≤ length names) → waiting_of names' n place ≡ waiting_of names n place
 same_of names names' n None keeps known = refl
 same_of names names' n (Some place) keeps known =
     ap (option_map (λ q. record { queue = q; due = place.due; number = n })) (keeps.same place.heap (known place refl))
 
--- what waits stays where the names and the numbers do
+-- the waiting submissions don't change if the names and the numbers don't
 pub same_waits : (names names' : List (List ℕ)) (heaps heaps' : Heaps) → IsKept names heaps → KeepsNames names names' → StandAs heaps heaps' → waiting_in names' heaps' ≡ waiting_in names heaps
 same_waits names names' heaps heaps' kept keeps same =
     same_rising 0 0 (waiting_in names' heaps') (waiting_in names heaps) (in_rises names' heaps') (in_rises names heaps) (λ m.
     in_at names' heaps' m ∙ ap (waiting_of names' m) (same m) ∙ same_of names names' m (standing_at m heaps) keeps (kept.known m) ∙ sym (in_at names heaps m))
 
--- the others wait as before
+-- the others wait unchanged
 others_wait : (names : List (List ℕ)) (number : ℕ) (place : Option Place) (old new : Heaps) → Sets number place old new → (m : ℕ) → m ≢ number → waiting_at m (waiting_in names new) ≡ waiting_at m (waiting_in names old)
 others_wait names number place old new sets m other =
     in_at names new m ∙ ap (waiting_of names m) (sets.others m other) ∙ sym (in_at names old m)
 
--- a number came to stand in the heap of a queue
+-- a number was added to the heap of a queue
 pub put_in : (names : List (List ℕ)) (q : Queue) (heap due number : ℕ) (old new : Heaps) → queue_at names heap ≡ Some q → waiting_at number (waiting_in names old) ≡ None → Sets number (Some (record { heap = heap; due = due })) old new → waiting_in names new ≡ inserted (record { queue = q; due = due; number = number }) (waiting_in names old)
 put_in names q heap due number old new is absent sets =
     is_inserted (record { queue = q; due = due; number = number }) (waiting_in names old) (waiting_in names new) (in_rises names old) (in_rises names new) absent
     (in_at names new number ∙ ap (waiting_of names number) sets.here ∙ ap (option_map (λ q. record { queue = q; due = due; number = number })) is)
     (others_wait names number (Some (record { heap = heap; due = due })) old new sets)
 
--- a number left
+-- a number was removed
 pub taken_out : (names : List (List ℕ)) (number : ℕ) (old new : Heaps) → Sets number None old new → waiting_in names new ≡ without number (waiting_in names old)
 taken_out names number old new sets =
     is_without number (waiting_in names old) (waiting_in names new) (in_rises names old) (in_rises names new)
@@ -120,7 +120,7 @@ put_kept names heap due number old new kept within there sets used =
     put_at heap due number n old new place sets same found =
         same_Some (record { heap = heap; due = due }) place (sym sets.here ∙ ap (λ m. standing_at m new) (sym same) ∙ found)
 
--- what there is at first
+-- the initial state
 pub new_kept : IsKept [] (record { count = 0; places = []; room = None })
 unfolding standing_at
 new_kept =
@@ -132,7 +132,7 @@ new_kept =
       room = tt;
     }
 
--- what waits stands in a heap of its queue
+-- a waiting submission is in a heap of its queue
 pub record Stands (names : List (List ℕ)) (heaps : Heaps) (w : Waiting) : Type 0 where
   pub heap : ℕ
   pub place : standing_at w.number heaps ≡ Some (record { heap = heap; due = w.due })
@@ -156,12 +156,12 @@ pub stands : (names : List (List ℕ)) (heaps : Heaps) (w : Waiting) → waiting
 stands names heaps w waits =
     stands_of names heaps w (standing_at w.number heaps) refl (sym (in_at names heaps w.number) ∙ waits)
 
--- what stands in a heap of a queue waits
+-- a number in a heap of a queue waits
 pub waits_in : (names : List (List ℕ)) (heaps : Heaps) (q : Queue) (heap due number : ℕ) → queue_at names heap ≡ Some q → standing_at number heaps ≡ Some (record { heap = heap; due = due }) → waiting_at number (waiting_in names heaps) ≡ Some (record { queue = q; due = due; number = number })
 waits_in names heaps q heap due number is stands =
     in_at names heaps number ∙ ap (waiting_of names number) stands ∙ ap (option_map (λ q. record { queue = q; due = due; number = number })) is
 
--- where nothing waits, nothing stands
+-- where nothing waits, the heaps are empty
 pub none_stands : (names : List (List ℕ)) (heaps : Heaps) (number : ℕ) → IsKept names heaps → waiting_at number (waiting_in names heaps) ≡ None → standing_at number heaps ≡ None
 none_stands names heaps number kept none =
     by_place (standing_at number heaps) refl
@@ -172,7 +172,7 @@ none_stands names heaps number kept none =
         let q = queue_known names place.heap (kept.known number place at) in
         absurd (none-some _ (sym none ∙ waits_in names heaps q.0 place.heap place.due number q.1 at))
 
--- whether what waits stands
+-- whether a waiting submission is in a heap
 pub some_stands : (names : List (List ℕ)) (heaps : Heaps) (number : ℕ) (w : Waiting) → waiting_at number (waiting_in names heaps) ≡ Some w → IsSome (standing_at number heaps)
 some_stands names heaps number w waits =
     is_some_of (standing_at number heaps) (sym (in_at names heaps number) ∙ waits)

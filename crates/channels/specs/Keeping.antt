@@ -1,4 +1,4 @@
--- How what waits is kept: the names of the channels, and for each queue a heap.
+-- The representation of the queues: the names of the channels, and a heap for each queue.
 use Rattle.std.specs.Prelude.{ℕ, zero, suc, ◌≡◌, ◌+◌, ◌-◌, ◌<◌, ◌≤◌, List, [], ◌∷◌, ◌++◌, Option, Some, None, length, option_map, option_to_list, slice_get, IfSome, nat_le, if◌then◌else◌}
 use Rattle.as4_effects.specs.declared.queue.Queue.{Queue}
 use Rattle.as4_effects.specs.declared.queue.Queue.TheVariants as queue
@@ -8,50 +8,50 @@ use Rattle.due_heap.specs.Heaps.{Heaps, standing_at, StandAs}
 use Rattle.due_heap.specs.Heaps as due_heap
 use Rattle.due_heap.specs.declared.pair.Room.{Room}
 
--- the queue of a heap: first what is pushed, and then the channels in the order of their names
+-- the queue of a heap: first the push queue, then the channels in the order of their names
 abbrev pub queue_at : List (List ℕ) → ℕ → Option Queue
 queue_at names zero = Some queue.Push
 queue_at names (suc at) = option_map queue.Channel (slice_get names at)
 
--- what waits under this number
+-- the waiting submission of this number
 abbrev pub waiting_of : List (List ℕ) → ℕ → Option due_heap.Place → Option Waiting
 waiting_of names number None = None
 waiting_of names number (Some place) =
     option_map (λ q. record { queue = q; due = place.due; number = number }) (queue_at names place.heap)
 
--- what waits, from this number on
+-- the waiting submissions, from this number on
 abbrev pub waiting_from : List (List ℕ) → ℕ → List (Option due_heap.Place) → List Waiting
 waiting_from names number [] = []
 waiting_from names number (place ∷ places) =
     option_to_list (waiting_of names number place) ++ waiting_from names (number + 1) places
 
--- what waits, by number
+-- the waiting submissions, by number
 unfoldable pub waiting_in : List (List ℕ) → Heaps → List Waiting
 waiting_in names heaps = waiting_from names 0 heaps.places
 
--- for which number in which queue there is room
+-- the number and the queue that room is reserved for
 abbrev pub room_in : List (List ℕ) → Option Room → Option Place
 room_in names None = None
 room_in names (Some room) =
     option_map (λ q. record { queue = q; number = room.number }) (queue_at names room.heap)
 
--- no name stands at two places
+-- no name is at two places
 abbrev pub AreDistinct : List (List ℕ) → Type 0
 AreDistinct names = (i j : ℕ) (name : List ℕ) → slice_get names i ≡ Some name → slice_get names j ≡ Some name → i ≡ j
 
--- the names stay at their places, and others may have come
+-- the names keep their places, and others may have been added
 pub record KeepsNames (old new : List (List ℕ)) : Type 0 where
   pub as_many : length old ≤ length new
   pub same : (heap : ℕ) → heap ≤ length old → queue_at new heap ≡ queue_at old heap
   pub distinct : AreDistinct old → AreDistinct new
 
--- the numbers stand as they did, and heaps may have come
+-- the numbers are unchanged, and heaps may have been added
 pub record KeepsHeaps (old new : Heaps) : Type 0 where
   pub as_many : old.count ≤ new.count
   pub same : StandAs old new
   pub room : new.room ≡ old.room
 
--- each channel has one name and a heap; what stands in a heap, or has room there, is of a queue
+-- each channel has one name and a heap; each number in a heap, and each reservation, is of a queue
 pub record IsKept (names : List (List ℕ)) (heaps : Heaps) : Type 0 where
   pub distinct : AreDistinct names
   pub enough : length names ≤ heaps.count - 1

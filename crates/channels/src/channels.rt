@@ -1,4 +1,4 @@
-//! What waits, in a heap for each queue: the number that is due first stands in front.
+//! The waiting submissions, in a heap for each queue: the number that is due first is at the head.
 
 ghost use Rattle.std.specs.Prelude.{◌≡◌, ◌<◌, [], Some, None, OnOk};
 ghost use Rattle.channels.specs.Queues.{inserted, without, waiting_at, head_in};
@@ -12,10 +12,10 @@ use due_heap::Heaps;
 use std::alloc::Global;
 use std::marker::Model;
 
-/// The submissions that wait to be sent, of all queues.
+/// The submissions that wait to be sent, in all queues.
 #[derive(Drop)]
 pub struct Channels {
-    /// Of the channels that something came to wait in.
+    /// The names of the channels that submissions have waited in.
     names: Names,
     /// One for each queue.
     heaps: Heaps,
@@ -42,7 +42,7 @@ impl Channels {
         }
     }
 
-    /// Makes room for one submission of this number in this queue. Room for another ends.
+    /// Reserves room for one submission of this number in this queue. An earlier reservation ends.
     pub fn reserve(&mut self, queue: &Queue, number: u64) -> Result<(), NoMemory>
         requires { number < 1048576 }
         ensures ok { OnOk result (self.new.room ≡ Some (record { queue = queue.now; number = number })) }
@@ -53,7 +53,7 @@ impl Channels {
         Ok(())
     }
 
-    /// Adds a submission where there is room for it; takes no memory.
+    /// Adds a submission where room for it is reserved; takes no memory.
     pub fn insert(&mut self, queue: &Queue, due: u64, number: u64)
         requires room { self.old.room ≡ Some (record { queue = queue.now; number = number }) }
         requires new { waiting_at number self.old.waiting ≡ None }
@@ -65,7 +65,7 @@ impl Channels {
         self.heaps.insert(heap, due, number);
     }
 
-    /// Takes a submission out. The room for it stays.
+    /// Removes a submission. The reservation remains.
     pub fn remove(&mut self, queue: &Queue, due: u64, number: u64)
         requires there { waiting_at number self.old.waiting ≡ Some (record { queue = queue.now; due = due; number = number }) }
         ensures waiting { self.new.waiting ≡ without number self.old.waiting }
@@ -82,7 +82,7 @@ impl Channels {
         if_due(self.heaps.least(heap), moment)
     }
 
-    /// The same where the submission of this number waits no more.
+    /// The same without the submission of this number.
     pub fn head_without(&self, queue: &Queue, moment: u64, number: u64) -> Option<u64>
         ensures { result ≡ head_in queue.now moment (without number self.now.waiting) }
     {

@@ -7,7 +7,7 @@ use indexmap::IndexSet;
 use std::alloc::Global;
 use std::marker::Model;
 
-/// Names, none of them twice, in the order in which they came.
+/// Distinct names, in the order in which they were added.
 #[derive(Drop)]
 pub struct Names {
     alloc: Global,
@@ -48,7 +48,7 @@ impl Names {
         Some(at as u64)
     }
 
-    /// Adds a name that isn't there, behind the others.
+    /// Adds a new name after the others.
     pub fn add(&mut self, name: &[u8]) -> Result<(), NoMemory>
         requires new { (at : ℕ) → slice_get self.old at ≢ Some name.now }
         ensures ok { OnOk result (self.new ≡ self.old ++ name.now ∷ []) }

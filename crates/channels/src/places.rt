@@ -1,4 +1,4 @@
-//! The heap of each queue: first what is pushed, and then the channels in the order of their names.
+//! The heap of each queue: first the push queue, then the channels in the order of their names.
 
 ghost use Rattle.std.specs.Prelude.{◌≡◌, ℕ, ◌-◌, ◌<◌, ◌≤◌, Some, length, IfOk, IfSome, OnOk};
 ghost use Rattle.channels.specs.Keeping.{queue_at, AreDistinct, KeepsNames, KeepsHeaps};
@@ -23,7 +23,7 @@ pub fn heap_of(names: &Names, heaps: &Heaps, queue: &Queue) -> Option<u64>
     if heap < count { Some(heap) } else { None }
 }
 
-/// The heap of this queue, made where there is none.
+/// The heap of this queue; made if there is none.
 pub fn heap_for(names: &mut Names, heaps: &mut Heaps, queue: &Queue) -> Result<u64, NoMemory>
     requires distinct { AreDistinct names.old }
     requires enough { length names.old ≤ heaps.old.count - 1 }
@@ -61,7 +61,7 @@ fn new_heap(names: &mut Names, heaps: &mut Heaps, queue: &Queue) -> Result<u64, 
     }
 }
 
-/// Makes heaps until there are so many.
+/// Makes heaps until there are this many.
 fn make_heaps(heaps: &mut Heaps, count: u64) -> Result<(), NoMemory>
     ensures ok { OnOk result (count ≤ heaps.new.count) }
     ensures kept { KeepsHeaps heaps.old heaps.new }

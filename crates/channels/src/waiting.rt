@@ -1,3 +1,5 @@
+//! Waiting submissions and reservations, as contracts see them.
+
 use as4_effects::Queue;
 
 /// A submission that waits to be sent, as contracts see it.
@@ -6,11 +8,11 @@ pub struct Waiting {
     pub queue: Queue,
     /// When it may be sent, in milliseconds since 1970-01-01T00:00:00Z.
     pub due: u64,
-    /// The submission's.
+    /// The submission's number.
     pub number: u64,
 }
 
-/// Where a submission may come to wait, as contracts see it.
+/// A reservation: the queue in which a submission of this number may wait, as contracts see it.
 #[derive(Drop)]
 pub struct Place {
     pub queue: Queue,

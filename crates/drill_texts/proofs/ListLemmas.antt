@@ -1,4 +1,4 @@
--- Modes of different names stand in one list.
+-- Modes with different names form a valid list.
 use Rattle.std.proofs.Common.{◌≡◌, ◌≢◌, ℕ, zero, suc, ◌<◌, ◌≤◌, List, [], ◌∷◌, ◌++◌, Bool, false, None, length, length-append, append_assoc, get_or, map, refl, sym, ◌∙◌, ap, arith, lit≤}
 use Rattle.std.specs.List.{All, AllPairs, find}
 use Rattle.std.specs.Str.{bytes_eq}
@@ -6,10 +6,10 @@ use Rattle.std.proofs.Math.Seq.{get_or-append_seam}
 use Rattle.std.proofs.lemmas.Bool.{false_from_ne_true}
 use Rattle.std.proofs.lemmas.List.{get_or_append_left}
 use Rattle.std.proofs.lemmas.Slice.Eq.{bytes_eq-Decides}
-use Rattle.as4_values.specs.ModeFields.{mode_fields}
-use Rattle.as4_values.specs.ModeMatch.{Terms, mode_terms, are_same_terms}
-use Rattle.as4_values.specs.declared.mode.Mode.{Mode}
-use Rattle.as4_values.proofs.MatchLemmas.{decides_terms}
+use Rattle.mode_values.specs.ModeFields.{mode_fields}
+use Rattle.mode_values.specs.ModeMatch.{Terms, mode_terms, are_same_terms}
+use Rattle.mode_values.specs.declared.mode.Mode.{Mode}
+use Rattle.mode_values.proofs.MatchLemmas.{decides_terms}
 use Rattle.pmodes.specs.ModeList.{first_repeat, list_refusal}
 use Rattle.pmodes.proofs.ListLemmas.{not_refused}
 use Rattle.drill_texts.specs.Modes.{AreDrillModes, IsSomeDrillMode}
@@ -18,7 +18,7 @@ none_found : {X : Type 0} (p : X → Bool) (xs : List X) → All (λ x. p x ≡ 
 none_found p [] each = refl
 none_found p (x ∷ xs) each = rw (each 0 x (omega arith)) (none_found p xs (λ k d within. each (suc k) d (omega arith)))
 
--- none of `later` repeats one before it
+-- none of `later` repeats an earlier one
 no_repeat_from : {X : Type 0} (repeats : X → X → Bool) (earlier later : List X)
     → ((i j : ℕ) (d : X) → i < j → length earlier ≤ j → j < length (earlier ++ later) → repeats (get_or (earlier ++ later) i d) (get_or (earlier ++ later) j d) ≡ false)
     → first_repeat repeats earlier later ≡ None
@@ -47,7 +47,7 @@ apart_by_name a b is_one is_other differ =
     let terms : mode_terms a ≡ mode_terms b = (decides_terms _ _).0 same in
     differ (acts_by_name a is_one ∙ ap (λ (t : Terms). t.action) terms ∙ sym (acts_by_name b is_other)))
 
--- the modes of a script are refused by no list
+-- the modes of a script are a valid list
 pub drill_modes_stand : (modes : List Mode) → AreDrillModes modes → list_refusal (map mode_fields modes) ≡ None
 drill_modes_stand modes are =
     not_refused modes are.counted
@@ -67,6 +67,6 @@ two_named a b differ zero (suc zero) d before short = differ
 two_named a b differ (suc i) (suc zero) d before short = absurd (omega arith)
 two_named a b differ i (suc (suc j)) d before short = absurd (omega arith)
 
--- two drill modes of different names are the modes of a script
+-- two drill modes with different names are the modes of a script
 pub two_are_modes : (a b : Mode) → IsSomeDrillMode a → IsSomeDrillMode b → a.name ≢ b.name → AreDrillModes (a ∷ b ∷ [])
 two_are_modes a b one other differ = record { counted = lit≤ tt; made = two_made a b one other; named = two_named a b differ }

@@ -7,7 +7,7 @@ use Rattle.std.proofs.lemmas.Bool.Decides.{nat_tests}
 use Rattle.std.proofs.lemmas.List.Folds.{list_all-append}
 use Rattle.std.proofs.lemmas.List.Sums.{AllPass-from_list_all}
 use Rattle.as4_values.specs.Address.{is_address, has_address_form, is_behind_scheme, is_behind_host}
-use Rattle.as4_values.specs.ModeRanges.{is_name_byte, is_mode_name, is_short, is_short_party, is_short_side, is_short_service, is_mode_agreement, is_mode_route, may_collect}
+use Rattle.mode_values.specs.ModeRanges.{is_name_byte, is_mode_name, is_short, is_short_party, is_short_side, is_short_service, is_mode_agreement, is_mode_route, may_collect}
 use Rattle.as4_values.specs.PlainTexts.{IsPlainText, is_plain, allows_at}
 use Rattle.as4_values.specs.declared.header.Side.{Side}
 use Rattle.as4_values.specs.declared.route.Route.{Route}
@@ -17,7 +17,7 @@ use Rattle.drill_script.specs.declared.line.Way.{Way}
 use Rattle.drill_script.specs.declared.line.Way.TheVariants.{Push, Pull}
 use Rattle.drill_texts.specs.Modes.{IsDrillSide, drill_address, route_of}
 
--- a plain byte that is no space
+-- a plain byte other than a space
 abbrev pub is_word_byte : ℕ → Bool
 is_word_byte b = is_plain b && not (b == 32)
 

@@ -1,11 +1,11 @@
--- What a message of a script carries.
+-- The load of a message of a script.
 use Rattle.std.specs.Prelude.{ℕ, ◌%◌, List, [], ◌∷◌, map, codes}
 use Rattle.std.specs.List.{range_with_len}
 use Rattle.as4_values.specs.declared.payload.Load.{Load}
 use Rattle.drill_script.specs.declared.line.ScriptLoad.{ScriptLoad}
 use Rattle.drill_script.specs.declared.line.ScriptLoad.TheVariants.{Nothing, Hex, Size}
 
--- so many bytes; the one at place i is i mod 251
+-- this many bytes; the byte at index i is i mod 251
 unfoldable pub pattern : ℕ → List ℕ
 pattern size = map (λ i. i % 251) (range_with_len 0 size)
 

@@ -1,8 +1,8 @@
--- The processing modes of a drill: both ends have them.
+-- The processing modes of a drill, which both endpoints have.
 use Rattle.std.specs.Prelude.{◌≡◌, ◌≢◌, ℕ, ◌≤◌, List, [], ◌∷◌, ◌++◌, false, None, length, codes}
 use Rattle.std.specs.List.{All, AllPairs}
 use Rattle.as4_values.specs.declared.header.Side.{Side}
-use Rattle.as4_values.specs.declared.mode.Mode.{Mode}
+use Rattle.mode_values.specs.declared.mode.Mode.{Mode}
 use Rattle.as4_values.specs.declared.route.Route.{Route}
 use Rattle.as4_values.specs.declared.route.Route.TheVariants as route
 use Rattle.drill_script.specs.declared.line.Way.{Way}
@@ -33,12 +33,12 @@ pub record IsDrillMode (name : List ℕ) (way : Way) (times wait : ℕ) (mode : 
   pub period : mode.period ≡ wait
   pub collect : mode.collect ≡ false
 
--- by some line of a script
+-- made from some line of a script
 abbrev pub IsSomeDrillMode : Mode → Type 0
 IsSomeDrillMode mode =
     (name : List ℕ) × (way : Way) × (times : ℕ) × (wait : ℕ) × IsDrillMode name way times wait mode
 
--- the modes of a script: each name once
+-- the modes of a script, with distinct names
 pub record AreDrillModes (modes : List Mode) : Type 0 where
   pub counted : length modes ≤ 1024
   pub made : All IsSomeDrillMode modes

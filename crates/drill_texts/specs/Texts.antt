@@ -1,5 +1,5 @@
--- What a drill writes, in this program's own format: a line for each line of the script but those of modes, and two at
--- the end.
+-- What a drill writes, in this program's own format: one line for each line of the script other than `mode`, and two
+-- lines at the end.
 use Rattle.std.specs.Prelude.{ℕ, List, [], ◌∷◌, ◌++◌, Bool, if◌then◌else◌, Option, Some, None, length, codes}
 use Rattle.std.specs.Fmt.{decimal}
 use Rattle.std.specs.List.{count_by, sum_by}
@@ -19,7 +19,7 @@ use Rattle.exchange_model.specs.declared.reply.Reply.TheVariants as reply
 use Rattle.as4_effects.specs.declared.mark.Mark.{Mark}
 use Rattle.exchange_model.specs.declared.sent.Sent.{Sent}
 
--- a line that says something of an end
+-- a line about an endpoint
 abbrev pub said_line : EndName → List ℕ → List ℕ
 said_line end text = end_text end ++ codes " " ++ text ++ 10 ∷ []
 
@@ -41,17 +41,17 @@ abbrev pub channel_text : SignalBody → List ℕ
 channel_text (body.Pull mpc) = mpc
 channel_text other = []
 
--- a receipt and a pull request, by what the one is for and by the channel of the other
+-- a receipt and a pull request, by the reference of the receipt and the channel of the pull request
 abbrev pub pair_summary : Option (List ℕ) → SignalBody → List ℕ
 pair_summary ref_to pull = codes "pair " ++ reference_text ref_to ++ codes " " ++ channel_text pull
 
--- a message in short
+-- the summary of a message
 abbrev pub summary : Message → List ℕ
 summary (message.User header payloads) = codes "user " ++ header.id
 summary (message.Signal signal) = signal_summary signal.ref_to signal.body
 summary (message.Pair pair) = pair_summary pair.receipt.ref_to pair.pull.body
 
--- a message that an end sent as its package of this number, or that was lost
+-- a message that an endpoint sent as its package of this number, or that was lost
 abbrev pub message_text : Bool → ℕ → Message → List ℕ
 message_text lost place m =
     (if lost then codes "lost " else codes "sent " ++ decimal place ++ codes " ") ++ summary m
@@ -64,7 +64,7 @@ entry_text n header payloads =
 abbrev pub status_text : ℕ → List ℕ → List ℕ
 status_text n text = codes "status " ++ decimal n ++ codes " " ++ text
 
--- what is written of the reply to a line that names the number `n`, at an end that has sent so many packages
+-- the text of the reply to a line that names the number `n`, at an endpoint that has sent `packages` packages
 unfoldable pub reply_text : ℕ → Bool → ℕ → Reply → List ℕ
 reply_text n lost packages (reply.Submitted number id) = codes "submitted " ++ decimal number ++ codes " " ++ id
 reply_text n lost packages reply.NoMode = codes "no-mode"
@@ -88,11 +88,11 @@ reply_text n lost packages reply.Unknown = status_text n (codes "unknown")
 reply_text n lost packages (reply.Full size need) = codes "full"
 reply_text n lost packages (reply.Stopped before after) = codes "stopped"
 
--- how many there are of a kind
+-- the number of submissions with such a mark
 abbrev pub marked_count : (Mark → Bool) → End → List ℕ
 marked_count is end = codes " " ++ decimal (count_by (λ (s : Sent). is s.mark) end.sent)
 
--- the numbers of submissions, of receipted, failed and refused ones, and of messages that came
+-- the numbers of submissions, of receipted, failed and refused ones, and of messages in the inbox
 unfoldable pub end_line : EndName → End → List ℕ
 end_line name end =
     said_line name (codes "end " ++ decimal (length end.sent) ++ marked_count is_receipted_mark end

@@ -1,4 +1,4 @@
-//! The texts of a drill: what is written of each reply, and the modes and loads that a script names.
+//! The texts of a drill: the lines for replies, and the modes and loads that a script names.
 #![tactic(auto)]
 
 mod loads;

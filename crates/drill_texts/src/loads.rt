@@ -1,4 +1,4 @@
-//! What the messages of a drill carry.
+//! The loads of a drill's messages.
 
 ghost use Rattle.std.specs.Prelude.{◌≡◌, ◌∷◌, [], IfOk, IsTrue};
 ghost use Rattle.drill_script.specs.LineText.{is_load};
@@ -8,7 +8,7 @@ use as4_values::{Load, NoMemory, Octets, PlainData, Seq};
 use drill_script::ScriptLoad;
 use std::alloc::Global;
 
-/// What a message of a script carries: nothing, or one load of bytes (`application/octet-stream`).
+/// The payload of a message of a script: none, or one load of bytes (`application/octet-stream`).
 pub fn loads_of(alloc: Global, load: &ScriptLoad) -> Result<Seq<Load>, NoMemory>
     requires { IsTrue (is_load load.now) }
     ensures { IfOk result (λ loads. loads ≡ loads_of load.now) }
@@ -30,7 +30,7 @@ fn one_load(alloc: Global, content: Octets) -> Result<Seq<Load>, NoMemory>
     Ok(Seq::of(loads))
 }
 
-/// So many bytes: the one at place i is i mod 251.
+/// This many bytes; the byte at index i is i mod 251.
 #[tactic(auto, using(crate::proofs::PatternLemmas::pattern_more), unfolding(crate::specs::Loads::pattern))]
 fn pattern(alloc: Global, size: u32) -> Result<Octets, NoMemory>
     ensures { IfOk result (λ bytes. bytes ≡ pattern size) }

@@ -1,4 +1,4 @@
-//! What is written of a message, and of one in an inbox.
+//! The texts of messages, and of messages in an inbox.
 
 ghost use Rattle.std.specs.Prelude.{◌≡◌, ◌++◌, OnOk, length};
 ghost use Rattle.std.specs.List.{sum_by};
@@ -10,7 +10,7 @@ use as4_values::{
     ErrorItem, Message, MessageId, NoMemory, Pair, Payload, Signal, SignalBody, UserHeader,
 };
 
-/// Adds what is written of a message that an end sent as its package of this number, or that was lost.
+/// Adds the text of a message that an endpoint sent as its package of this number, or that was lost.
 pub(crate) fn add_message(
     out: &mut Vec<u8>,
     lost: bool,
@@ -55,7 +55,7 @@ fn add_signal(out: &mut Vec<u8>, signal: &Signal) -> Result<(), NoMemory>
     }
 }
 
-/// The bytes of a reference, none where there is none.
+/// The bytes of a reference; empty if there is none.
 fn reference_bytes(reference: &Option<MessageId>) -> &[u8]
     ensures { result.now ≡ reference_text reference.now }
 {
@@ -65,7 +65,7 @@ fn reference_bytes(reference: &Option<MessageId>) -> &[u8]
     }
 }
 
-/// The channel of a pull request, none where it is no pull request.
+/// The channel of a pull request; empty for other signals.
 fn channel_bytes(body: &SignalBody) -> &[u8]
     ensures { result.now ≡ channel_text body.now }
 {
@@ -75,7 +75,7 @@ fn channel_bytes(body: &SignalBody) -> &[u8]
     }
 }
 
-/// The code of the first error, none where there is none.
+/// The code of the first error; empty if there is none.
 fn first_code(items: &[ErrorItem]) -> &[u8]
     ensures { result.now ≡ first_code items.now }
 {
@@ -85,7 +85,7 @@ fn first_code(items: &[ErrorItem]) -> &[u8]
     }
 }
 
-/// Adds what is written of a message in an inbox that is read under this number.
+/// Adds the text of a message in an inbox that is read under this number.
 pub(crate) fn add_entry(
     out: &mut Vec<u8>,
     number: u64,
@@ -101,7 +101,7 @@ pub(crate) fn add_entry(
     add_wide(out, size_of(payloads))
 }
 
-/// How many bytes the payloads have together.
+/// The number of bytes of all payloads together.
 fn size_of(payloads: &[Payload]) -> u128
     ensures { result ≡ sum_by (λ (payload : Part). length payload.content) payloads.now }
 {

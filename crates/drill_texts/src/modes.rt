@@ -1,6 +1,6 @@
-//! The processing modes of a drill, which both ends have (P-Modes, ebMS 3.0 Core, section 4).
+//! The processing modes of a drill, which both endpoints have (P-Modes, ebMS 3.0 Core, section 4).
 //!
-//!     NAME    1 to 32 of a to z and 0 to 9; the action too
+//!     NAME    1 to 32 of a to z and 0 to 9; it is also the action
 //!     from    the party drill-a in the role sender
 //!     to      the party drill-b in the role receiver
 //!     route   One-Way/Push to http://drill/, or One-Way/Pull from the channel drill-NAME
@@ -10,8 +10,9 @@ ghost use Rattle.as4_values.specs.PlainTexts.{IsPlainText};
 ghost use Rattle.drill_script.specs.LineText.{is_name};
 ghost use Rattle.drill_texts.specs.Modes.{AreDrillModes, IsDrillMode, IsDrillSide, route_of};
 
-use as4_values::{Mode, NoMemory, Octets, Party, Route, Seq, Service, Side, Text};
+use as4_values::{NoMemory, Octets, Party, Route, Seq, Service, Side, Text};
 use drill_script::Way;
+use mode_values::Mode;
 use pmodes::{ModeRefusal, Modes};
 use std::alloc::Global;
 
@@ -62,7 +63,7 @@ pub fn drill_mode(
     }
 }
 
-/// The modes of a script: no message belongs to two of them.
+/// The modes of a script; no message belongs to two of them.
 #[tactic(auto, using(crate::proofs::ListLemmas::drill_modes_stand))]
 pub fn modes_of(alloc: Global, list: Seq<Mode>) -> Result<Modes, NoMemory>
     requires { AreDrillModes list }

@@ -1,4 +1,4 @@
-//! Pieces of a line, added behind what was written of it.
+//! Appends the pieces of a line.
 
 ghost use Rattle.std.specs.Prelude.{◌≡◌, ◌++◌, ◌∷◌, [], OnOk, IfOk, codes};
 ghost use Rattle.std.specs.Fmt.{decimal};
@@ -35,7 +35,7 @@ pub(crate) fn add_wide(out: &mut Vec<u8>, number: u128) -> Result<(), NoMemory>
     Ok(())
 }
 
-/// Adds a word and what is named by it.
+/// Adds a word and the name after it.
 pub(crate) fn add_named(out: &mut Vec<u8>, word: &[u8], name: &[u8]) -> Result<(), NoMemory>
     ensures { OnOk result (out.new.items ≡ out.old.items ++ (word.now ++ name.now)) }
 {
@@ -44,7 +44,7 @@ pub(crate) fn add_named(out: &mut Vec<u8>, word: &[u8], name: &[u8]) -> Result<(
     Ok(())
 }
 
-/// Adds a word and the number behind it.
+/// Adds a word and the number after it.
 pub(crate) fn add_counted(out: &mut Vec<u8>, word: &[u8], number: u64) -> Result<(), NoMemory>
     ensures { OnOk result (out.new.items ≡ out.old.items ++ (word.now ++ decimal number)) }
 {
@@ -53,7 +53,7 @@ pub(crate) fn add_counted(out: &mut Vec<u8>, word: &[u8], number: u64) -> Result
     Ok(())
 }
 
-/// A line that begins with the name of an end.
+/// A line that begins with the name of an endpoint.
 pub(crate) fn begun_line(alloc: Global, end: EndName) -> Result<Vec<u8>, NoMemory>
     ensures { IfOk result (λ line. line.items ≡ end_text end ++ codes " ") }
 {
@@ -65,7 +65,7 @@ pub(crate) fn begun_line(alloc: Global, end: EndName) -> Result<Vec<u8>, NoMemor
     Ok(line)
 }
 
-/// The line with its end.
+/// The line with its LF.
 pub(crate) fn ended_line(mut line: Vec<u8>) -> Result<Octets, NoMemory>
     ensures { IfOk result (λ text. text ≡ line.items ++ 10 ∷ []) }
 {

@@ -32,7 +32,7 @@ use end_tables::Totals;
 use exchange_model::Reply;
 use std::alloc::Global;
 
-/// What is written of a reply to a line that names the number `number`, at an end that has sent so many packages.
+/// The line for a reply to a line that names `number`, at an endpoint that has sent `packages` packages.
 pub fn reply_line(
     alloc: Global,
     end: EndName,
@@ -48,21 +48,21 @@ pub fn reply_line(
     ended_line(line)
 }
 
-/// The other end has sent no package of the number that a line names.
+/// The line for a package number that the other endpoint hasn't sent.
 pub fn no_package_line(alloc: Global, end: EndName) -> Result<Octets, NoMemory>
     ensures { IfOk result (λ text. text ≡ said_line end (codes "no-package")) }
 {
     word_line(alloc, end, b"no-package")
 }
 
-/// The disk of the end was opened again.
+/// The line for an endpoint whose disk was opened again.
 pub fn reopened_line(alloc: Global, end: EndName) -> Result<Octets, NoMemory>
     ensures { IfOk result (λ text. text ≡ said_line end (codes "reopened")) }
 {
     word_line(alloc, end, b"reopened")
 }
 
-/// The journal of the end was folded, where that made it shorter.
+/// The line for an endpoint whose journal was compacted, if that made it shorter.
 pub fn folded_line(alloc: Global, end: EndName) -> Result<Octets, NoMemory>
     ensures { IfOk result (λ text. text ≡ said_line end (codes "folded")) }
 {
@@ -78,7 +78,7 @@ fn word_line(alloc: Global, end: EndName, word: &[u8]) -> Result<Octets, NoMemor
     ended_line(line)
 }
 
-/// No submission has the number that a line names.
+/// The line for a number that no submission has.
 pub fn unknown_line(alloc: Global, end: EndName, number: u64) -> Result<Octets, NoMemory>
     ensures { IfOk result (λ text. text ≡ said_line end (status_text number (codes "unknown"))) }
 {
@@ -87,7 +87,7 @@ pub fn unknown_line(alloc: Global, end: EndName, number: u64) -> Result<Octets, 
     ended_line(line)
 }
 
-/// The numbers of an end, at the end of a script.
+/// The totals of an endpoint, at the end of a script.
 #[tactic(auto, unfolding(crate::specs::Texts::end_line))]
 pub fn end_line(alloc: Global, name: EndName, totals: Totals) -> Result<Octets, NoMemory>
     ensures { (end : End) → AreTotals end totals → IfOk result (λ text. text ≡ end_line name end) }
@@ -97,7 +97,7 @@ pub fn end_line(alloc: Global, name: EndName, totals: Totals) -> Result<Octets, 
     ended_line(line)
 }
 
-/// Adds what is written of the numbers of an end.
+/// Adds the totals of an endpoint.
 fn add_totals(out: &mut Vec<u8>, totals: &Totals) -> Result<(), NoMemory>
     ensures { OnOk result (out.new.items ≡ out.old.items
         ++ (codes "end " ++ decimal totals.now.submitted ++ (codes " " ++ decimal totals.now.receipted)
@@ -111,7 +111,7 @@ fn add_totals(out: &mut Vec<u8>, totals: &Totals) -> Result<(), NoMemory>
     add_counted(out, b" ", totals.inbox)
 }
 
-/// Adds what is written of a reply.
+/// Adds the text of a reply.
 #[tactic(auto, unfolding(crate::specs::Texts::reply_text))]
 fn add_reply(
     out: &mut Vec<u8>,

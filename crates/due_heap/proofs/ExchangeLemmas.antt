@@ -1,4 +1,4 @@
--- Two pairs of a heap change places.
+-- Exchanging two pairs of a heap.
 use Rattle.std.proofs.Common.{ℕ, ◌<◌, ◌≤◌, ◌≡◌, ◌≢◌, inl, inr, List, Option, Some, All, length, set, get_or, slice_get, swap, ap, sym, arith, ◌∙◌}
 use Rattle.std.proofs.lemmas.Bool.{cases_lt}
 use Rattle.std.proofs.lemmas.List.{length-set}
@@ -32,7 +32,7 @@ numbers_few heap pairs slots points few = λ k d within.
     let listed = slot_within slots (get_or pairs k d).number (record { heap = heap; at = k; due = (get_or pairs k d).due }) there in
     omega (arith, listed)
 
--- so are those that changed places
+-- so are those that were exchanged
 pub exchange_within : (heap a b : ℕ) (pairs pairs' : List Pair) (slots : List (Option Slot)) → Points heap pairs slots → a < length pairs → b < length pairs → pairs' ≡ swap pairs a b → ((pair_at pairs' a).number < length slots) × ((pair_at pairs' b).number < length slots)
 exchange_within heap a b pairs pairs' slots points a_in b_in swapped =
     let s = swapped_from_swap pairs pairs' a b no_pair a_in b_in swapped in (
@@ -78,7 +78,7 @@ exchange_moves heap a b pairs pairs' slots slots₁ slots' points a_in b_in less
       as_long = ap length next_is ∙ length-set slots₁ one.number _ ∙ long₁;
     })
 
--- the ranks change places with the pairs
+-- the ranks are exchanged with the pairs
 pub ranks_exchanged : (a b : ℕ) (pairs pairs' : List Pair) → a < length pairs → b < length pairs → pairs' ≡ swap pairs a b → Swapped (rank_at pairs) (rank_at pairs') a b
 ranks_exchanged a b pairs pairs' a_in b_in swapped =
     let s = swapped_from_swap pairs pairs' a b no_pair a_in b_in swapped in

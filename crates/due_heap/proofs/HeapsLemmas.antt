@@ -1,4 +1,4 @@
--- All heaps, as one of them or the table changes.
+-- All heaps, when one of them or the table changes.
 use Rattle.std.proofs.Common.{ℕ, ◌+◌, ◌<◌, ◌≤◌, ◌≡◌, ◌≢◌, inl, inr, List, [], ◌∷◌, ◌++◌, Option, Some, None, IfSome, IsSome, subst, length, set, get_or, map, slice_get, option_map, vec_len, ap, refl, sym, arith, ◌∙◌}
 use Rattle.std.specs.Option.{option_and_then}
 use Rattle.std.specs.Vec.{vec_capacity}
@@ -16,7 +16,7 @@ use Rattle.due_heap.specs.Order.{IsIn}
 use Rattle.due_heap.specs.Keeping.{slot_at, place_at, place_of, SameElsewhere, Places, IsHeap, AreHeaps, HasRoom}
 use Rattle.due_heap.proofs.PlaceLemmas.{get-set_same, get-set_other, get-push_last, get-push_other}
 
--- what contracts see
+-- the view of contracts
 abbrev pub seen : List (Vec Pair Global) → List (Option Slot) → Option Room → Heaps
 seen heaps slots room = record { count = length heaps; places = map (option_map place_of) slots; room = room }
 
@@ -25,13 +25,13 @@ flat None = refl
 flat (Some None) = refl
 flat (Some (Some slot)) = refl
 
--- a number stands where the table says
+-- a number is where the table says
 pub standing_is : (n : ℕ) (heaps : List (Vec Pair Global)) (slots : List (Option Slot)) (room : Option Room) → standing_at n (seen heaps slots room) ≡ place_at n slots
 unfolding standing_at
 standing_is n heaps slots room =
     ap (option_and_then (λ place. place)) (slice_get-map (option_map place_of) slots n) ∙ flat (slice_get slots n)
 
--- one number's change, as contracts see it
+-- the change of one number, as contracts see it
 pub sets_from : (heap number : ℕ) (place : Option Place) (heaps heaps' : List (Vec Pair Global)) (slots slots' : List (Option Slot)) (room room' : Option Room) → length heaps' ≡ length heaps → Places heap number place slots slots' → Sets number place (seen heaps slots room) (seen heaps' slots' room')
 sets_from heap number place heaps heaps' slots slots' room room' as_many places =
     record {
@@ -40,7 +40,7 @@ sets_from heap number place heaps heaps' slots slots' room room' as_many places 
       others = λ n other. standing_is n heaps' slots' room' ∙ places.others n other ∙ sym (standing_is n heaps slots room);
     }
 
--- a heap that is not concerned
+-- another heap
 apart : (h k : ℕ) (pairs : List Pair) (slots slots' : List (Option Slot)) → k ≢ h → SameElsewhere h slots slots' → IsHeap k pairs slots → IsHeap k pairs slots'
 apart h k pairs slots slots' other same kept =
     record {
@@ -51,7 +51,7 @@ apart h k pairs slots slots' other same kept =
       order = kept.order;
     }
 
--- one heap changed, and with it the table
+-- one heap changes, and the table with it
 pub changed_heap : (h : ℕ) (v : Vec Pair Global) (heaps heaps' : List (Vec Pair Global)) (slots slots' : List (Option Slot)) → AreHeaps heaps slots → h < length heaps → heaps' ≡ set heaps h v → IsHeap h v.items slots' → SameElsewhere h slots slots' → AreHeaps heaps' slots'
 changed_heap h v heaps heaps' slots slots' kept within is here same =
     let as_many : length heaps' ≡ length heaps = ap length is ∙ length-set heaps h v in
@@ -73,7 +73,7 @@ changed_heap h v heaps heaps' slots slots' kept within is here same =
           ];
     }
 
--- the room for one more pair stays, where the heap got no longer
+-- the room for one more pair remains, unless the heap gets longer
 pub room_stays : (h : ℕ) (v w : Vec Pair Global) (heaps heaps' : List (Vec Pair Global)) (slots slots' : List (Option Slot)) (room : Option Room) → slice_get heaps h ≡ Some v → heaps' ≡ set heaps h w → length slots' ≡ length slots → vec_len w ≤ vec_len v → vec_capacity w ≡ vec_capacity v → IfSome room (HasRoom heaps slots) → IfSome room (HasRoom heaps' slots')
 room_stays h v w heaps heaps' slots slots' None at_h is as_long len capacity has = has
 room_stays h v w heaps heaps' slots slots' (Some room) at_h is as_long len capacity has =
@@ -92,7 +92,7 @@ room_stays h v w heaps heaps' slots slots' (Some room) at_h is as_long len capac
           ];
     }
 
--- the table is another one that says the same
+-- another table with the same entries
 same_heap : (h : ℕ) (pairs : List Pair) (slots slots' : List (Option Slot)) → ((n : ℕ) → slot_at n slots' ≡ slot_at n slots) → IsHeap h pairs slots → IsHeap h pairs slots'
 same_heap h pairs slots slots' same kept =
     record {
@@ -111,7 +111,7 @@ same_table heaps slots slots' few same kept =
       each = λ k v at_k. same_heap k v.items slots slots' same (kept.each k v at_k);
     }
 
--- and every number stands as it did
+-- and every number is unchanged
 pub same_standing : (heaps heaps' : List (Vec Pair Global)) (slots slots' : List (Option Slot)) (room room' : Option Room) → ((n : ℕ) → slot_at n slots' ≡ slot_at n slots) → (n : ℕ) → standing_at n (seen heaps' slots' room') ≡ standing_at n (seen heaps slots room)
 same_standing heaps heaps' slots slots' room room' same n =
     standing_is n heaps' slots' room' ∙ ap (option_map place_of) (same n) ∙ sym (standing_is n heaps slots room)
@@ -155,7 +155,7 @@ pub slot_from_place : (o : Option Slot) (place : Place) → option_map place_of 
 slot_from_place None place found = absurd (none-some place found)
 slot_from_place (Some slot) place found = (slot, refl, same_Some (place_of slot) place found)
 
--- a number stands in a heap that is there
+-- the heap of a number exists
 pub standing_known : (now : Heaps) (heaps : List (Vec Pair Global)) (slots : List (Option Slot)) (room : Option Room) → seen heaps slots room ≡ now → AreHeaps heaps slots → (n : ℕ) (place : Place) → standing_at n now ≡ Some place → place.heap < now.count
 standing_known now heaps slots room is kept n place found =
     let slot = slot_from_place (slot_at n slots) place (sym (standing_is n heaps slots room) ∙ ap (standing_at n) is ∙ found) in
@@ -183,12 +183,12 @@ least_of_same P Q None to from none = λ x q. none x (from x q)
 least_of_same P Q (Some x) to from least =
     record { among = to x least.among; least = λ y q. least.least y (from y q) }
 
--- for what there is room
+-- the reservation
 pub has_room : (now : Heaps) (heaps : List (Vec Pair Global)) (slots : List (Option Slot)) (room : Option Room) (r : Room) → seen heaps slots room ≡ now → now.room ≡ Some r → IfSome room (HasRoom heaps slots) → HasRoom heaps slots r
 has_room now heaps slots room r is made has =
     MatchOption-at_some ⊤ (HasRoom heaps slots) r (ap (λ (h : Heaps). h.room) is ∙ made) has
 
--- a number that stands nowhere has no slot
+-- a number that is in no heap has no slot
 pub slot_none : (now : Heaps) (heaps : List (Vec Pair Global)) (slots : List (Option Slot)) (room : Option Room) (n : ℕ) → seen heaps slots room ≡ now → standing_at n now ≡ None → slot_at n slots ≡ None
 slot_none now heaps slots room n is none =
     no_slot (slot_at n slots) (sym (standing_is n heaps slots room) ∙ ap (standing_at n) is ∙ none)
@@ -197,7 +197,7 @@ slot_none now heaps slots room n is none =
     no_slot None found = refl
     no_slot (Some slot) found = absurd (none-some (place_of slot) (sym found))
 
--- a number that stands in a heap has one
+-- a number that is in a heap has one
 pub slot_some : (now : Heaps) (heaps : List (Vec Pair Global)) (slots : List (Option Slot)) (room : Option Room) (n : ℕ) → seen heaps slots room ≡ now → IsSome (standing_at n now) → IsSome (slot_at n slots)
 slot_some now heaps slots room n is some =
     has_slot (slot_at n slots) (subst IsSome (sym (ap (standing_at n) is) ∙ standing_is n heaps slots room) some)
@@ -206,7 +206,7 @@ slot_some now heaps slots room n is some =
     has_slot None found = found
     has_slot (Some slot) found = refl
 
--- a heap and the table changed, as one number's place did
+-- a heap and the table change, for the place of one number
 pub one_changed : (h number : ℕ) (place : Option Place) (w : Vec Pair Global) (heaps : List (Vec Pair Global)) (slots lent slots' : List (Option Slot)) → AreHeaps heaps slots → h < length heaps → lent ≡ slots → IsHeap h w.items slots' → Places h number place lent slots' → AreHeaps (set heaps h w) slots'
 one_changed h number place w heaps slots lent slots' kept within same here places =
     changed_heap h w heaps (set heaps h w) slots slots' kept within refl here (rw same at places).elsewhere
@@ -235,7 +235,7 @@ pub kept_in : (now : Heaps) (heaps : List (Vec Pair Global)) (slots : List (Opti
 kept_in now heaps slots room h v pairs is kept within read items =
     rw items (kept_at h v heaps slots kept (omega (arith, within, ap (λ (h : Heaps). h.count) is)) read)
 
--- what is told of a number is where it stands
+-- the entry that is found is the number's
 pub told : (now : Heaps) (heaps : List (Vec Pair Global)) (slots lent : List (Option Slot)) (room : Option Room) (n : ℕ) (found : Option Slot) → seen heaps slots room ≡ now → lent ≡ slots → found ≡ slot_at n lent → option_map {T = Place} {U = ℕ × ℕ} (λ place. (place.heap, place.due)) (option_map place_of found) ≡ option_map {T = Place} {U = ℕ × ℕ} (λ place. (place.heap, place.due)) (standing_at n now)
 told now heaps slots lent room n found is same at =
     ap (option_map {T = Place} {U = ℕ × ℕ} (λ place. (place.heap, place.due)))

@@ -33,13 +33,13 @@ least_first pairs first ordered few found =
           (omega (arith, le, rank_found pairs 0 first found, rank_found pairs there.0 pair there.1));
     }
 
--- the first one is not of the number left out
+-- the first one has another number than the one left out
 pub least_first_but : (pairs : List Pair) (first : Pair) (number : ℕ) → IsOrdered (rank_at pairs) (length pairs) → All (λ p. p.number < 1048576) pairs → slice_get pairs 0 ≡ Some first → first.number ≢ number → IsLeast (IsInBut pairs number) (first.due, first.number)
 least_first_but pairs first number ordered few found other =
     let least = least_first pairs first ordered few found in
     record { among = (least.among, other); least = λ pair there. least.least pair there.0 }
 
--- the first one is of the number left out
+-- the first one has the number left out
 pub least_next : (pairs : List Pair) (first : Pair) (number c : ℕ) → IsOrdered (rank_at pairs) (length pairs) → All (λ p. p.number < 1048576) pairs → AreOnce pairs → slice_get pairs 0 ≡ Some first → first.number ≡ number → 1 ≤ c → c < length pairs → ((k : ℕ) → 0 * 2 + 1 ≤ k → k ≤ 0 * 2 + 2 → k < length pairs → rank_at pairs c ≤ rank_at pairs k) → IsLeast (IsInBut pairs number) ((pair_at pairs c).due, (pair_at pairs c).number)
 least_next pairs first number c ordered few once found own some within lesser =
     let next = pair_at pairs c in

@@ -1,4 +1,4 @@
--- A pair on its way to its place.
+-- A pair that moves to its place.
 use Rattle.std.proofs.Common.{ℕ, ◌+◌, ◌-◌, ◌*◌, ◌/◌, ◌<◌, ◌≤◌, ◌≡◌, List, Option, length, swap, arith}
 use Rattle.due_heap.specs.declared.pair.Pair.{Pair}
 use Rattle.due_heap.specs.declared.pair.Slot.{Slot}
@@ -8,21 +8,21 @@ use Rattle.due_heap.proofs.ExchangeLemmas.{pair_at, numbers_few, no_pair, ranks_
 use Rattle.due_heap.proofs.OrderLemmas.{raised, lowered}
 use Rattle.due_heap.proofs.PointLemmas.{moved_on}
 
--- pairs were moved, and all is in order but above this place
+-- pairs were moved, and the order holds except above this place
 pub record IsRising (heap at : ℕ) (pairs₀ : List Pair) (slots₀ : List (Option Slot)) (pairs : List Pair) (slots : List (Option Slot)) : Type 0 where
   pub within : at < length pairs
   pub moved : Rearranges heap pairs₀ slots₀ pairs slots
   pub order : IsOrderedBut at (rank_at pairs) (length pairs)
   pub under : IsUpToUnder at (rank_at pairs) (length pairs)
 
--- pairs were moved, and all is in order but under this place
+-- pairs were moved, and the order holds except below this place
 pub record IsSinking (heap at : ℕ) (pairs₀ : List Pair) (slots₀ : List (Option Slot)) (pairs : List Pair) (slots : List (Option Slot)) : Type 0 where
   pub within : at < length pairs
   pub moved : Rearranges heap pairs₀ slots₀ pairs slots
   pub order : IsOrderedBut at (rank_at pairs) (length pairs)
   pub above : IsFromAbove at (rank_at pairs)
 
--- the number at a place of a heap that was moved about
+-- the number at a place of a rearranged heap
 pub number_few : (heap i : ℕ) (pairs₀ : List Pair) (slots₀ : List (Option Slot)) (pairs : List Pair) (slots : List (Option Slot)) → length slots ≤ 1048576 → Rearranges heap pairs₀ slots₀ pairs slots → i < length pairs → (pair_at pairs i).number < 1048576
 number_few heap i pairs₀ slots₀ pairs slots few moved within =
     numbers_few heap pairs slots moved.points few i no_pair within

@@ -1,10 +1,10 @@
--- The order of a heap, as a pair moves up or down in it.
+-- The order of a heap, when a pair moves up or down in it.
 use Rattle.std.proofs.Common.{ℕ, suc, zero, ◌+◌, ◌*◌, ◌<◌, ◌≤◌, ◌≡◌, ◌/◌, inl, inr, ap, arith}
 use Rattle.std.proofs.lemmas.Bool.{cases_eq, cases_lt}
 use Rattle.std.proofs.lemmas.List.Edits.{Swapped}
 use Rattle.due_heap.specs.Order.{IsOrdered, IsOrderedBut, IsUpToUnder, IsFromAbove}
 
--- one that comes before what it stands under changes places with it
+-- a place that comes before its parent is exchanged with it
 pub raised : (f g : ℕ → ℕ) (n p at : ℕ) → p * 2 + 1 ≤ at → at ≤ p * 2 + 2 → at < n → IsOrderedBut at f n → f at < f p → Swapped f g p at → IsOrderedBut p g n × IsUpToUnder p g n
 raised f g n p at from to within but less swapped = (
   record {
@@ -28,7 +28,7 @@ raised f g n p at from to within but less swapped = (
       ],
 )
 
--- one that the lesser of those under it comes before changes places with that
+-- a place whose lesser child comes before it is exchanged with that child
 pub lowered : (f g : ℕ → ℕ) (n at c : ℕ) → at * 2 + 1 ≤ c → c ≤ at * 2 + 2 → c < n → IsOrderedBut at f n → ((k : ℕ) → at * 2 + 1 ≤ k → k ≤ at * 2 + 2 → k < n → f c ≤ f k) → f c < f at → Swapped f g at c → IsOrderedBut c g n × IsFromAbove c g
 lowered f g n at c from to within but lesser less swapped = (
   record {
@@ -58,7 +58,7 @@ first_is_least f n ordered (suc fuel) zero le in_n = omega arith
 first_is_least f n ordered (suc fuel) (suc k) le in_n =
     omega (arith, first_is_least f n ordered fuel (k / 2) (omega arith) (omega arith), ordered (k / 2) (suc k) (omega arith) (omega arith) in_n)
 
--- of the others none comes before the lesser of the two under the first
+-- apart from the first, none comes before the lesser of its two children
 pub next_is_least : (f : ℕ → ℕ) (n c : ℕ) → IsOrdered f n → ((k : ℕ) → 0 * 2 + 1 ≤ k → k ≤ 0 * 2 + 2 → k < n → f c ≤ f k) → (fuel k : ℕ) → k ≤ fuel → 0 < k → k < n → f c ≤ f k
 next_is_least f n c ordered lesser zero zero le some in_n = absurd (omega arith)
 next_is_least f n c ordered lesser zero (suc k) le some in_n = absurd (omega arith)
@@ -69,7 +69,7 @@ next_is_least f n c ordered lesser (suc fuel) (suc k) le some in_n =
       | inr far ↦ omega (arith, next_is_least f n c ordered lesser fuel (k / 2) (omega arith) (omega arith) (omega arith), ordered (k / 2) (suc k) (omega arith) (omega arith) in_n)
     ]
 
--- a change at one place leaves the order but there
+-- a change at one place leaves the order elsewhere
 pub changed_at : (f g : ℕ → ℕ) (n m at : ℕ) → m ≤ n → ((k : ℕ) → k < m → (k ≡ at → ⊥) → g k ≡ f k) → IsOrdered f n → IsOrderedBut at g m
 changed_at f g n m at le same ordered =
     record {

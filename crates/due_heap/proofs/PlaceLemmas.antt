@@ -1,4 +1,4 @@
--- Lists of which one place is written, read by place.
+-- Lists with one place overwritten, read by place.
 use Rattle.std.proofs.Common.{ℕ, suc, zero, ◌<◌, ◌≤◌, ◌≡◌, ◌≢◌, List, [], ◌∷◌, ◌++◌, Option, Some, None, length, set, slice_get, take, replicate, ap, refl, arith, ◌∙◌}
 use Rattle.std.specs.Option.{option_and_then}
 use Rattle.std.proofs.lemmas.List.{take_all}
@@ -39,7 +39,7 @@ pub get-push_last : {X : Type 0} (xs : List X) (x : X) → slice_get (xs ++ x �
 get-push_last [] x = refl
 get-push_last (y ∷ ys) x = get-push_last ys x
 
--- a longer table that says the same
+-- a longer table with the same entries
 grown_at : (slots : List (Option Slot)) (m n : ℕ) → slot_at n (slots ++ replicate m None) ≡ slot_at n slots
 grown_at [] zero n = refl
 grown_at [] (suc m) zero = refl

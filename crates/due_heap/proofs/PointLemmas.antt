@@ -1,4 +1,4 @@
--- Table and heaps point at each other, as pairs change places or are put somewhere.
+-- The table and the heaps point at each other, when pairs are exchanged or put somewhere.
 use Rattle.std.proofs.Common.{ℕ, ◌≡◌, ◌≢◌, inl, inr, List, Option, Some, length, slice_get, ap, refl, sym, ◌∙◌}
 use Rattle.std.proofs.lemmas.Bool.{cases_eq}
 use Rattle.std.proofs.lemmas.Option.{same_Some}
@@ -6,7 +6,7 @@ use Rattle.due_heap.specs.declared.pair.Pair.{Pair}
 use Rattle.due_heap.specs.declared.pair.Slot.{Slot}
 use Rattle.due_heap.specs.Keeping.{slot_at, place_at, Points, PointsBut, SameElsewhere, Rearranges}
 
--- what a place is known to have, under another name of the place and of the pair
+-- the entry of a place, with equal names for the place and the pair
 noted_as : (heap i at : ℕ) (found pair : Pair) (slots : List (Option Slot)) → i ≡ at → Some found ≡ Some pair → slot_at pair.number slots ≡ Some (record { heap = heap; at = at; due = pair.due }) → slot_at found.number slots ≡ Some (record { heap = heap; at = i; due = found.due })
 noted_as heap i at found pair slots place same noted = rw (place, same_Some found pair same) noted
 
@@ -16,7 +16,7 @@ stands_as heap n at found pair pairs number same stands = rw (number, same_Some 
 in_heap : (heap at due : ℕ) (found : Slot) → Some found ≡ Some (record { heap = heap; at = at; due = due }) → found.heap ≡ heap
 in_heap heap at due found same = ap (λ (s : Slot). s.heap) (same_Some found (record { heap = heap; at = at; due = due }) same)
 
--- a pair was put at one place, and noted there
+-- a pair was written to one place and into the table
 pub record IsPut (heap at : ℕ) (pair : Pair) (pairs pairs' : List Pair) (slots slots' : List (Option Slot)) : Type 0 where
   pub here : slice_get pairs' at ≡ Some pair
   pub rest : (i : ℕ) → i ≢ at → slice_get pairs' i ≡ slice_get pairs i
@@ -59,7 +59,7 @@ put_elsewhere heap at pair pairs pairs' slots slots' points put =
           ];
     }
 
--- two pairs changed places, in the table too
+-- two pairs were exchanged, in the table too
 pub record IsExchanged (heap a b : ℕ) (pairs pairs' : List Pair) (slots slots' : List (Option Slot)) : Type 0 where
   pub one : Pair
   pub other : Pair
@@ -74,7 +74,7 @@ pub record IsExchanged (heap a b : ℕ) (pairs pairs' : List Pair) (slots slots'
   pub others : (n : ℕ) → n ≢ one.number → n ≢ other.number → slot_at n slots' ≡ slot_at n slots
   pub as_long : length slots' ≡ length slots
 
--- a number stands at one place of a heap
+-- a number is at one place of a heap
 pub one_place : (heap : ℕ) (pairs : List Pair) (slots : List (Option Slot)) → Points heap pairs slots → (i j : ℕ) (pair other : Pair) → slice_get pairs i ≡ Some pair → slice_get pairs j ≡ Some other → pair.number ≡ other.number → i ≡ j
 one_place heap pairs slots points i j pair other here there same =
     ap (λ (s : Slot). s.at) (same_Some (record { heap = heap; at = i; due = pair.due }) (record { heap = heap; at = j; due = other.due }) (sym (points.to i pair here) ∙ ap (λ n. slot_at n slots) same ∙ points.to j other there))

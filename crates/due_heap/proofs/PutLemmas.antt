@@ -1,4 +1,4 @@
--- A pair is put into a heap.
+-- Putting a pair into a heap.
 use Rattle.std.proofs.Common.{ℕ, ◌<◌, ◌≡◌, List, [], ◌∷◌, ◌++◌, Option, Some, None, length, set, slice_get, option_map, ap, refl, sym, arith, ◌∙◌}
 use Rattle.std.proofs.lemmas.List.{length-set, get_or_append_left, length_push}
 use Rattle.std.proofs.lemmas.Option.{same_Some, none-some, slice_get_within}
@@ -11,7 +11,7 @@ use Rattle.due_heap.proofs.OrderLemmas.{changed_at, added_at}
 use Rattle.due_heap.proofs.PlaceLemmas.{get-set_same, get-set_other, slot-set_same, slot-set_other, get-push_other}
 use Rattle.due_heap.proofs.PointLemmas.{IsPut, put_elsewhere, one_place, elsewhere_on}
 
--- it is written over the one before
+-- it overwrites the one before
 pub put_is : (heap at : ℕ) (pair : Pair) (pairs : List Pair) (slots slots' : List (Option Slot)) → at < length pairs → pair.number < length slots → slots' ≡ set slots pair.number (Some (record { heap = heap; at = at; due = pair.due })) → IsPut heap at pair pairs (set pairs at pair) slots slots'
 put_is heap at pair pairs slots slots' within listed is =
     record {
@@ -22,7 +22,7 @@ put_is heap at pair pairs slots slots' within listed is =
       as_long = ap length is ∙ length-set slots pair.number _;
     }
 
--- it has its place, and every other number the one that it had
+-- it has its place, and every other number keeps its own
 pub put_places : (heap at : ℕ) (pair : Pair) (pairs pairs' pairs'' : List Pair) (slots slots' slots'' : List (Option Slot)) → PointsBut at pair.number heap pairs slots → IsPut heap at pair pairs pairs' slots slots' → Rearranges heap pairs' slots' pairs'' slots'' → Places heap pair.number (Some (record { heap = heap; due = pair.due })) slots slots''
 put_places heap at pair pairs pairs' pairs'' slots slots' slots'' points put moved =
     record {
@@ -31,7 +31,7 @@ put_places heap at pair pairs pairs' pairs'' slots slots' slots'' points put mov
       elsewhere = elsewhere_on heap slots slots' slots'' (put_elsewhere heap at pair pairs pairs' slots slots' points put) moved.elsewhere;
     }
 
--- what a pair with a slot is replaced by may stand anywhere
+-- the replacement of a pair with a slot may have any place
 pub points_but : (pairs : List Pair) (slots : List (Option Slot)) (slot : Slot) (number : ℕ) → Points slot.heap pairs slots → slot_at number slots ≡ Some slot → PointsBut slot.at number slot.heap pairs slots
 points_but pairs slots slot number points there =
     let stands = points.from number slot there refl in
@@ -47,7 +47,7 @@ pub order_but : (pairs : List Pair) (at : ℕ) → IsOrdered (rank_at pairs) (le
 order_but pairs at ordered =
     changed_at (rank_at pairs) (rank_at pairs) (length pairs) (length pairs) at (omega arith) (λ k within other. refl) ordered
 
--- a new pair may come behind all
+-- a new pair may be added at the end
 pub added_points : (heap : ℕ) (pair : Pair) (pairs : List Pair) (slots : List (Option Slot)) → Points heap pairs slots → slot_at pair.number slots ≡ None → PointsBut (length pairs) pair.number heap (pairs ++ pair ∷ []) slots
 added_points heap pair pairs slots points new =
     record {

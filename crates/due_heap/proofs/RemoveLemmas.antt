@@ -1,4 +1,4 @@
--- A number is taken out of a heap: the last pair goes where it stood.
+-- Removing a number from a heap: the last pair takes its place.
 use Rattle.std.proofs.Common.{ℕ, ◌<◌, ◌≤◌, ◌≡◌, ◌≢◌, inl, inr, List, [], ◌∷◌, ◌++◌, Option, Some, None, length, set, slice_get, option_map, ap, refl, sym, arith, ◌∙◌}
 use Rattle.std.proofs.lemmas.Bool.{cases_eq}
 use Rattle.std.proofs.lemmas.List.{length-set, get_or_append_left, length_push}
@@ -12,7 +12,7 @@ use Rattle.due_heap.proofs.OrderLemmas.{changed_at}
 use Rattle.due_heap.proofs.PlaceLemmas.{slot_within, slot-set_same, slot-set_other, get-push_other, get-push_last}
 use Rattle.due_heap.proofs.PointLemmas.{one_place, elsewhere_on}
 
--- a number has left the table, and the last pair its place
+-- a number was removed from the table, and the last pair from the end
 pub record IsTaken (slot : Slot) (number : ℕ) (last : Pair) (pairs : List Pair) (slots slots' : List (Option Slot)) : Type 0 where
   pub kept : IsHeap slot.heap (pairs ++ last ∷ []) slots
   pub there : slot_at number slots ≡ Some slot
@@ -25,22 +25,22 @@ taken_is slot number last pairs all slots split kept there =
 pub taken_listed : (slot : Slot) (number : ℕ) (slots : List (Option Slot)) → slot_at number slots ≡ Some slot → number < length slots
 taken_listed slot number slots there = slot_within slots number slot there
 
--- where it stood
+-- the place of the removed number
 stood : (slot : Slot) (number : ℕ) (last : Pair) (pairs : List Pair) (slots slots' : List (Option Slot)) → IsTaken slot number last pairs slots slots' → slice_get (pairs ++ last ∷ []) slot.at ≡ Some (record { due = slot.due; number = number })
 stood slot number last pairs slots slots' t = t.kept.points.from number slot t.there refl
 
--- a pair that stands before the last one
+-- a pair before the last one
 in_front : (last : Pair) (pairs : List Pair) (i : ℕ) (pair : Pair) → slice_get pairs i ≡ Some pair → slice_get (pairs ++ last ∷ []) i ≡ Some pair
 in_front last pairs i pair found =
     let within = slice_get_within pairs i pair found in
     get-push_other pairs last i (λ e. omega (arith, e, within)) ∙ found
 
--- it is of another number, if it stands elsewhere
+-- a pair at another place has another number
 other_number : (slot : Slot) (number : ℕ) (last : Pair) (pairs : List Pair) (slots slots' : List (Option Slot)) → IsTaken slot number last pairs slots slots' → (i : ℕ) (pair : Pair) → i ≢ slot.at → slice_get (pairs ++ last ∷ []) i ≡ Some pair → pair.number ≢ number
 other_number slot number last pairs slots slots' t i pair other found same =
     other (one_place slot.heap (pairs ++ last ∷ []) slots t.kept.points i slot.at pair (record { due = slot.due; number = number }) found (stood slot number last pairs slots slots' t) same)
 
--- what the table still has, it had
+-- the table had each entry that remains
 had : (slot : Slot) (number : ℕ) (last : Pair) (pairs : List Pair) (slots slots' : List (Option Slot)) → IsTaken slot number last pairs slots slots' → (n : ℕ) → n ≢ number → slot_at n slots' ≡ slot_at n slots
 had slot number last pairs slots slots' t n other = ap (slot_at n) t.gone ∙ slot-set_other slots number None n other
 
@@ -48,7 +48,7 @@ left : (slot : Slot) (number : ℕ) (last : Pair) (pairs : List Pair) (slots slo
 left slot number last pairs slots slots' t =
     ap (slot_at number) t.gone ∙ slot-set_same slots number None (taken_listed slot number slots t.there)
 
--- a number that the table still has is another one
+-- a number that remains in the table is another one
 still : (slot : Slot) (number : ℕ) (last : Pair) (pairs : List Pair) (slots slots' : List (Option Slot)) → IsTaken slot number last pairs slots slots' → (n : ℕ) (s : Slot) → slot_at n slots' ≡ Some s → n ≢ number
 still slot number last pairs slots slots' t n s found same =
     none-some s (sym (left slot number last pairs slots slots' t) ∙ sym (ap (λ m. slot_at m slots') same) ∙ found)
@@ -66,7 +66,7 @@ taken_elsewhere slot number last pairs slots slots' t =
           sym (had slot number last pairs slots slots' t n (still slot number last pairs slots slots' t n s found)) ∙ found;
     }
 
--- a number that the table still has, and that is not of the last pair, stands in front of it
+-- a number that remains in the table, other than that of the last pair, is before the last pair
 stands_still : (slot : Slot) (number : ℕ) (last : Pair) (pairs : List Pair) (slots slots' : List (Option Slot)) → IsTaken slot number last pairs slots slots' → (n : ℕ) (s : Slot) → n ≢ last.number → slot_at n slots' ≡ Some s → s.heap ≡ slot.heap → slice_get pairs s.at ≡ Some (record { due = s.due; number = n })
 stands_still slot number last pairs slots slots' t n s not_last found is =
     let old = sym (had slot number last pairs slots slots' t n (still slot number last pairs slots slots' t n s found)) ∙ found in
@@ -101,7 +101,7 @@ last_listed slot number last pairs slots slots' t =
     let listed = slot_within slots last.number _ (t.kept.points.to (length pairs) last (get-push_last pairs last)) in
     omega (arith, listed, ap length t.gone, length-set slots number None)
 
--- the ranks in front of the last pair stay
+-- the ranks before the last pair don't change
 ranks_in_front : (last : Pair) (pairs : List Pair) (k : ℕ) → k < length pairs → rank_at pairs k ≡ rank_at (pairs ++ last ∷ []) k
 ranks_in_front last pairs k within = ap rank (sym (get_or_append_left pairs (last ∷ []) no_pair k within))
 
@@ -109,7 +109,7 @@ pub front_order : (last : Pair) (pairs : List Pair) (at : ℕ) → IsOrdered (ra
 front_order last pairs at ordered =
     changed_at (rank_at (pairs ++ last ∷ [])) (rank_at pairs) (length (pairs ++ last ∷ [])) (length pairs) at (omega (arith, length_push pairs last)) (λ k within other. ranks_in_front last pairs k within) ordered
 
--- the number left, the last pair has its place, and every other number the one that it had
+-- the number was removed, the last pair has its place, and every other number keeps its own
 pub replaced_places : (slot : Slot) (number : ℕ) (last : Pair) (pairs : List Pair) (slots slots' slots'' : List (Option Slot)) → IsTaken slot number last pairs slots slots' → slot.at < length pairs → Places slot.heap last.number (Some (record { heap = slot.heap; due = last.due })) slots' slots'' → Places slot.heap number None slots slots''
 replaced_places slot number last pairs slots slots' slots'' t front put =
     let last_stands = get-push_last pairs last in
@@ -124,7 +124,7 @@ replaced_places slot number last pairs slots slots' slots'' t front put =
       elsewhere = elsewhere_on slot.heap slots slots' slots'' (taken_elsewhere slot number last pairs slots slots' t) put.elsewhere;
     }
 
--- where the last pair was the number's own, nothing else is left to do
+-- where the last pair was the number's own, nothing else remains to be done
 pub last_kept : (slot : Slot) (number : ℕ) (last : Pair) (pairs : List Pair) (slots slots' : List (Option Slot)) → IsTaken slot number last pairs slots slots' → length pairs ≤ slot.at → IsHeap slot.heap pairs slots'
 last_kept slot number last pairs slots slots' t behind =
     let all = pairs ++ last ∷ [] in

@@ -1,4 +1,4 @@
--- How many pairs at a place of a heap and under it are due by a moment.
+-- The number of pairs at a place of a heap and below it that are due by a moment.
 use Rattle.std.proofs.Common.{◌≡◌, ℕ, zero, suc, ◌+◌, ◌*◌, ◌<◌, ◌≤◌, ◌==◌, inl, inr, List, [], ◌∷◌, Bool, true, false, cond, nat_le, All, Some, length, refl, ap, subst, ◌∙◌, arith}
 use Rattle.std.specs.Prelude.{count_by, slice_get}
 use Rattle.std.proofs.lemmas.Bool.{cond-true, cond-false, eq-eqb, ne_eqb}
@@ -91,7 +91,7 @@ count_due moment at pairs pair there is_due =
     let one : ◌≡◌ {A = ℕ} (cond (nat_le pair.due moment) 1 0) 1 = cond-true _ _ _ due in
     omega (arith, count_parts moment at pairs, here, one)
 
--- where it is later, nothing at the place and under it is due
+-- where it is later, nothing at the place or below it is due
 pub count_late : (moment at : ℕ) (pairs : List Pair) (pair : Pair) → IsOrdered (rank_at pairs) (length pairs) → All (λ p. p.number < 1048576) pairs
     → slice_get pairs at ≡ Some pair → moment < pair.due → count_under moment at pairs ≡ 0
 unfolding count_under
@@ -109,7 +109,7 @@ count_late moment at pairs pair ordered few there late =
           cond-false _ _ _ past
     ])
 
--- behind the last place there is nothing
+-- past the last place there is nothing
 pub count_past : (moment at : ℕ) (pairs : List Pair) → length pairs ≤ at → count_under moment at pairs ≡ 0
 unfolding count_under
 count_past moment at pairs past =

@@ -1,4 +1,4 @@
--- The table has as many that are due in a heap as the heap has.
+-- The table counts as many numbers that are due in a heap as the heap counts pairs.
 use Rattle.std.proofs.Common.{◌≡◌, ◌≢◌, ℕ, zero, suc, ◌+◌, ◌-◌, ◌≤◌, ◌==◌, ◌&&◌, inl, inr, List, [], ◌∷◌, Bool, true, false, cond, nat_le, Option, Some, None, map, refl, sym, ap, ◌∙◌, arith}
 use Rattle.std.specs.Prelude.{count_by, option_map, slice_get}
 use Rattle.std.specs.Option.{option_and_then}
@@ -10,7 +10,7 @@ use Rattle.due_heap.specs.Keeping.{Points, place_of, slot_at}
 use Rattle.due_heap.specs.declared.pair.Pair.{Pair}
 use Rattle.due_heap.specs.declared.pair.Slot.{Slot}
 
--- a count that differs from another at one place alone
+-- a count that differs from another at only one place
 abbrev Table : Type 0
 Table = List (Option Slot)
 
@@ -46,7 +46,7 @@ count_false : (slots : Table) → count_by (λ o. false) slots ≡ 0
 count_false [] = refl
 count_false (o ∷ slots) = let more = sum_by-cons (λ x. cond false 1 0) o slots in omega (arith, more, count_false slots)
 
--- it stands in the heap, at this place or behind it, and is due by the moment
+-- it is in the heap, at this place or after it, and due by the moment
 is_from : ℕ → ℕ → ℕ → Option Slot → Bool
 is_from heap moment k None = false
 is_from heap moment k (Some slot) = (slot.heap == heap) && (nat_le k slot.at && nat_le slot.due moment)
@@ -70,7 +70,7 @@ none_from heap moment k slots points n (Some slot) there = elim (cases_Bool ((sl
   | inr not ↦ not
 ]
 
--- behind the first pair
+-- after the first pair
 points_next : (k heap : ℕ) (pair : Pair) (pairs : List Pair) (slots : Table) → PointsFrom k heap (pair ∷ pairs) slots → PointsFrom (suc k) heap pairs slots
 points_next k heap pair pairs slots points = record {
   to = λ i p found.
@@ -85,7 +85,7 @@ number_in : Option Pair → ℕ
 number_in None = 0
 number_in (Some pair) = pair.number
 
--- another number than the first pair's stands at its place or behind it where it stands behind it
+-- another number than the first pair's is at its place or after it exactly where it is after it
 other_from : (heap moment k : ℕ) (pair : Pair) (pairs : List Pair) (slots : Table) → PointsFrom k heap (pair ∷ pairs) slots
     → (n : ℕ) (o : Option Slot) → n ≢ pair.number → slice_get slots n ≡ Some o → is_from heap moment k o ≡ is_from heap moment (suc k) o
 unfolding is_from number_in
@@ -141,7 +141,7 @@ one_place heap moment (Some slot) =
     let bound : nat_le 0 slot.at ≡ true = grind (arith, nat_tests) in
     ap (λ b. (slot.heap == heap) && (b && nat_le slot.due moment)) (sym bound)
 
--- the table, seen as places
+-- the table as places
 as_places : (heap moment : ℕ) (slots : Table) → count_by (is_due_in heap moment) (map (option_map place_of) slots) ≡ count_by (is_from heap moment 0) slots
 unfolding is_from
 as_places heap moment [] = refl

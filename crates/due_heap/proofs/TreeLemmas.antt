@@ -1,11 +1,11 @@
--- Places of a heap and what stands under them: under the place p stand 2p + 1 and 2p + 2.
+-- Places of a heap and the places below them: the children of the place p are 2p + 1 and 2p + 2.
 use Rattle.std.proofs.Common.{◌≡◌, ◌≢◌, ℕ, zero, suc, ◌+◌, ◌-◌, ◌*◌, ◌/◌, ◌<◌, ◌≤◌, ◌==◌, ◌⊎◌, inl, inr, true, false, cond, nat_lt, refl, sym, ap, ◌∙◌, arith}
 use Rattle.std.proofs.lemmas.Bool.{cases_eq, cases_lt, cond-true, cond-false, eq-eqb, ne_eqb}
 use Rattle.std.proofs.lemmas.Bool.Decides.{nat_tests}
 use Rattle.due_heap.specs.Counting.{under, under_in}
 use Rattle.due_heap.specs.Order.{IsOrdered}
 
--- the place itself, those before it, those behind it
+-- the place itself, the earlier ones, the later ones
 itself_in : (steps at : ℕ) → under_in (suc steps) at at ≡ 1
 unfolding under_in
 itself_in steps at = cond-true _ _ _ (eq-eqb at at refl)
@@ -25,7 +25,7 @@ behind_in steps at i more =
     let behind : nat_lt i at ≡ false = grind (arith, nat_tests) in
     rw (other, behind) refl
 
--- steps that are left over change nothing
+-- more steps than necessary change nothing
 more_steps : (steps more at i : ℕ) → i < steps → under_in (steps + more) at i ≡ under_in steps at i
 more_steps zero more at i few = absurd (omega arith)
 more_steps (suc steps) more at i few = elim (cases_eq i at) [
@@ -59,14 +59,14 @@ behind at i more =
     let spare : i ≡ suc above + (i - suc above) = omega arith in
     behind_in i at i more ∙ ap (λ n. under_in n at above) spare ∙ more_steps (suc above) (i - suc above) at above (omega arith)
 
--- 1 where two places are the same, and else 0
+-- 1 where two places are equal, and else 0
 one_at : (at i : ℕ) → i ≡ at → ◌≡◌ {A = ℕ} (cond (i == at) 1 0) 1
 one_at at i same = cond-true _ _ _ (eq-eqb i at same)
 
 none_at : (at i : ℕ) → i ≢ at → ◌≡◌ {A = ℕ} (cond (i == at) 1 0) 0
 none_at at i other = cond-false _ _ _ (ne_eqb i at other)
 
--- a place, and what stands under it, are the place and what stands under the two below it
+-- a place and all below it are the place, its two children, and all below these
 parts_behind : (at i : ℕ) → at < i
     → under at ((i - 1) / 2) ≡ cond ((i - 1) / 2 == at) 1 0 + (under (at * 2 + 1) ((i - 1) / 2) + under (at * 2 + 2) ((i - 1) / 2))
     → under at i ≡ cond (i == at) 1 0 + (under (at * 2 + 1) i + under (at * 2 + 2) i)
@@ -116,7 +116,7 @@ parts_to (suc steps) at i few = elim (cases_lt at i) [
 pub parts : (at i : ℕ) → under at i ≡ cond (i == at) 1 0 + (under (at * 2 + 1) i + under (at * 2 + 2) i)
 parts at i = parts_to (suc i) at i (omega arith)
 
--- all places stand under the first
+-- all places are the first or below it
 all_to : (steps i : ℕ) → i < steps → under 0 i ≡ 1
 all_to zero i few = absurd (omega arith)
 all_to (suc steps) i few = elim (cases_eq i 0) [
@@ -127,7 +127,7 @@ all_to (suc steps) i few = elim (cases_eq i 0) [
 pub all : (i : ℕ) → under 0 i ≡ 1
 all i = all_to (suc i) i (omega arith)
 
--- what stands under a place is not less than it
+-- no place below a place is less than it
 least_to : (f : ℕ → ℕ) (n steps at i : ℕ) → IsOrdered f n → i < n → i < steps → (under at i ≡ 0) ⊎ (f at ≤ f i)
 least_to f n zero at i ordered within few = absurd (omega arith)
 least_to f n (suc steps) at i ordered within few = elim (cases_eq i at) [
@@ -146,7 +146,7 @@ least_to f n (suc steps) at i ordered within few = elim (cases_eq i at) [
 pub least_under : (f : ℕ → ℕ) (n at i : ℕ) → IsOrdered f n → i < n → (under at i ≡ 0) ⊎ (f at ≤ f i)
 least_under f n at i ordered within = least_to f n (suc i) at i ordered within (omega arith)
 
--- a place stands under another once at most
+-- a place is below another at most once
 one_in : (steps at i : ℕ) → under_in steps at i ≤ 1
 unfolding under_in
 one_in zero at i = omega arith

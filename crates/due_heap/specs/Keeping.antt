@@ -1,4 +1,4 @@
--- How heaps are kept: lists of pairs, and a table that gives each number's place.
+-- The representation of the heaps: lists of pairs, and a table with each number's place.
 use Rattle.std.specs.Prelude.{ℕ, ◌≡◌, ◌≢◌, ◌<◌, ◌≤◌, List, Option, Some, length, option_map, slice_get, vec_len}
 use Rattle.std.specs.Option.{option_and_then}
 use Rattle.std.specs.Vec.{vec_capacity}
@@ -10,7 +10,7 @@ use Rattle.due_heap.specs.declared.pair.Room.{Room}
 use Rattle.due_heap.specs.Heaps.{Place}
 use Rattle.due_heap.specs.Order.{rank_at, IsOrdered}
 
--- what the table says of a number
+-- the table's entry of a number
 abbrev pub slot_at : ℕ → List (Option Slot) → Option Slot
 slot_at number slots = option_and_then (λ slot. slot) (slice_get slots number)
 
@@ -25,7 +25,7 @@ pub record Points (heap : ℕ) (pairs : List Pair) (slots : List (Option Slot)) 
   pub to : (i : ℕ) (pair : Pair) → slice_get pairs i ≡ Some pair → slot_at pair.number slots ≡ Some (record { heap = heap; at = i; due = pair.due })
   pub from : (number : ℕ) (slot : Slot) → slot_at number slots ≡ Some slot → slot.heap ≡ heap → slice_get pairs slot.at ≡ Some (record { due = slot.due; number = number })
 
--- the same but at one place, where a pair of this number is to come
+-- the same except at one place, which a pair of this number will get
 pub record PointsBut (at number heap : ℕ) (pairs : List Pair) (slots : List (Option Slot)) : Type 0 where
   pub to : (i : ℕ) (pair : Pair) → i ≢ at → slice_get pairs i ≡ Some pair → slot_at pair.number slots ≡ Some (record { heap = heap; at = i; due = pair.due })
   pub apart : (i : ℕ) (pair : Pair) → i ≢ at → slice_get pairs i ≡ Some pair → pair.number ≢ number
@@ -33,7 +33,7 @@ pub record PointsBut (at number heap : ℕ) (pairs : List Pair) (slots : List (O
   pub off : (n : ℕ) (slot : Slot) → n ≢ number → slot_at n slots ≡ Some slot → slot.heap ≡ heap → slot.at ≢ at
   pub own : (slot : Slot) → slot_at number slots ≡ Some slot → slot.heap ≡ heap
 
--- the table says the same of what stands in other heaps
+-- the table is unchanged for the pairs of other heaps
 pub record SameElsewhere (heap : ℕ) (old new : List (Option Slot)) : Type 0 where
   pub length : length new ≡ length old
   pub stays : (n : ℕ) (slot : Slot) → slot.heap ≢ heap → slot_at n old ≡ Some slot → slot_at n new ≡ Some slot
@@ -46,24 +46,24 @@ pub record Rearranges (heap : ℕ) (pairs : List Pair) (slots : List (Option Slo
   pub places : (n : ℕ) → place_at n slots' ≡ place_at n slots
   pub elsewhere : SameElsewhere heap slots slots'
 
--- a number of a heap has this place, and every other number the place that it had
+-- a number of a heap has this place, and every other number keeps its place
 pub record Places (heap number : ℕ) (place : Option Place) (old new : List (Option Slot)) : Type 0 where
   pub here : place_at number new ≡ place
   pub others : (n : ℕ) → n ≢ number → place_at n new ≡ place_at n old
   pub elsewhere : SameElsewhere heap old new
 
--- a heap as it is kept
+-- a heap in its representation
 pub record IsHeap (heap : ℕ) (pairs : List Pair) (slots : List (Option Slot)) : Type 0 where
   pub points : Points heap pairs slots
   pub order : IsOrdered (rank_at pairs) (length pairs)
 
--- all heaps as they are kept
+-- all heaps in their representation
 pub record AreHeaps (heaps : List (Vec Pair Global)) (slots : List (Option Slot)) : Type 0 where
   pub few : length slots ≤ 1048576
   pub known : (n : ℕ) (slot : Slot) → slot_at n slots ≡ Some slot → slot.heap < length heaps
   pub each : (h : ℕ) (v : Vec Pair Global) → slice_get heaps h ≡ Some v → IsHeap h v.items slots
 
--- there is room for one more pair of a number in a heap
+-- room for one more pair of a number in a heap is reserved
 pub record HasRoom (heaps : List (Vec Pair Global)) (slots : List (Option Slot)) (room : Room) : Type 0 where
   pub heap : room.heap < length heaps
   pub number : room.number < length slots

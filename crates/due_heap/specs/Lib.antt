@@ -1,3 +1,4 @@
+-- The specs of due_heap.
 pub mod Counting
 pub mod Heaps
 pub mod Keeping

@@ -1,4 +1,4 @@
-//! How many pairs of a heap are due by a moment: only these are looked at, and those that stand next to them.
+//! Counts the pairs of a heap that are due by a moment. Visits only these and their children.
 
 ghost use Rattle.std.specs.Prelude.{◌≡◌, ◌<◌, ◌≤◌, ◌^◌, All, length};
 ghost use Rattle.due_heap.specs.Counting.{count_under};
@@ -6,7 +6,7 @@ ghost use Rattle.due_heap.specs.Order.{rank_at, IsOrdered};
 
 use crate::pair::Pair;
 
-/// How many at this place and under it are due by this moment: under one that is later, none is.
+/// The number of pairs at this place and below it that are due by this moment. Below a later pair, none is due.
 pub fn count_under(pairs: &[Pair], at: usize, moment: u64) -> u64
     requires order { IsOrdered (rank_at pairs.now) (length pairs.now) }
     requires few { All (λ pair. pair.number < 1048576) pairs.now }

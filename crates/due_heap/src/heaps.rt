@@ -1,4 +1,4 @@
-//! All heaps, and the table of the numbers: the heap of each, its place there, and its due moment.
+//! All heaps, and the table of the numbers: each number's heap, its place there, and its due moment.
 
 ghost use Rattle.std.specs.Prelude.{◌≡◌, ℕ, ◌+◌, ◌<◌, [], Some, None, count_by, option_map, IsSome, OnOk, OnErr, IfOk};
 ghost use Rattle.due_heap.specs.Counting.{is_due_in};
@@ -11,14 +11,14 @@ use as4_values::NoMemory;
 use std::alloc::Global;
 use std::marker::Model;
 
-/// Heaps of pairs of a due moment and a number below 1,048,576. A number stands in at most one of them.
+/// Heaps of pairs of a due moment and a number below 1,048,576. A number is in at most one of them.
 #[derive(Drop)]
 pub struct Heaps {
     alloc: Global,
     heaps: Vec<Vec<Pair>>,
     /// By number.
     slots: Vec<Option<Slot>>,
-    /// For which number in which heap there is room for one more pair.
+    /// The number and the heap for which room for one more pair is reserved.
     room: Option<Room>,
 }
 
@@ -46,7 +46,7 @@ impl Heaps {
         }
     }
 
-    /// How many heaps there are.
+    /// The number of heaps.
     pub fn count(&self) -> u64
         ensures value { result ≡ self.now.count }
         ensures known { (number : ℕ) (place : Place) → standing_at number self.now ≡ Some place → place.heap < self.now.count }
@@ -54,7 +54,7 @@ impl Heaps {
         self.heaps.len() as u64
     }
 
-    /// In which heap a number stands, and when it is due.
+    /// The heap of a number, and when the number is due.
     pub fn place(&self, number: u64) -> Option<(u64, u64)>
         ensures { result ≡ option_map (λ place. (place.heap, place.due)) (standing_at number self.now) }
     {
@@ -62,7 +62,7 @@ impl Heaps {
         Some((slot.heap as u64, slot.due))
     }
 
-    /// Adds an empty heap, and answers its place.
+    /// Adds an empty heap, and returns its place.
     pub fn add(&mut self) -> Result<u64, NoMemory>
         ensures place { IfOk result (λ heap. heap ≡ self.old.count) }
         ensures count { OnOk result (self.new.count ≡ self.old.count + 1) }
@@ -75,7 +75,7 @@ impl Heaps {
         Ok(place)
     }
 
-    /// Makes room for one pair of this number in this heap. Room for another pair ends.
+    /// Reserves room for one pair of this number in this heap. An earlier reservation ends.
     pub fn reserve(&mut self, heap: u64, number: u64) -> Result<(), NoMemory>
         requires heap { heap < self.old.count }
         requires number { number < 1048576 }
@@ -92,7 +92,7 @@ impl Heaps {
         Ok(())
     }
 
-    /// Adds a pair where there is room for it; takes no memory. The room is used up.
+    /// Adds a pair where room for it is reserved; takes no memory. The reservation is used up.
     pub fn insert(&mut self, heap: u64, due: u64, number: u64)
         requires room { self.old.room ≡ Some (record { heap = heap; number = number }) }
         requires new { standing_at number self.old ≡ None }
@@ -109,7 +109,7 @@ impl Heaps {
         );
     }
 
-    /// Gives a number another due moment; takes no memory. The room stays.
+    /// Sets another due moment of a number; takes no memory. The reservation remains.
     pub fn set_due(&mut self, number: u64, due: u64)
         requires there { IsSome (standing_at number self.old) }
         ensures placed { Sets number (option_map (with_due due) (standing_at number self.old)) self.old self.new }
@@ -124,7 +124,7 @@ impl Heaps {
         );
     }
 
-    /// Takes a number out of its heap. The room stays.
+    /// Removes a number from its heap. The reservation remains.
     pub fn remove(&mut self, number: u64)
         requires there { IsSome (standing_at number self.old) }
         ensures gone { Sets number None self.old self.new }
@@ -139,7 +139,7 @@ impl Heaps {
         );
     }
 
-    /// The pair of the heap that is due first; of several due at once the one of the least number.
+    /// The pair of the heap that is due first; of several due at once, the one with the least number.
     pub fn least(&self, heap: u64) -> Option<(u64, u64)>
         requires { heap < self.now.count }
         ensures { IsLeastOf (HasPair self.now heap) result }
@@ -147,7 +147,7 @@ impl Heaps {
         one::least(self.heaps[heap as usize].as_slice())
     }
 
-    /// The same where a number is left out.
+    /// The same without the pair of this number.
     pub fn least_without(&self, heap: u64, number: u64) -> Option<(u64, u64)>
         requires { heap < self.now.count }
         ensures { IsLeastOf (HasPairBut self.now heap number) result }
@@ -155,7 +155,7 @@ impl Heaps {
         one::least_without(self.heaps[heap as usize].as_slice(), number)
     }
 
-    /// How many pairs of the heap are due by this moment. Looks at these, and at those that stand right under them.
+    /// The number of pairs of the heap that are due by this moment. Visits only these and their children.
     pub fn count_due(&self, heap: u64, moment: u64) -> u64
         requires { heap < self.now.count }
         ensures { result ≡ count_by (is_due_in heap moment) self.now.places }

@@ -1,5 +1,5 @@
-//! How a pair finds its place in a heap. Under the place p stand the places 2p + 1 and 2p + 2, and none comes before the
-//! one that it stands under.
+//! Moves a pair to its place in a heap. The children of the place p are the places 2p + 1 and 2p + 2, and no child
+//! comes before its parent.
 
 ghost use Rattle.std.specs.Prelude.{◌≡◌, ◌≢◌, ℕ, ◌+◌, ◌*◌, ◌<◌, ◌≤◌, All, length, slice_set, swap};
 ghost use Rattle.due_heap.specs.Order.{rank_at, IsOrdered, IsOrderedBut, IsUpToUnder, IsFromAbove};
@@ -63,7 +63,7 @@ fn sink(heap: usize, pairs: &mut [Pair], slots: &mut [Option<Slot>], mut at: usi
     }
 }
 
-/// Two pairs of a heap change places, in the table too.
+/// Exchanges two pairs of a heap, in the table too.
 fn exchange(heap: usize, pairs: &mut [Pair], slots: &mut [Option<Slot>], a: usize, b: usize)
     requires points { Points heap pairs.old slots.old }
     requires a { a < length pairs.old }
@@ -77,7 +77,7 @@ fn exchange(heap: usize, pairs: &mut [Pair], slots: &mut [Option<Slot>], a: usiz
     note(heap, b, pairs[b], slots);
 }
 
-/// Notes in the table where a pair stands.
+/// Writes into the table where a pair is.
 pub fn note(heap: usize, at: usize, pair: Pair, slots: &mut [Option<Slot>])
     requires { pair.number < length slots.old }
     ensures { slots.new ≡ slice_set slots.old pair.number (Some (record { heap = heap; at = at; due = pair.due })) }
@@ -89,7 +89,7 @@ pub fn note(heap: usize, at: usize, pair: Pair, slots: &mut [Option<Slot>])
     });
 }
 
-/// Of the places under this one, the one whose pair comes first.
+/// Of the children of this place, the one whose pair comes first.
 pub fn lesser_under(pairs: &[Pair], at: usize) -> usize
     requires few { All (λ pair. pair.number < 1048576) pairs.now }
     requires under { at * 2 + 1 < length pairs.now }

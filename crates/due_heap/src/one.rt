@@ -23,14 +23,14 @@ pub fn list(slots: &mut Vec<Option<Slot>>, number: u64) -> Result<(), NoMemory>
     Ok(())
 }
 
-/// Where a number stands.
+/// The slot of a number.
 pub fn find(slots: &[Option<Slot>], number: u64) -> Option<Slot>
     ensures { result ≡ slot_at number slots.now }
 {
     *slots.get(number as usize)?
 }
 
-/// The same of a number that stands in a heap.
+/// The same for a number that is in a heap.
 pub fn slot_of(slots: &[Option<Slot>], number: u64) -> Slot
     requires { IsSome (slot_at number slots.now) }
     ensures { slot_at number slots.now ≡ Some result }
@@ -41,7 +41,7 @@ pub fn slot_of(slots: &[Option<Slot>], number: u64) -> Slot
     slot
 }
 
-/// Adds a pair to the heap, whose vector has room for it.
+/// Adds a pair to the heap. Its vector has room for it.
 pub fn insert(heap: usize, pairs: &mut Vec<Pair>, slots: &mut [Option<Slot>], pair: Pair)
     requires kept { IsHeap heap pairs.old.items slots.old }
     requires few { length slots.old ≤ 1048576 }
@@ -56,7 +56,7 @@ pub fn insert(heap: usize, pairs: &mut Vec<Pair>, slots: &mut [Option<Slot>], pa
     put(heap, pairs.as_mut_slice(), slots, at, pair);
 }
 
-/// Gives a number of the heap another due moment.
+/// Sets another due moment of a number of the heap.
 pub fn set_due(pairs: &mut [Pair], slots: &mut [Option<Slot>], slot: Slot, pair: Pair)
     requires kept { IsHeap slot.heap pairs.old slots.old }
     requires few { length slots.old ≤ 1048576 }
@@ -67,7 +67,7 @@ pub fn set_due(pairs: &mut [Pair], slots: &mut [Option<Slot>], slot: Slot, pair:
     put(slot.heap, pairs, slots, slot.at, pair);
 }
 
-/// Takes a number out of the heap.
+/// Removes a number from the heap.
 pub fn remove(pairs: &mut Vec<Pair>, slots: &mut [Option<Slot>], slot: Slot, number: u64)
     requires kept { IsHeap slot.heap pairs.old.items slots.old }
     requires few { length slots.old ≤ 1048576 }
@@ -86,7 +86,7 @@ pub fn remove(pairs: &mut Vec<Pair>, slots: &mut [Option<Slot>], slot: Slot, num
     }
 }
 
-/// Puts a pair at this place of the heap and in the table, and then where it belongs.
+/// Writes a pair to this place of the heap and into the table, and then moves it to where it belongs.
 fn put(heap: usize, pairs: &mut [Pair], slots: &mut [Option<Slot>], at: usize, pair: Pair)
     requires points { PointsBut at pair.number heap pairs.old slots.old }
     requires order { IsOrderedBut at (rank_at pairs.old) (length pairs.old) }
@@ -111,7 +111,7 @@ pub fn least(pairs: &[Pair]) -> Option<(u64, u64)>
     Some((first.due, first.number))
 }
 
-/// The pair that comes first where a number is left out.
+/// The same without the pair of this number.
 pub fn least_without(pairs: &[Pair], number: u64) -> Option<(u64, u64)>
     requires order { IsOrdered (rank_at pairs.now) (length pairs.now) }
     requires few { All (λ pair. pair.number < 1048576) pairs.now }

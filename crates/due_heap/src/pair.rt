@@ -1,3 +1,5 @@
+//! The entries of a heap and of its table.
+
 ghost use Rattle.std.specs.Prelude.{◌<◌, ◌↔◌, IsTrue};
 ghost use Rattle.due_heap.specs.Order.{rank};
 
@@ -8,7 +10,7 @@ pub struct Pair {
     pub number: u64,
 }
 
-/// Where a number stands: in which heap, at which place of it, and when it is due.
+/// Where a number is: its heap, its place in the heap, and when it is due.
 #[derive(Clone, Copy)]
 pub struct Slot {
     pub heap: usize,
@@ -16,14 +18,14 @@ pub struct Slot {
     pub due: u64,
 }
 
-/// For which number there is room, and in which heap.
+/// A reservation: the number that it is for, and the heap.
 #[derive(Clone, Copy)]
 pub struct Room {
     pub heap: usize,
     pub number: u64,
 }
 
-/// Whether it is due first; of two due at once whether it has the smaller number.
+/// Whether it is due first; of two due at once, whether it has the smaller number.
 pub fn is_before(pair: Pair, other: Pair) -> bool
     requires number { pair.number < 1048576 }
     requires other { other.number < 1048576 }

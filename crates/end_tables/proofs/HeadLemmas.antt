@@ -1,4 +1,4 @@
--- The head of a queue is the head among what waits.
+-- The head of a queue is the head among the waiting submissions.
 use Rattle.std.proofs.Common.{◌≡◌, ℕ, List, [], ◌∷◌, Bool, true, false, cond, ◌&&◌, nat_le, nat_lt, Option, Some, None, option_map, map, refl, ap, sym, ◌∙◌, IsTrue, ◌==◌}
 use Rattle.std.specs.Option.{IfSome}
 use Rattle.std.specs.List.{filter}
@@ -59,12 +59,12 @@ head_is q end =
     ∙ ap (option_map (λ (w : Waiting). w.number)) (first_least-map (λ (w : Waiting). w.due) waiting_of (filter (λ s. is_ready end.moment s && is_in q s) end.sent))
     ∙ option_map-option_map (λ (w : Waiting). w.number) waiting_of (first_least due (filter (λ s. is_ready end.moment s && is_in q s) end.sent))
 
--- what the queues say of what waits is the number of the head
+-- the queues give the number of the head
 pub head_shown : (q : Queue) (end : End) (waiting : List Waiting) (r : Option ℕ) → r ≡ head_in q end.moment waiting → waiting ≡ waiting_in end.sent
     → r ≡ option_map (λ (s : Sent). s.submission.number) (head_of q end)
 head_shown q end waiting r e step = e ∙ ap (head_in q end.moment) step ∙ head_is q end
 
--- a submission is the same whatever its mark is
+-- a change of the mark doesn't change the submission
 marked_same : (n k : ℕ) (m : Mark) (sent : List Sent)
     → option_map (λ (s : Sent). s.submission) (sent_at k (changed n (marked m) sent)) ≡ option_map (λ (s : Sent). s.submission) (sent_at k sent)
 unfolding changed
@@ -83,7 +83,7 @@ marked_same n k m (s ∷ sent) = by_number (s.submission.number == n) (marked_sa
     by_number true rest = by_test (marked m s) (s.submission.number == k) (sent_at k (changed n (marked m) sent)) (sent_at k sent) rest refl
     by_number false rest = by_test s (s.submission.number == k) (sent_at k (changed n (marked m) sent)) (sent_at k sent) rest refl
 
--- without the one that is receipted, the queues say the number of the head behind its receipt
+-- without the receipted one, the queues give the number of the head after its receipt
 pub behind_shown : (q : Queue) (n : ℕ) (end : End) (waiting : List Waiting) (r : Option ℕ) → r ≡ head_in q end.moment (without n waiting)
     → waiting ≡ waiting_in end.sent → AreNumberedFrom 0 end.sent → IsTrue (is_fit (effect.Receipted n) end)
     → r ≡ option_map (λ (s : Sent). s.submission.number) (head_of q (after (effect.Receipted n) end))
@@ -92,7 +92,7 @@ behind_shown q n end waiting r e step stand fit =
     head_shown q (after (effect.Receipted n) end) (without n waiting) r e
     (settled_step n mark.Receipted end.sent (changed n (marked mark.Receipted) end.sent) waiting (without n waiting) refl step stand fit refl refl)
 
--- and the one of that number is the head's submission
+-- and the submission of that number is the head's
 pub behind_found : (q : Queue) (n : ℕ) (end : End) (r : Option ℕ) → AreNumberedFrom 0 end.sent
     → r ≡ option_map (λ (s : Sent). s.submission.number) (head_of q (after (effect.Receipted n) end))
     → IfSome r (λ k. option_map (λ (s : Sent). s.submission) (sent_at k end.sent)

@@ -12,7 +12,7 @@ use Rattle.as4_effects.specs.declared.mark.Mark.TheVariants as mark
 use Rattle.exchange_model.specs.declared.sent.Sent.{Sent}
 use Rattle.end_tables.specs.Rooms.{HasRoom, IsThere, Rooms, TakesNoRoom, queue_at, queue_for, queue_of_sent}
 
--- a test that looks at what was handed in alone
+-- a test that depends only on the submission, not on its state
 abbrev pub Sees : {X : Type 0} → (Option Sent → X) → Type 0
 Sees h = (s t : Sent) → t.submission ≡ s.submission → h (Some t) ≡ h (Some s)
 
@@ -47,7 +47,7 @@ queue_sees s t same = ap (λ (x : Submission). queue_of x.route) same
 pub tried_queue : (n moment k : ℕ) (sent : List Sent) → queue_at k (changed n (tried moment) sent) ≡ queue_at k sent
 tried_queue n moment k sent = changed_kept queue_of_sent queue_sees n (tried moment) (λ s. refl) k sent
 
--- an effect that takes no room leaves what was handed in under each number
+-- an effect that takes no room doesn't change the submission of any number
 kept_at : {X : Type 0} (h : Option Sent → X) → Sees h → (e : Effect) (end : End) (k : ℕ) → TakesNoRoom e
     → h (sent_at k (after e end).sent) ≡ h (sent_at k end.sent)
 unfolding TakesNoRoom after
@@ -62,7 +62,7 @@ kept_at h sees (effect.Confirmed upto) end k none = refl
 kept_at h sees (effect.Carried carried) end k none = absurd none
 kept_at h sees (effect.Kept kept) end k none = absurd none
 
--- an effect that takes no room leaves the queue of each effect as it is
+-- an effect that takes no room doesn't change the queue of any effect
 pub kept_queue : (e f : Effect) (end : End) → TakesNoRoom e → queue_for (after e end).sent f ≡ queue_for end.sent f
 unfolding queue_for
 kept_queue e (effect.Submitted submission) end h = refl
@@ -75,7 +75,7 @@ kept_queue e (effect.Confirmed upto) end h = refl
 kept_queue e (effect.Carried carried) end h = refl
 kept_queue e (effect.Kept kept) end h = refl
 
--- what is sent again behind such an effect was there before
+-- a submission that is sent again after such an effect existed before it
 pub there_before : (e f : Effect) (end : End) → TakesNoRoom e → IsThere (after e end).sent f → IsThere end.sent f
 unfolding IsThere
 there_before e (effect.Tried number) end h there = sym (kept_at is_some (λ s t same. refl) e end number h) ∙ there
@@ -92,7 +92,7 @@ is_there : (test : Sent → Bool) (o : Option Sent) → is_one test o ≡ true �
 is_there test None e = absurd cc
 is_there test (Some s) e = refl
 
--- and what fits is there
+-- and an effect that fits has its submission
 pub fit_there : (e : Effect) (end : End) → is_fit e end ≡ true → IsThere end.sent e
 unfolding IsThere is_fit
 fit_there (effect.Tried number) end fit = is_there is_waiting (sent_at number end.sent) fit
@@ -105,7 +105,7 @@ fit_there (effect.Confirmed upto) end fit = tt
 fit_there (effect.Carried carried) end fit = tt
 fit_there (effect.Kept kept) end fit = tt
 
--- room that there is stays behind an effect that takes none
+-- an effect that takes no room keeps the room that there is
 pub room_stays : (e f : Effect) (end : End) (rooms : Rooms) → TakesNoRoom e → HasRoom rooms end.sent f → HasRoom rooms (after e end).sent f
 unfolding HasRoom
 room_stays e (effect.Tried number) end rooms h room =

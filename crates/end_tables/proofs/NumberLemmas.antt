@@ -20,12 +20,12 @@ found_is sent h None there (Some n) e = cc
 found_is sent h (Some s) there None e = tt
 found_is sent h (Some s) there (Some n) e = rw (same_Some n s.submission.number e) (itself 0 sent s h (there s refl))
 
--- the one of the number of a queue's head is the head
+-- the number of a queue's head finds the head
 pub head_found : (q : Queue) (end : End) (r : Option ℕ) → AreNumberedFrom 0 end.sent
     → r ≡ option_map (λ (s : Sent). s.submission.number) (head_of q end) → IfSome r (λ n. sent_at n end.sent ≡ head_of q end)
 head_found q end r h e = found_is end.sent h (head_of q end) (λ s found. (head_has q end s found).0) r e
 
--- the one of the number of an identifier's is that one
+-- the number of an identifier's submission finds that submission
 pub id_found : (id : List ℕ) (sent : List Sent) (r : Option ℕ) → AreNumberedFrom 0 sent
     → r ≡ option_map (λ (s : Sent). s.submission.number) (sent_of id sent) → IfSome r (λ n. sent_at n sent ≡ sent_of id sent)
 id_found id sent r h e = found_is sent h (sent_of id sent) (λ s found. (sent_of_has id sent s found).0) r e
@@ -35,7 +35,7 @@ unfolding AreNumberedFrom
 few_from n [] h l = omega arith
 few_from n (s ∷ sent) h l = omega (arith, few_from (suc n) sent h.1 (omega (arith, h.0, s.submission.numbered)))
 
--- there are at most as many as there are numbers
+-- there are at most as many submissions as numbers
 pub few : (sent : List Sent) → AreNumberedFrom 0 sent → length sent ≤ 1048576
 few sent h = omega (arith, few_from 0 sent h (omega arith))
 
@@ -43,15 +43,15 @@ one_of : (test : Sent → Bool) (k : ℕ) (sent : List Sent) (o : Option Sent) �
 one_of test k sent None e h = cc
 one_of test k sent (Some s) e h = omega (arith, (sent_at_has k sent s e).1, s.submission.numbered)
 
--- where there is one, the number is one of a submission
+-- a number that finds a submission is below the limit
 pub one_is_small : (test : Sent → Bool) (k : ℕ) (sent : List Sent) → IsTrue (is_one test (sent_at k sent)) → k < 1048576
 one_is_small test k sent h = one_of test k sent (sent_at k sent) refl h
 
--- where there is none of a place, there is none of that number
+-- no submission has the number after the last
 pub none_behind : (sent : List Sent) → AreNumberedFrom 0 sent → sent_at (length sent) sent ≡ None
 none_behind sent h = place (length sent) sent h ∙ slice_get_past sent (length sent) (omega arith)
 
--- each stands at its number whatever the marks are
+-- each is at the place of its number, whatever the marks are
 pub marked_numbered : (n : ℕ) (m : Mark) (low : ℕ) (sent : List Sent) → AreNumberedFrom low sent → AreNumberedFrom low (changed n (marked m) sent)
 unfolding AreNumberedFrom changed
 marked_numbered n m low [] h = tt

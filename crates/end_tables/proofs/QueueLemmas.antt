@@ -1,4 +1,4 @@
--- What is put into a list of waiting submissions, and what is taken out.
+-- Inserting into a list of waiting submissions, and removing from it.
 use Rattle.std.proofs.Common.{◌≡◌, ℕ, ◌<◌, ◌≤◌, List, [], ◌∷◌, eqb, not, Some, None, refl, ap, ◌∙◌, arith, sym, inl, inr}
 use Rattle.std.proofs.lemmas.Bool.{eq-eqb, ne_eqb, cond-true, cond-false, lt-ltb, le-ltb, cases_eq}
 use Rattle.std.proofs.lemmas.Option.{none-some}
@@ -28,14 +28,14 @@ pub inserted_after : (w x : Waiting) (xs : List Waiting) → x.number ≤ w.numb
 unfolding inserted
 inserted_after w x xs l = cond-false _ (w ∷ (x ∷ xs)) (x ∷ inserted w xs) (le-ltb w.number x.number l)
 
--- where all stand above, nothing goes
+-- where all are above it, removing it changes nothing
 pub above_without : (k : ℕ) (ws : List Waiting) → AreAbove k ws → without k ws ≡ ws
 unfolding without
 above_without k [] h = refl
 above_without k (w ∷ ws) h =
     without_other k w ws (λ e. omega (arith, h.0)) ∙ ap (λ xs. w ∷ xs) (above_without k ws h.1)
 
--- where all stand above, what comes is first
+-- where all are above it, it is inserted first
 pub above_inserted : (w : Waiting) (ws : List Waiting) → AreAbove w.number ws → inserted w ws ≡ w ∷ ws
 unfolding inserted
 above_inserted w [] h = refl
@@ -46,7 +46,7 @@ above_at k [] h = refl
 above_at k (w ∷ ws) h =
     cond-false _ _ _ (ne_eqb w.number k (λ e. omega (arith, h.0))) ∙ above_at k ws h.1
 
--- what was taken out is gone
+-- a removed one is gone
 pub at_without : (k : ℕ) (ws : List Waiting) → waiting_at k (without k ws) ≡ None
 unfolding without
 at_without k [] = refl
@@ -56,7 +56,7 @@ at_without k (w ∷ ws) =
       | inr d ↦ ap (waiting_at k) (without_other k w ws d) ∙ cond-false _ _ _ (ne_eqb w.number k d) ∙ at_without k ws
     ]
 
--- where it doesn't wait, nothing goes
+-- where it doesn't wait, removing it changes nothing
 pub without_none : (k : ℕ) (ws : List Waiting) → waiting_at k ws ≡ None → without k ws ≡ ws
 unfolding without
 without_none k [] h = refl

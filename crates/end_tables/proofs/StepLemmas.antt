@@ -1,4 +1,4 @@
--- What waits keeps step with what was handed in.
+-- The waiting submissions follow the changes of the submissions.
 use Rattle.std.proofs.Common.{◌≡◌, ℕ, List, [], ◌∷◌, ◌++◌, Bool, IsTrue, true, false, eqb, Option, Some, None, option_map, map, length, ◌&&◌, ◌==◌, nat_le, refl, ap, sym, ◌∙◌, inl, inr}
 use Rattle.std.proofs.lemmas.Bool.{and_parts, cond-true, cond-false, cases_eq, eq-eqb, eqb-true, ne_eqb}
 use Rattle.std.proofs.lemmas.Option.{same_Some}
@@ -22,14 +22,14 @@ use Rattle.exchange_model.proofs.FoundLemmas.{sent_at_has}
 use Rattle.exchange_model.proofs.ListLemmas.{Has}
 use Rattle.exchange_model.proofs.NumberedLemmas.{itself, numbered_push}
 
--- one that isn't there yet doesn't wait
+-- a submission that doesn't exist yet doesn't wait
 pub new_waits : (k : ℕ) (sent : List Sent) (waiting : List Waiting) → waiting ≡ waiting_in sent → AreNumberedFrom 0 sent → k ≡ length sent
     → waiting_at k waiting ≡ None
 new_waits k sent waiting step stand e =
     ap (waiting_at k) step ∙ waiting_there k sent stand
     ∙ ap (λ n. waited (sent_at n sent)) e ∙ ap waited (none_behind sent stand)
 
--- one more is the one of its number
+-- the number of a new submission finds it
 pushed_at : (sent : List Sent) (s : Sent) → AreNumberedFrom 0 sent → s.submission.number ≡ length sent
     → sent_at s.submission.number (sent ++ s ∷ []) ≡ Some s
 pushed_at sent s stand e = itself 0 (sent ++ s ∷ []) s (numbered_push sent s stand e) (last_has sent)
@@ -38,7 +38,7 @@ pushed_at sent s stand e = itself 0 (sent ++ s ∷ []) s (numbered_push sent s s
     last_has [] = inl refl
     last_has (x ∷ xs) = inr (last_has xs)
 
--- and waits in its queue, where it waits
+-- and it waits in its queue, if it waits
 pub pushed_queue : (sent new : List Sent) (s : Sent) (queue : Queue) → AreNumberedFrom 0 sent → s.submission.number ≡ length sent
     → queue ≡ queue_of s.submission.route → new ≡ sent ++ s ∷ [] → queue ≡ queue_at s.submission.number new
 pushed_queue sent new s queue stand e q changes =
@@ -55,7 +55,7 @@ pushed_step sent new s waiting now step stand e changes puts =
     ∙ sym (pushed_waits sent s stand e)
     ∙ ap waiting_in (sym changes)
 
--- none that is given up waited
+-- none that expires was waiting
 pub failed_step : (moment : ℕ) (sent new : List Sent) (waiting : List Waiting) → waiting ≡ waiting_in sent
     → new ≡ map (failed_if_spent moment) sent → waiting ≡ waiting_in new
 failed_step moment sent new waiting step changes = step ∙ sym (failed_waits moment sent) ∙ ap waiting_in (sym changes)
@@ -64,7 +64,7 @@ is_one_waiting : (s : Sent) (queue : Queue) (d k : ℕ) → queue ≡ queue_of s
     → ◌≡◌ {A = Waiting} (waiting_of s) (record { queue = queue; due = d; number = k })
 is_one_waiting s queue d k q e n = cc
 
--- one that waits does so in its queue, until it is due
+-- a waiting one waits in its queue, until it is due
 there_of : (k : ℕ) (o : Option Sent) (queue : Queue) (d : ℕ) → ((s : Sent) → o ≡ Some s → s.submission.number ≡ k) → is_one is_waiting o ≡ true
     → Some d ≡ option_map due o → queue ≡ queue_of_sent o → waited o ≡ Some (record { queue = queue; due = d; number = k })
 there_of k None queue d number w e q = cc
@@ -82,7 +82,7 @@ not_waited : (o : Option Sent) → is_one is_waiting o ≡ false → waited o �
 not_waited None w = refl
 not_waited (Some s) w = cond-false (is_waiting s) (Some (waiting_of s)) None w
 
--- where one doesn't wait, nothing is taken out
+-- where one doesn't wait, nothing is removed
 pub waits_nowhere : (k : ℕ) (sent : List Sent) (waiting : List Waiting) → waiting ≡ waiting_in sent → AreNumberedFrom 0 sent
     → is_one is_waiting (sent_at k sent) ≡ false → waiting ≡ without k waiting
 waits_nowhere k sent waiting step stand w =
@@ -128,7 +128,7 @@ is_there_if : (test : Sent → Bool) (o : Option Sent) → IsTrue (is_one test o
 is_there_if test None h = h
 is_there_if test (Some s) h = refl
 
--- one that was sent and is put back keeps step
+-- one that was sent and put back keeps the queues in step
 pub tried_step : (k moment : ℕ) (sent new : List Sent) (waiting out now : List Waiting) → waiting ≡ waiting_in sent → AreNumberedFrom 0 sent
     → IsTrue (is_one is_waiting (sent_at k sent)) → out ≡ without k waiting → new ≡ changed k (tried moment) sent → now ≡ with_again (sent_at k new) out
     → now ≡ waiting_in new
@@ -145,7 +145,7 @@ marked_gone m None waiting e = refl
 marked_gone m (Some s) waiting e =
     cond-false (is_waiting (marked m s)) (inserted (waiting_of (marked m s)) waiting) waiting (ap (λ b. b && nat_le s.tries s.submission.retries) e)
 
--- one that is settled waits no more
+-- a settled one no longer waits
 pub settled_step : (k : ℕ) (m : Mark) (sent new : List Sent) (waiting now : List Waiting) → is_pending_mark m ≡ false → waiting ≡ waiting_in sent → AreNumberedFrom 0 sent
     → IsTrue (is_one is_pending (sent_at k sent)) → now ≡ without k waiting → new ≡ changed k (marked m) sent → now ≡ waiting_in new
 settled_step k m sent new waiting now settled step stand w takes changes =
@@ -154,7 +154,7 @@ settled_step k m sent new waiting now settled step stand w takes changes =
     ∙ sym (changed_of k (marked m) (λ s. refl) sent stand (sent_at k sent) refl (is_there_if is_pending (sent_at k sent) w))
     ∙ ap waiting_in (sym changes)
 
--- what was taken out is not there
+-- a removed one is not there
 pub gone_out : (k : ℕ) (waiting out : List Waiting) → out ≡ without k waiting → waiting_at k out ≡ None
 gone_out k waiting out e = ap (waiting_at k) e ∙ at_without k waiting
 
@@ -162,7 +162,7 @@ gone_out k waiting out e = ap (waiting_at k) e ∙ at_without k waiting
 pub tried_in : (k moment : ℕ) (sent new : List Sent) (queue : Queue) → queue ≡ queue_at k sent → new ≡ changed k (tried moment) sent → queue ≡ queue_at k new
 tried_in k moment sent new queue q changes = q ∙ sym (tried_queue k moment k sent) ∙ ap (queue_at k) (sym changes)
 
--- what fits as the next one has the next number
+-- a submission that fits as the next one has the next number
 pub next_number : (k : ℕ) (sent : List Sent) (own : Bool) → IsTrue ((k == length sent) && own) → k ≡ length sent
 next_number k sent own fit = eqb-true _ _ (and_parts _ _ fit).0
 

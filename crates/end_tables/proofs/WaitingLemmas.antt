@@ -1,4 +1,4 @@
--- What becomes of what waits where a submission changes.
+-- How the waiting submissions change when a submission changes.
 use Rattle.std.proofs.Common.{◌≡◌, ℕ, suc, ◌+◌, ◌<◌, ◌≤◌, List, [], ◌∷◌, ◌++◌, true, false, cond, eqb, Option, Some, None, map, length, refl, ap, sym, ◌∙◌, arith, inl, inr, subst}
 use Rattle.std.proofs.lemmas.Bool.{eq-eqb, ne_eqb, cond-true, cond-false, cases_eq, cases_Bool}
 use Rattle.std.proofs.lemmas.Option.{none-some, same_Some}
@@ -28,7 +28,7 @@ pub none_waits : waiting_in [] ≡ []
 unfolding waiting_in
 none_waits = refl
 
--- those behind a number are above it
+-- the later submissions have greater numbers
 above : (n k : ℕ) (sent : List Sent) → AreNumberedFrom n sent → k < n → AreAbove k (waiting_in sent)
 unfolding AreNumberedFrom
 above n k [] h l = rw none_waits tt
@@ -47,7 +47,7 @@ changed_other : (k : ℕ) (f : Sent → Sent) (s : Sent) (sent : List Sent) → 
 unfolding changed
 changed_other k f s sent d = ap (λ x. x ∷ changed k f sent) (cond-false _ (f s) s (ne_eqb s.submission.number k d))
 
--- of a list that begins with the number, all others stay
+-- in a list that begins with the number, all others remain
 rest_without : (n : ℕ) (s : Sent) (sent : List Sent) → s.submission.number ≡ n → AreNumberedFrom (suc n) sent → without n (waiting_in (s ∷ sent)) ≡ waiting_in sent
 rest_without n s sent e h =
     let stays = above_without n (waiting_in sent) (above (suc n) n sent h (omega arith)) in
@@ -95,7 +95,7 @@ changed_there k f x sent s l e rest =
       | inr w ↦ not_first x (changed k f sent) w ∙ rest ∙ ap (λ ws. with_again (Some (f s)) (without k ws)) (sym (not_first x sent w))
     ]
 
--- where a submission waits when it has changed it waits anew, and else it is gone
+-- a changed submission waits again if it may, and else it is gone
 pub changed_with : (n k : ℕ) (f : Sent → Sent) (sent : List Sent) (s : Sent) → AreNumberedFrom n sent → sent_at k sent ≡ Some s
     → (f s).submission.number ≡ k → waiting_in (changed k f sent) ≡ with_again (Some (f s)) (without k (waiting_in sent))
 unfolding AreNumberedFrom
@@ -110,7 +110,7 @@ changed_with n k f (x ∷ sent) s h at e =
           changed_there k f x sent s (omega (arith, h.0)) e (changed_with (suc n) k f sent s h.1 there e)
     ]
 
--- one more at the end waits last, where it waits
+-- a new one at the end waits last, if it waits
 pushed_from : (n : ℕ) (sent : List Sent) (s : Sent) → AreNumberedFrom n sent → s.submission.number ≡ n + length sent
     → waiting_in (sent ++ s ∷ []) ≡ with_again (Some s) (waiting_in sent)
 unfolding AreNumberedFrom
@@ -145,12 +145,12 @@ failed_rest moment s sent more rest =
           ]
     ]
 
--- what waits stays where those that are spent are given up
+-- letting the spent ones expire doesn't change the waiting ones
 pub failed_waits : (moment : ℕ) (sent : List Sent) → waiting_in (map (failed_if_spent moment) sent) ≡ waiting_in sent
 failed_waits moment [] = refl
 failed_waits moment (s ∷ sent) = failed_rest moment s sent (map (failed_if_spent moment) sent) (failed_waits moment sent)
 
--- where one waits that may be there
+-- the waiting entry of a submission that may exist
 abbrev pub waited : Option Sent → Option Waiting
 waited None = None
 waited (Some s) = cond (is_waiting s) (Some (waiting_of s)) None
@@ -175,7 +175,7 @@ at_other k s sent d =
       | inr w ↦ ap (waiting_at k) (not_first s sent w)
     ]
 
--- one that waits is found there
+-- the number of a waiting one finds it
 at_from : (n k : ℕ) (sent : List Sent) → AreNumberedFrom n sent → waiting_at k (waiting_in sent) ≡ waited (sent_at k sent)
 unfolding AreNumberedFrom
 at_from n k [] h = ap (waiting_at k) none_waits

@@ -1,4 +1,4 @@
--- A submission that was sent waits again, as long as it is to be sent again.
+-- A submission that was sent waits again, if it may be sent again.
 use Rattle.std.specs.Prelude.{List, if◌then◌else◌, Option, Some, None}
 use Rattle.channels.specs.Queues.{inserted}
 use Rattle.channels.specs.declared.waiting.Waiting.{Waiting}
@@ -6,7 +6,7 @@ use Rattle.exchange_model.specs.Questions.{is_waiting}
 use Rattle.exchange_model.specs.declared.sent.Sent.{Sent}
 use Rattle.end_tables.specs.Waiting.{waiting_of}
 
--- what waits, with this one where it waits
+-- the waiting ones, with this one if it waits
 abbrev pub with_again : Option Sent → List Waiting → List Waiting
 with_again None waiting = waiting
 with_again (Some s) waiting = if is_waiting s then inserted (waiting_of s) waiting else waiting

@@ -1,3 +1,4 @@
+-- The specs of end_tables.
 pub mod Again
 pub mod Reading
 pub mod Rooms

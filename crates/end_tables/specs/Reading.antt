@@ -1,10 +1,10 @@
--- What is read at a number of an inbox.
+-- The result of reading an inbox at a number.
 use Rattle.std.specs.Prelude.{◌≡◌, ℕ, ◌<◌, ◌≤◌, Some, length, slice_get}
 use Rattle.exchange_model.specs.End.{End}
 use Rattle.inbox.specs.declared.held.Held.{Held}
 use Rattle.inbox.specs.declared.held.Held.TheVariants as held
 
--- what was taken over is gone, and behind the last there is none
+-- confirmed entries are gone, and past the last there is none
 abbrev pub IsRead : End → ℕ → Held → Type 0
 IsRead end n held.Gone = n < end.confirmed
 IsRead end n held.NoEntry = (end.confirmed ≤ n) × (length end.inbox ≤ n)

@@ -1,4 +1,4 @@
--- What an end's tables have room for.
+-- The room that an endpoint's tables have.
 use Rattle.std.specs.Prelude.{◌≡◌, ℕ, List, Option, Some, None, IsSome}
 use Rattle.as4_effects.specs.declared.effect.Effect.{Effect}
 use Rattle.as4_effects.specs.declared.effect.Effect.TheVariants as effect
@@ -10,13 +10,14 @@ use Rattle.exchange_model.specs.End.{End, empty_end}
 use Rattle.exchange_model.specs.Questions.{queue_of, sent_at}
 use Rattle.exchange_model.specs.declared.sent.Sent.{Sent}
 
--- the identifier that a submission may have, the place where one may wait, the identifier that a delivery may have
+-- the identifier that the next submission may have, the queue and number that may wait, and the identifier that the
+-- next delivery may have
 pub record Rooms : Type 0 where
   pub outbox : Option (List ℕ)
   pub channels : Option Place
   pub inbox : Option (List ℕ)
 
--- an end, and the rooms of its tables
+-- an endpoint, and the room of its tables
 pub record Kept : Type 0 where
   pub end : End
   pub rooms : Rooms
@@ -32,7 +33,7 @@ queue_of_sent (Some s) = queue_of s.submission.route
 abbrev pub queue_at : ℕ → List Sent → Queue
 queue_at number sent = queue_of_sent (sent_at number sent)
 
--- the queue in which an effect moves a submission; that of pushed ones for effects that move none
+-- the queue in which an effect moves a submission; the push queue for an effect that moves none
 unfoldable pub queue_for : List Sent → Effect → Queue
 queue_for sent (effect.Submitted submission) = queue_of submission.route
 queue_for sent (effect.Ticked tick) = queue.Push
@@ -50,7 +51,7 @@ HasRoomFor rooms submission =
     (rooms.outbox ≡ Some submission.header.id)
     × (rooms.channels ≡ Some (record { queue = queue_of submission.route; number = submission.number }))
 
--- the tables have room for the effect, at an end with these submissions
+-- the tables have room for the effect, at an endpoint with these submissions
 unfoldable pub HasRoom : Rooms → List Sent → Effect → Type 0
 HasRoom rooms sent (effect.Submitted submission) = HasRoomFor rooms submission
 HasRoom rooms sent (effect.Ticked tick) = Unit {0}
@@ -62,7 +63,7 @@ HasRoom rooms sent (effect.Confirmed upto) = Unit {0}
 HasRoom rooms sent (effect.Carried carried) = HasRoomFor rooms carried.submission
 HasRoom rooms sent (effect.Kept kept) = rooms.inbox ≡ Some kept.header.id
 
--- the submission that the effect sends again was handed in
+-- the submission that the effect sends again exists
 unfoldable pub IsThere : List Sent → Effect → Type 0
 IsThere sent (effect.Tried number) = IsSome (sent_at number sent)
 IsThere sent other = Unit {0}

@@ -6,10 +6,10 @@ use Rattle.channels.specs.declared.waiting.Waiting.{Waiting}
 use Rattle.exchange_model.specs.Questions.{due, is_waiting, queue_of}
 use Rattle.exchange_model.specs.declared.sent.Sent.{Sent}
 
--- where a submission waits, until when, and under which number
+-- the queue of a waiting submission, when it is due, and its number
 abbrev pub waiting_of : Sent → Waiting
 waiting_of s = record { queue = queue_of s.submission.route; due = due s; number = s.submission.number }
 
--- of those that were handed in, what waits
+-- the waiting ones of the submissions
 unfoldable pub waiting_in : List Sent → List Waiting
 waiting_in sent = map waiting_of (filter is_waiting sent)

@@ -1,16 +1,17 @@
-//! Effects change the tables. What they need was reserved: nothing here takes memory, and nothing can fail.
+//! Applies effects to the tables. `reserve` has taken the memory that they need: nothing here takes memory, and nothing
+//! can fail.
 //!
 //!     Submitted  the outbox has one more, which waits in its queue
-//!     Tried      it waits anew with a later due moment, as long as it is to be sent again
-//!     Receipted  it is settled, and waits no more
+//!     Tried      it waits again with a later due moment, if it may be sent again
+//!     Receipted  it is settled, and no longer waits
 //!     Refused    the same
-//!     Ticked     those that are spent are given up: none of these waits
+//!     Ticked     the spent ones expire: none of these waits
 //!     Delivered  the inbox has one more
-//!     Confirmed  those up to a number lose their payloads
-//!     Carried    the outbox has one more as it stood, which waits where it is to be sent again
-//!     Kept       the inbox has one more that was taken over
+//!     Confirmed  those up to and including a number lose their payloads
+//!     Carried    the outbox has one more, with its state, which waits if it may be sent again
+//!     Kept       the inbox has one more, which is confirmed
 //!
-//! `Outbox::len` is called where a proof needs what it says besides: that each submission stands at its number.
+//! The calls of `Outbox::len` are for its contract: each submission is at the place of its number.
 
 ghost use Rattle.std.specs.Prelude.{◌≡◌, None, Some, IsTrue};
 ghost use Rattle.channels.specs.Queues.{waiting_at, without};
@@ -28,7 +29,7 @@ use channels::Channels;
 use outbox::Outbox;
 
 impl EndTables {
-    /// Makes the change of an effect. Takes no memory.
+    /// Applies an effect. Takes no memory.
     #[tactic(auto, unfolding(crate::specs::Rooms::TakesNoRoom))]
     pub fn apply(&mut self, effect: Effect, queue: &Queue)
         requires fit { IsTrue (is_fit effect self.old.end) }
@@ -153,7 +154,7 @@ impl EndTables {
     }
 }
 
-/// Takes a submission out of its queue, where it waits there.
+/// Takes a submission out of its queue, if it waits there.
 fn take_out(outbox: &Outbox, channels: &mut Channels, queue: &Queue, number: u64)
     requires step { channels.old.waiting ≡ waiting_in outbox.now.sent }
     requires queue { queue.now ≡ queue_at number outbox.now.sent }
@@ -168,7 +169,7 @@ fn take_out(outbox: &Outbox, channels: &mut Channels, queue: &Queue, number: u64
     }
 }
 
-/// Puts a submission into its queue, where it waits.
+/// Puts a submission into its queue, if it waits.
 fn put_back(outbox: &Outbox, channels: &mut Channels, queue: &Queue, number: u64)
     requires gone { waiting_at number channels.old.waiting ≡ None }
     requires queue { queue.now ≡ queue_at number outbox.now.sent }

@@ -1,4 +1,4 @@
-//! The tables of one end: what was handed in to be sent, what waits in queues, what came, and the clock.
+//! The tables of one endpoint: its submissions, the queues of the waiting ones, the received messages, and the clock.
 #![tactic(auto)]
 
 mod applying;

@@ -1,6 +1,6 @@
-//! What can be asked of the tables. No answer takes memory.
+//! Queries on the tables. None takes memory.
 //!
-//! `Outbox::len` is called where a proof needs what it says besides: that each submission stands at its number.
+//! The calls of `Outbox::len` are for its contract: each submission is at the place of its number.
 
 ghost use Rattle.std.specs.Prelude.{◌≡◌, ◌≤◌, option_map, option_copied, slice_get, IfSome, IsTrue};
 ghost use Rattle.std.specs.Option.{option_and_then};
@@ -33,14 +33,14 @@ impl EndTables {
         self.outbox.number_of(id)
     }
 
-    /// How the submission of this number stands.
+    /// The state of the submission of this number.
     pub fn status(&self, number: u64) -> Option<Standing>
         ensures { result ≡ option_map (λ s. standing_of s.tries s.mark) (sent_at number self.now.end.sent) }
     {
         self.outbox.status(number)
     }
 
-    /// How often the submission of this number was handed out, and when last: 0 where it never was.
+    /// How often the submission of this number was sent, and when it was last sent: 0 where it was never sent.
     pub fn tried(&self, number: u64) -> Option<(u32, u64)>
         ensures value { result ≡ option_map (λ s. (s.tries, s.last)) (sent_at number self.now.end.sent) }
         ensures dated { IfSome result (λ tried. tried.1 ≤ MAX_MOMENT) }
@@ -48,28 +48,28 @@ impl EndTables {
         self.outbox.tried(number)
     }
 
-    /// What became of the submission of this number.
+    /// The mark of the submission of this number.
     pub fn mark(&self, number: u64) -> Option<&Mark>
         ensures { option_copied result ≡ option_map (λ s. s.mark) (sent_at number self.now.end.sent) }
     {
         self.outbox.mark(number)
     }
 
-    /// The code of the error with which the other end refused the submission.
+    /// The code of the error with which the other endpoint refused the submission.
     pub fn refused_code(&self, number: u64) -> Option<&Code>
         ensures { option_copied result ≡ option_and_then (λ s. code_of s.mark) (sent_at number self.now.end.sent) }
     {
         self.outbox.refused_code(number)
     }
 
-    /// Whether the submission is neither receipted nor given up.
+    /// Whether the submission is pending: neither receipted, expired nor refused.
     pub fn is_pending(&self, number: u64) -> bool
         ensures { result ≡ is_one is_pending (sent_at number self.now.end.sent) }
     {
         standing::is_pending(&self.outbox, number)
     }
 
-    /// The number of the queue's head: of those that may be sent now, the first that is due.
+    /// The number of the queue's head: of the submissions that may be sent now, the one that is due first.
     pub fn head(&self, queue: &Queue) -> Option<u64>
         ensures value { result ≡ option_map (λ s. s.submission.number) (head_of queue.now self.now.end) }
         ensures found { IfSome result (λ number. sent_at number self.now.end.sent ≡ head_of queue.now self.now.end) }
@@ -78,7 +78,7 @@ impl EndTables {
         self.channels.head(queue, self.moment)
     }
 
-    /// The number of the head that the queue has behind the receipt of a pending submission.
+    /// The number of the head that the queue will have after the receipt for a pending submission.
     pub fn head_behind(&self, queue: &Queue, receipted: u64) -> Option<u64>
         requires { IsTrue (is_fit (Effect.Receipted receipted) self.now.end) }
         ensures value { result ≡ option_map (λ s. s.submission.number)
@@ -90,14 +90,14 @@ impl EndTables {
         self.channels.head_without(queue, self.moment, receipted)
     }
 
-    /// Whether a message of this identifier came.
+    /// Whether a message with this identifier was received.
     pub fn holds(&self, id: &MessageId) -> bool
         ensures { result ≡ is_known id.now self.now.end.inbox }
     {
         self.inbox.holds(id)
     }
 
-    /// The message that came under this number, from 0.
+    /// The received message of this number, from 0.
     pub fn read(&self, n: u64) -> Held<'_>
         ensures { IsRead self.now.end n result }
     {
@@ -105,14 +105,14 @@ impl EndTables {
         self.inbox.read(n)
     }
 
-    /// The header of the message that came under this number, from 0, taken over or not.
+    /// The header of the received message of this number, from 0, confirmed or not.
     pub fn header(&self, n: u64) -> Option<&UserHeader>
         ensures { option_copied result ≡ option_map (λ entry. entry.header) (slice_get self.now.end.inbox n) }
     {
         self.inbox.header(n)
     }
 
-    /// Whether the effect can stand here.
+    /// Whether the effect fits here.
     #[tactic(auto, unfolding(exchange_model::specs::Apply::is_fit))]
     pub fn fits(&self, effect: &Effect) -> bool
         ensures { result ≡ is_fit effect.now self.now.end }
@@ -145,7 +145,7 @@ impl EndTables {
     }
 }
 
-/// Whether a submission may have been sent so often, and last at that moment, and stand so.
+/// Whether a submission may have this number of tries, this last one and this state together.
 fn has_tries(carried: &Carried) -> bool
     ensures { result ≡ are_tries (as_carried carried.now) }
 {

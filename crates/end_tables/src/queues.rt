@@ -12,7 +12,7 @@ use as4_effects::{Effect, Queue};
 use as4_values::{NoMemory, PlainData, Route};
 use std::alloc::Global;
 
-/// An effect that takes no room leaves the queue of each effect as it is.
+/// A law: an effect that takes no room doesn't change the queue of any effect.
 pub fn queue_for_kept()
     ensures { (e f : Effect) (end : End) → TakesNoRoom e → queue_for (after e end).sent f ≡ queue_for end.sent f }
 {}

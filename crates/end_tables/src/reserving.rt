@@ -1,4 +1,4 @@
-//! Room for effects: what takes memory is done before a change, and may fail.
+//! Reserves room for effects before they are applied: this takes the memory, and may fail.
 
 ghost use Rattle.std.specs.Prelude.{◌≡◌, Some, IsSome, OnOk};
 ghost use Rattle.end_tables.specs.Rooms.{HasRoom, IsThere, queue_at};
@@ -10,7 +10,7 @@ use as4_effects::{Effect, Submission};
 use as4_values::NoMemory;
 
 impl EndTables {
-    /// Makes room for the effect, and changes nothing else.
+    /// Reserves room for the effect, and changes nothing else.
     #[tactic(auto, unfolding(crate::specs::Rooms::HasRoom, crate::specs::Rooms::IsThere))]
     pub fn reserve(&mut self, effect: &Effect) -> Result<(), NoMemory>
         requires there { IsThere self.old.end.sent effect.now }
@@ -27,7 +27,7 @@ impl EndTables {
         }
     }
 
-    /// Makes room for a submission, in the outbox and in its queue.
+    /// Reserves room for a submission, in the outbox and in its queue.
     fn reserve_submission(&mut self, submission: &Submission) -> Result<(), NoMemory>
         ensures outbox { OnOk result (self.new.rooms.outbox ≡ Some submission.now.header.id) }
         ensures channels { OnOk result (self.new.rooms.channels
@@ -40,7 +40,7 @@ impl EndTables {
         Ok(())
     }
 
-    /// Makes room for a submission in its queue.
+    /// Reserves room for a submission in its queue.
     fn reserve_again(&mut self, number: u64) -> Result<(), NoMemory>
         requires { IsSome (sent_at number self.old.end.sent) }
         ensures ok { OnOk result (self.new.rooms.channels

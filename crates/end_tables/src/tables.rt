@@ -1,8 +1,8 @@
-//! The tables of one end, and what holds between them:
+//! The tables of one endpoint, and the relations between them:
 //!
-//!     outbox    each submission at its number, and what became of it
-//!     channels  of these the ones that wait, with their queue and their due moment
-//!     inbox     each message that came, by number
+//!     outbox    each submission at the place of its number, with its state
+//!     channels  the waiting ones of these, with their queues and their due moments
+//!     inbox     each received message, by number
 
 ghost use Rattle.std.specs.Prelude.{◌≡◌, ◌+◌, ◌≤◌, length};
 ghost use Rattle.end_tables.specs.Rooms.{new_tables};
@@ -16,22 +16,22 @@ use outbox::Outbox;
 use std::alloc::Global;
 use std::marker::Model;
 
-/// The most bytes that a journal has.
+/// The most bytes of a journal.
 pub const MAX_SIZE: u64 = 1 << 32;
 
 const _: () = prove!(MAX_SIZE == 4294967296);
 
-/// The tables of one end. Contracts see a `Kept`: the end, and what the tables have room for.
+/// The tables of one endpoint. Contracts see a `Kept`: the endpoint, and the room that the tables have.
 #[derive(Drop)]
 pub struct EndTables {
     pub(crate) alloc: Global,
     pub(crate) outbox: Outbox,
-    /// Where the submissions of the outbox that wait do so.
+    /// The waiting submissions of the outbox, by queue.
     pub(crate) channels: Channels,
     pub(crate) inbox: Inbox,
     /// The clock, in milliseconds since 1970-01-01T00:00:00Z.
     pub(crate) moment: u64,
-    /// How many bytes the journal has.
+    /// The size of the journal in bytes.
     pub(crate) size: u64,
 }
 
@@ -52,7 +52,7 @@ impl Model for EndTables {
 }
 
 impl EndTables {
-    /// The tables of an end to which nothing has happened.
+    /// The tables of an endpoint to which nothing has happened.
     #[tactic(auto, using(crate::proofs::WaitingLemmas::none_waits))]
     pub fn new(alloc: Global) -> EndTables
         ensures { result ≡ new_tables }
@@ -75,7 +75,7 @@ impl EndTables {
         self.moment
     }
 
-    /// How many bytes the journal has.
+    /// The size of the journal in bytes.
     pub fn size(&self) -> u64
         ensures value { result ≡ self.now.end.size }
         ensures limited { result ≤ MAX_SIZE }
@@ -84,7 +84,7 @@ impl EndTables {
         self.size
     }
 
-    /// How many messages were handed in to be sent.
+    /// The number of submissions.
     pub fn submitted(&self) -> u64
         ensures value { result ≡ length self.now.end.sent }
         ensures limited { result ≤ 1048576 }
@@ -93,14 +93,14 @@ impl EndTables {
         self.outbox.len()
     }
 
-    /// How many messages came.
+    /// The number of received messages.
     pub fn received(&self) -> u64
         ensures { result ≡ length self.now.end.inbox }
     {
         self.inbox.len()
     }
 
-    /// How many of the messages that came were taken over.
+    /// The number of received messages that were confirmed.
     pub fn confirmed(&self) -> u64
         ensures value { result ≡ self.now.end.confirmed }
         ensures within { result ≤ length self.now.end.inbox }
@@ -108,7 +108,7 @@ impl EndTables {
         self.inbox.confirmed()
     }
 
-    /// The journal has so many bytes from now on.
+    /// Sets the size of the journal.
     pub fn resize(&mut self, size: u64)
         requires begun { 9 ≤ size }
         requires limited { size ≤ MAX_SIZE }
@@ -118,7 +118,7 @@ impl EndTables {
         self.size = size;
     }
 
-    /// The journal has grown by so many bytes.
+    /// Adds to the size of the journal.
     pub fn grow(&mut self, by: u64)
         requires { self.old.end.size + by ≤ MAX_SIZE }
         ensures end { self.new.end ≡ record self.old.end { size = self.old.end.size + by } }

@@ -7,12 +7,12 @@ ghost use Rattle.end_tables.specs.Totals.{AreTotals};
 use crate::tables::EndTables;
 use outbox::Counts;
 
-/// How the submissions stand, and how many messages came.
+/// Counts of the submissions by state, and of the received messages.
 #[derive(Clone, Copy, Debug, PartialEq, Eq)]
 pub struct Totals {
     pub submitted: u64,
     pub receipted: u64,
-    /// Those that were given up, since no receipt came in time (`EBMS:0301`).
+    /// The expired ones: no receipt was received in time (`EBMS:0301`).
     pub failed: u64,
     pub refused: u64,
     pub inbox: u64,
@@ -36,7 +36,7 @@ impl EndTables {
         }
     }
 
-    /// How many submissions are spent at this moment.
+    /// The number of submissions that are spent at this moment.
     pub fn spent(&self, moment: u64) -> u64
         ensures { result ≡ count_by (is_spent moment) self.now.end.sent }
     {

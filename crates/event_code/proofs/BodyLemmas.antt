@@ -16,7 +16,7 @@ use Rattle.as4_effects.specs.declared.carried.Carried.{Carried as CarriedValue}
 use Rattle.as4_effects.specs.declared.effect.Effect.{Effect}
 use Rattle.as4_effects.specs.declared.effect.Effect.TheVariants.{Submitted, Ticked, Tried, Delivered, Receipted, Refused, Confirmed, Carried, Kept}
 
--- what fits is counted exactly
+-- the count of an effect within its limit is exact
 pub counted_exactly : (len : ℕ) (body : List ℕ) → len ≡ grown 0 body → IsTrue (fits_an_effect body) → len ≡ length body
 counted_exactly len body e fits = let h : length body ≤ 536870910 = fits_within body fits in e ∙ grown_bytes 0 body ∙ omega arith
 

@@ -1,4 +1,4 @@
--- No bytes begin with two routes, two marks or two effects: their first byte tells of which kind they are.
+-- No bytes begin with two routes, two marks or two effects: the first byte determines the kind.
 use Rattle.std.specs.Prelude.{ℕ, List, ◌++◌, drop}
 use Rattle.std.proofs.Common.{refl, ap}
 use Rattle.byte_forms.specs.Forms.{Once}
@@ -47,7 +47,7 @@ tick_body t = number_body 8 t.moment
 refused_of : ℕ × List ℕ → Effect
 refused_of t = Refused t.0 t.1
 
--- an effect, where it is so with what stands behind the first byte
+-- the same for effects, given the same for the bytes after the first
 pub effect_once : Once IsSpelledSubmission fields_body → Once (λ t. Unit {0}) tick_body
     → Once IsSpelledDelivery (λ d. header_body d.header ++ list_body payload_body d.payloads) → Once IsSpelledCarried standing_body
     → Once (λ k. IsSpelledHeader k.header) (λ (k : KeptValue). header_body k.header) → Once IsSpelledEffect effect_body

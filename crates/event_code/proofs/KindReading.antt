@@ -1,4 +1,4 @@
--- Bytes that begin with no pulled route and with no refusal: what stands behind their first byte is none.
+-- Bytes that begin with neither a pulled route nor a refusal, because of the bytes after the first.
 use Rattle.std.proofs.Common.{◌≡◌, ℕ, ◌<◌, ◌^◌, List, ◌∷◌, ◌++◌, drop, refl, ap, sym, ◌∙◌}
 use Rattle.byte_forms.proofs.OnceLemmas.{first_byte, apart}
 use Rattle.byte_forms.specs.Bytes.{number_body, text_body, pair_body}

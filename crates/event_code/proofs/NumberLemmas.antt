@@ -1,4 +1,4 @@
--- Numbers in bytes, the highest first.
+-- Numbers in bytes, big endian.
 use Rattle.std.proofs.Common.{◌≡◌, ℕ, ◌+◌, ◌*◌, ◌-◌, ◌/◌, ◌%◌, ◌^◌, ◌<◌, ◌≤◌, List, [], ◌∷◌, ◌++◌, drop, take, length, refl, ap, ◌∙◌, sym, zero, suc, arith, zero-add, add-one, get_or, rules, Fits, w64}
 use Rattle.std.proofs.lemmas.List.{take_all, take_more}
 use Rattle.std.proofs.Math.Nat.{div-div-eq-div-mul, pow-succ', pow-le-pow_right, suc-add}
@@ -40,7 +40,7 @@ last_places places n bytes within e =
 pub eight_bytes : (n : ℕ) (bytes : List ℕ) → bytes ≡ to_be_bytes wide n → bytes ≡ number_body 8 n
 eight_bytes n bytes e = e ∙ sym (number_bytes 8 n)
 
--- one more place behind a number
+-- one more place after a number
 pub place_behind : (bytes : List ℕ) (i n b : ℕ) → b < 256 → i < length bytes → b ≡ get_or bytes i 0 → number_body i n ≡ take i bytes
     → number_body (i + 1) (n * 256 + b) ≡ take (i + 1) bytes
 unfolding number_body

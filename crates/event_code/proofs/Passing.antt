@@ -1,4 +1,4 @@
--- A refusal that is handed on.
+-- A refusal that is passed on.
 use Rattle.std.proofs.Common.{◌≡◌, ap, Err}
 use Rattle.std.specs.Prelude.{Result}
 use Rattle.event_code.specs.declared.refusal.BodyRefusal.{BodyRefusal}

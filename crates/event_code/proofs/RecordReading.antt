@@ -1,4 +1,4 @@
--- Bodies of records, and bytes that are none.
+-- Bodies of records, and bytes that are no body.
 use Rattle.std.proofs.Common.{◌≡◌, ℕ, ◌<◌, ◌≤◌, ◌^◌, List, [], ◌∷◌, ◌++◌, length, append-nil, length-append, refl, ap, sym, ◌∙◌, arith}
 use Rattle.std.specs.List.{flat_map}
 use Rattle.byte_forms.proofs.NumberLemmas.{number_length, number_once}
@@ -9,7 +9,7 @@ use Rattle.as4_effects.specs.Effects.{effect_body, effects_body, effects_limit}
 use Rattle.as4_effects.specs.declared.effect.Effect.{Effect}
 use Rattle.event_code.specs.Spelled.{IsSpelledEffect, AreSpelled}
 
--- the bytes are the body of none
+-- the bytes aren't the body of any effects
 abbrev pub IsNoBody : List ℕ → Type 0
 IsNoBody bytes =
     (effects : List Effect) → 1 ≤ length effects → length effects ≤ effects_limit → AreSpelled effects → bytes ≡ effects_body effects → ⊥

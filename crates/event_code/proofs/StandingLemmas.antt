@@ -1,4 +1,4 @@
--- A submission as it stands, by its parts: no bytes begin with two of these.
+-- A submission with its state, by its parts: no bytes begin with two of these.
 use Rattle.std.specs.Prelude.{◌≡◌, ℕ, ◌<◌, ◌^◌, List, ◌++◌, ◌↔◌}
 use Rattle.std.proofs.Common.{◌∙◌, append_assoc, ap, sym}
 use Rattle.byte_forms.specs.Bytes.{number_body, pair_body}
@@ -63,7 +63,7 @@ carried_found bytes rest last c sent e terms f = (
   found_both bytes (fields_body c.submission) (terms_body (carried_parts c).1) rest last e f ∙ ap (λ l. l ++ last) (sym (standing_same c)),
 )
 
--- bytes where the submission or the rest doesn't stand
+-- bytes that don't begin with a submission, or whose rest is wrong
 
 pub carried_refused : (bytes : List ℕ) → Refuses IsSpelledSubmission fields_body bytes → Refuses IsSpelledCarried standing_body bytes
 carried_refused bytes refused =

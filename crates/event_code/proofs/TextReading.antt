@@ -1,4 +1,4 @@
--- Texts in bodies: each is read only as it stands.
+-- Texts in bodies: a text is read from exactly its bytes.
 use Rattle.std.proofs.Common.{◌≡◌, ℕ, ◌++◌, List, [], append-nil, refl, sym, ◌∙◌, arith, Bool, false, eqb}
 use Rattle.as4_effects.specs.Bodies.{text_body}
 use Rattle.as4_values.specs.Texts.{IsText, Spells}
@@ -14,7 +14,7 @@ pub read_as : (is : List ℕ → Type 0) (value octets bytes rest : List ℕ) �
     → is value × (bytes ≡ text_body value ++ rest)
 read_as is value octets bytes rest same held e = rw same (held, e)
 
--- a text is read as it stands
+-- a text is read unchanged
 pub text_spells : (bytes : List ℕ) → IsText bytes → Spells bytes bytes
 text_spells bytes text =
     (text, (0, ([], [], λ k d above below. absurd (omega arith), λ k d above below. absurd (omega arith), text.trimmed, sym (append-nil bytes), refl)))

@@ -1,1 +1,2 @@
+-- The specs of event_code.
 pub mod Spelled

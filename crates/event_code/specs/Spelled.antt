@@ -1,5 +1,5 @@
--- Values whose parts are what their types say: each text is a text, each identifier an identifier, each code a
--- code, each stamp a stamp, each number one of 64 bits. A value of the program is such a value.
+-- Values whose parts satisfy the invariants of their types: texts, identifiers, codes and stamps are well-formed, and
+-- numbers have at most 64 bits. Every value of the program is such a value.
 use Rattle.std.specs.Prelude.{ℕ, ◌<◌, ◌^◌, List, Option, IfSome}
 use Rattle.as4_values.specs.Texts.{IsText}
 use Rattle.as4_values.specs.Stamp.{IsStamp}
@@ -63,7 +63,7 @@ pub record IsSpelledHeader (h : UserHeader) : Type 0 where
   pub properties : Each IsSpelledProperty h.properties
   pub parts : Each IsSpelledPart h.parts
 
--- what is counted of a payload; its other parts are what they are by the facts that it keeps
+-- the counted part of a payload; the facts that it keeps cover its other parts
 unfoldable pub IsSpelledPayload : Payload → Type 0
 IsSpelledPayload p = IsCounted p.content
 

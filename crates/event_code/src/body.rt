@@ -1,4 +1,4 @@
-//! The body of a record: the count of its effects and then each of them.
+//! The body of a record: the count of its effects, followed by the effects.
 
 ghost use Rattle.std.specs.Prelude.{◌≡◌, ◌≤◌, ◌+◌, ◌*◌, [], ◌∷◌, ◌++◌, length, OnOk};
 ghost use Rattle.std.specs.List.{sum_by};
@@ -14,7 +14,7 @@ use crate::written::{Written, push_all, push_number};
 use as4_effects::{Carried, Effect, Mark, Measured};
 use as4_values::{MAX_MOMENT, NoMemory, Seq};
 
-/// How many bytes an effect has.
+/// The number of bytes of an effect.
 #[tactic(auto, using(crate::proofs::BodyLemmas::counted_exactly, crate::proofs::BodyLemmas::counted_within, crate::proofs::BodyLemmas::refused_length, as4_effects::proofs::LengthLemmas::number_length), unfolding(as4_effects::specs::Effects::effect_body))]
 fn effect_len(effect: &Effect) -> u64
     ensures exact { result ≡ length (effect_body effect.now) }
@@ -33,7 +33,7 @@ fn effect_len(effect: &Effect) -> u64
     }
 }
 
-/// How many bytes a submission has as it stands: at most 81 more than it alone.
+/// The number of bytes of a carried submission: at most 81 more than those of the submission alone.
 #[tactic(auto, using(crate::proofs::BodyLemmas::counted_exactly, crate::proofs::BodyLemmas::counted_within, crate::proofs::BodyLemmas::standing_length))]
 fn carried_len(carried: &Carried) -> u64
     ensures exact { result ≡ length (8 ∷ standing_body carried.now) }
@@ -54,7 +54,7 @@ fn mark_len(mark: &Mark) -> u64
     }
 }
 
-/// How many bytes the body of these effects has.
+/// The number of bytes of the body of these effects.
 #[tactic(auto, using(crate::proofs::BodyLemmas::more_length, crate::proofs::BodyLemmas::more_most, crate::proofs::BodyLemmas::most_within, crate::proofs::BodyLemmas::body_length, crate::proofs::BodyLemmas::body_most))]
 pub fn body_len(effects: &Seq<Effect>) -> u64
     requires { length effects.now ≤ effects_limit }
@@ -78,7 +78,7 @@ pub fn tick_body(moment: u64) -> [u8; 11]
     body_of_number(2, moment)
 }
 
-/// The body of one effect that says up to where messages were taken over.
+/// The body of one effect that confirms the messages up to this one.
 #[tactic(auto, unfolding(as4_effects::specs::Effects::effect_body, as4_effects::specs::Effects::effects_body, as4_effects::specs::Bodies::number_body))]
 pub fn confirm_body(upto: u64) -> [u8; 11]
     ensures { result ≡ effects_body (Confirmed upto ∷ []) }
@@ -86,7 +86,7 @@ pub fn confirm_body(upto: u64) -> [u8; 11]
     body_of_number(7, upto)
 }
 
-/// The body of one effect of this kind, that has but a number.
+/// The body of one effect of this kind whose only field is a number.
 #[tactic(auto, using(crate::proofs::NumberLemmas::eight_bytes))]
 fn body_of_number(kind: u8, number: u64) -> [u8; 11]
     ensures { result ≡ 0 ∷ 1 ∷ kind ∷ number_body 8 number }
@@ -95,15 +95,16 @@ fn body_of_number(kind: u8, number: u64) -> [u8; 11]
     [0, 1, kind, a, b, c, d, e, f, g, h]
 }
 
-/// Writes the body of these effects behind what is there. Where memory ran out, some of it stands there.
+/// Appends the body of these effects. When out of memory, it may have appended a part of it.
 #[tactic(auto, unfolding(as4_effects::specs::Effects::effects_body))]
 pub fn push_body(out: &mut Vec<u8>, effects: &Seq<Effect>) -> Result<(), NoMemory>
     requires some { 1 ≤ length effects.now }
     requires counted { length effects.now ≤ effects_limit }
     ensures body { OnOk result (out.new.items ≡ out.old.items ++ effects_body effects.now) }
-    // So these bytes are read as these effects and no others.
+    // The bytes are read as these effects and no others.
     ensures spelled { AreSpelled effects.now }
 {
+    // Laws: the parts of each effect satisfy the invariants of their types.
     effects.show();
     push_number(out, 2, effects.items().len() as u64)?;
     push_all(out, effects.items())

@@ -1,4 +1,4 @@
-//! Reading effects, each by the byte that says which it is.
+//! Reads effects, by the byte of their kind.
 #![tactic(auto, unfolding(as4_effects::specs::Effects::effect_body, crate::specs::Spelled::IsSpelledEffect))]
 
 ghost use Rattle.std.specs.Prelude.{◌≡◌, ◌≢◌, ◌∷◌, ◌++◌, IfOk, IsErrOf};
@@ -30,6 +30,7 @@ impl Readable for Effect {
     }
 
     fn once() {
+        // Laws: the same for each kind of effect with a body of its own.
         Submission::once();
         Tick::once();
         Delivery::once();
@@ -37,7 +38,7 @@ impl Readable for Effect {
     }
 }
 
-/// Reads an effect that holds no message, behind its byte.
+/// Reads an effect that holds no message, after the byte of its kind.
 fn read_small(alloc: Global, rest: &mut Rest, kind: u8) -> Result<Effect, BodyRefusal>
     requires small { (kind ≢ 1) × (kind ≢ 4) × (kind ≢ 8) × (kind ≢ 9) }
     ensures found { IfOk result (λ effect. IsSpelledEffect effect × (kind ∷ rest.old ≡ effect_body effect ++ rest.new)) }

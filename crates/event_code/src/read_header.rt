@@ -1,4 +1,4 @@
-//! Reading the header of a user message (ebMS 3.0 Core, section 5.2.2), each element by the pairs of its values.
+//! Reads the header of a user message (ebMS 3.0 Core, section 5.2.2), each element as pairs of its values.
 
 ghost use Rattle.std.specs.Prelude.{◌↔◌, IsTrue, refl};
 ghost use Rattle.std.proofs.Common.{arith, append_assoc};
@@ -17,13 +17,13 @@ use as4_values::{
 };
 use std::alloc::Global;
 
-/// How many parties a side has at most.
+/// The most parties of a side.
 const MAX_PARTIES: usize = 16;
 
-/// How many properties a header or a part info has at most.
+/// The most properties of a header or a part info.
 const MAX_PROPERTIES: usize = 256;
 
-/// How many part infos a header has at most.
+/// The most part infos of a header.
 const MAX_PARTS: usize = 255;
 
 impl Readable for Party {
@@ -330,7 +330,7 @@ impl Parted for UserHeader {
     ghost same = { unfold header_body in λ h. Prim.simp append_assoc };
 }
 
-/// Whether a header may have so many properties and part infos.
+/// Whether a header may have this many properties and part infos.
 fn are_counted(lists: &(Seq<Property>, Seq<PartInfo>)) -> bool
     ensures { IsTrue result ↔ (IsPropertyCount lists.now.0 × IsPartCount lists.now.1) }
 {

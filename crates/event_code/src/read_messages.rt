@@ -1,4 +1,4 @@
-//! Reading submissions and deliveries, and what is carried and kept of them, each behind the byte that says which it is.
+//! Reads submissions and deliveries, and the carried and kept forms of them. The caller has read the byte of the kind.
 
 ghost use Rattle.std.specs.Prelude.{◌≡◌, ◌++◌, refl, IfOk, IsErrOf};
 ghost use Rattle.std.proofs.Common.{arith, append_assoc};
@@ -201,11 +201,12 @@ impl Parted for Kept {
     ghost same = { λ kept. refl };
 }
 
-/// Reads a submission as it stands, behind its byte.
+/// Reads a submission with its state, after the byte of the kind.
 pub fn read_carried(alloc: Global, rest: &mut Rest) -> Result<Carried, BodyRefusal>
     ensures found { IfOk result (λ carried. IsSpelledCarried carried × (rest.old ≡ standing_body carried ++ rest.new)) }
     ensures not_body { IsErrOf result BodyRefusal.NotBody → Refuses IsSpelledCarried standing_body rest.old }
 {
+    // Laws: no bytes begin with two submissions.
     Submission::once();
     let submission = Submission::read(alloc, rest)?;
     match <(u32, (Tick, Mark))>::read(alloc, rest) {

@@ -1,4 +1,4 @@
-//! Reading payloads, routes and marks.
+//! Reads payloads, routes and marks.
 #![tactic(auto, unfolding(as4_effects::specs::Bodies::route_body, as4_effects::specs::Marks::mark_body, crate::specs::Spelled::IsSpelledRoute, crate::specs::Spelled::IsSpelledMark))]
 
 ghost use Rattle.std.specs.Prelude.{◌≡◌, IsTrue, ◌↔◌, refl};
@@ -16,8 +16,8 @@ ghost use Rattle.event_code.specs.Spelled.{IsSpelledPayload, IsSpelledRoute, IsS
 use crate::reading::{Parted, Readable, once_by_parts, read_by_parts};
 use crate::refusal::BodyRefusal;
 use crate::rest::Rest;
-use as4_effects::{Mark, is_media_text};
-use as4_values::{Code, Octets, Payload, Route, Text, Word};
+use as4_effects::Mark;
+use as4_values::{Code, Octets, Payload, Route, Text, Word, is_media_text};
 use std::alloc::Global;
 
 impl Readable for Payload {

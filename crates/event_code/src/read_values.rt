@@ -1,5 +1,5 @@
-//! Reading texts, identifiers, stamps, codes and octets: each is judged as its type judges it, and is read only
-//! as it stands.
+//! Reads texts, identifiers, stamps, codes and octets. Their types check the bytes; a text is refused unless the bytes
+//! are exactly the text.
 
 ghost use Rattle.std.specs.Prelude.{◌≡◌, ℕ, List, length};
 ghost use Rattle.byte_forms.specs.Forms.{IsCounted};

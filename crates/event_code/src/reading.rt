@@ -1,5 +1,5 @@
-//! Reading values off the front of bytes, each as `as4_effects` says that its bytes are: numbers, pairs, options and
-//! counted lists, and what is made of such parts.
+//! Reads values from the beginning of bytes in the format of `as4_effects`: numbers, pairs, options and counted lists,
+//! and values made of such parts.
 
 ghost use Rattle.std.specs.Prelude.{◌≡◌, ℕ, ◌≤◌, ◌<◌, ◌^◌, ◌++◌, ◌↔◌, List, length, IfOk, IfSome, IsErrOf};
 ghost use Rattle.std.specs.List.{flat_map};
@@ -11,32 +11,32 @@ use crate::rest::Rest;
 use as4_values::Seq;
 use std::alloc::Global;
 
-/// What is read from a body.
+/// A value that can be read from a body.
 pub trait Readable: Drop {
     /// Its bytes.
     ghost body: { Self → List ℕ };
 
-    /// What holds of each value of the type.
+    /// The invariant of each value of the type.
     ghost is_one: { Self → Type 0 };
 
-    /// Reads a value off the front.
+    /// Reads a value from the beginning of the rest.
     fn read(alloc: Global, rest: &mut Rest) -> Result<Self, BodyRefusal>
         ensures found { IfOk result (λ value. is_one value × (rest.old ≡ body value ++ rest.new)) }
         ensures not_body { IsErrOf result BodyRefusal.NotBody → Refuses is_one body rest.old };
 
-    /// No bytes begin with two values.
+    /// No bytes begin with two different values.
     fn once()
         ensures { Once is_one body };
 }
 
-/// What is read by its parts, whose bytes are its own.
+/// A value that is read by its parts and has the same bytes as they have.
 pub trait Parted: Drop {
     type Parts: Readable;
 
     /// Its bytes.
     ghost whole_body: { Self → List ℕ };
 
-    /// What holds of each value of the type.
+    /// The invariant of each value of the type.
     ghost is_whole: { Self → Type 0 };
 
     ghost parts: { Self → Self.Parts };
@@ -53,20 +53,22 @@ pub trait Parted: Drop {
     ghost same: { (value : Self) → whole_body value ≡ Self.Parts.body (Self.parts value) };
 }
 
-/// Reads the parts of a value and makes it.
+/// Reads the parts of a value and makes the value of them.
 pub fn read_by_parts<T: Parted>(alloc: Global, rest: &mut Rest) -> Result<T, BodyRefusal>
     ensures found { IfOk result (λ value. T.is_whole value × (rest.old ≡ T.whole_body value ++ rest.new)) }
     ensures not_body { IsErrOf result BodyRefusal.NotBody → Refuses T.is_whole T.whole_body rest.old }
 {
+    // Laws: no bytes begin with two values of the parts.
     T::Parts::once();
     let parts = T::Parts::read(alloc, rest)?;
     T::of_parts(alloc, parts)
 }
 
-/// No bytes begin with two values, since none begin with their parts twice.
+/// No bytes begin with two different values, because none begin with two values of their parts.
 pub fn once_by_parts<T: Parted>()
     ensures { Once T.is_whole T.whole_body }
 {
+    // Laws: no bytes begin with two values of the parts.
     T::Parts::once();
 }
 
@@ -101,12 +103,14 @@ impl<A: Readable, B: Readable> Readable for (A, B) {
 
     fn read(alloc: Global, rest: &mut Rest) -> Result<(A, B), BodyRefusal> {
         let first = A::read(alloc, rest)?;
+        // Laws: no bytes begin with two first parts.
         A::once();
         let second = B::read(alloc, rest)?;
         Ok((first, second))
     }
 
     fn once() {
+        // Laws: the same for each of the two.
         A::once();
         B::once();
     }
@@ -126,6 +130,7 @@ impl<T: Readable> Readable for Option<T> {
     }
 
     fn once() {
+        // Laws: no bytes begin with two contents.
         T::once();
     }
 }
@@ -141,11 +146,12 @@ impl<T: Readable> Readable for Seq<T> {
     }
 
     fn once() {
+        // Laws: no bytes begin with two items.
         T::once();
     }
 }
 
-/// Reads so many values, one behind the other.
+/// Reads this number of values, one after the other.
 pub fn read_items<T: Readable>(
     alloc: Global,
     rest: &mut Rest,
@@ -156,6 +162,7 @@ pub fn read_items<T: Readable>(
     ensures not_body { IsErrOf result BodyRefusal.NotBody
         → Refuses (λ items. (length items ≡ count) × Each T.is_one items) (flat_map T.body) rest.old }
 {
+    // Laws: no bytes begin with two items.
     T::once();
     let mut items = Vec::new(alloc);
     for _ in 0..count {

@@ -1,3 +1,5 @@
+//! Refusals of a body.
+
 ghost use Rattle.std.specs.Prelude.{◌≡◌};
 ghost use Rattle.event_code.specs.declared.refusal.BodyRefusal.TheVariants.{NoMemory as OutOfMemory};
 
@@ -7,7 +9,7 @@ use std::alloc::AllocFailed;
 /// Why bytes aren't read as effects.
 #[derive(Clone, Copy, Debug, PartialEq, Eq)]
 pub enum BodyRefusal {
-    /// They are the body of no list of 1 to 1,024 effects.
+    /// They aren't the body of any list of 1 to 1,024 effects.
     NotBody,
     /// Memory ran out.
     NoMemory,

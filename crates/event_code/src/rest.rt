@@ -1,4 +1,4 @@
-//! The bytes that are still to be read, and numbers and octets off their front.
+//! The unread bytes, and reading numbers and octets from their beginning.
 
 ghost use Rattle.std.specs.Prelude.{◌≡◌, ℕ, ◌<◌, ◌≤◌, ◌==◌, ◌^◌, ◌++◌, ◌∷◌, [], List, length, IfErr, IfOk, OnErr};
 ghost use Rattle.byte_forms.specs.Bytes.{number_body, text_body};
@@ -7,7 +7,7 @@ ghost use Rattle.byte_forms.specs.Forms.{IsCounted, Refuses};
 use crate::refusal::BodyRefusal;
 use std::marker::Model;
 
-/// The bytes that are still to be read.
+/// The unread bytes.
 #[derive(Drop)]
 pub struct Rest<'a> {
     bytes: &'a [u8],
@@ -32,7 +32,7 @@ impl<'a> Rest<'a> {
         self.bytes.is_empty()
     }
 
-    /// Takes so many bytes off the front.
+    /// Takes the first `len` bytes.
     fn take(&mut self, len: usize) -> Result<&'a [u8], BodyRefusal>
         ensures found { IfOk result (λ front. (length front.now ≡ len) × (self.old ≡ front.now ++ self.new)) }
         ensures short { OnErr result (length self.old < len) }
@@ -60,7 +60,7 @@ impl<'a> Rest<'a> {
         Ok(*byte)
     }
 
-    /// Takes a number of so many bytes, the highest first.
+    /// Takes a number of `places` bytes, big endian.
     pub fn take_number(&mut self, places: usize) -> Result<u64, BodyRefusal>
         requires { places ≤ 8 }
         ensures found { IfOk result (λ number. (number < 256 ^ places) × (self.old ≡ number_body places number ++ self.new)) }
@@ -70,7 +70,7 @@ impl<'a> Rest<'a> {
         Ok(number_of(self.take(places)?))
     }
 
-    /// Takes the bytes behind their count.
+    /// Takes a count and the bytes that follow it.
     pub fn take_octets(&mut self) -> Result<&'a [u8], BodyRefusal>
         ensures found { IfOk result (λ octets. IsCounted octets.now × (self.old ≡ text_body octets.now ++ self.new)) }
         ensures not_body { OnErr result (Refuses IsCounted text_body self.old) }
@@ -82,7 +82,7 @@ impl<'a> Rest<'a> {
     }
 }
 
-/// The number that stands in these bytes, the highest first.
+/// The number of these bytes, big endian.
 fn number_of(bytes: &[u8]) -> u64
     requires { length bytes.now ≤ 8 }
     ensures within { result < 256 ^ length bytes.now }

@@ -1,4 +1,4 @@
-//! What each value of the program is by its type, as a fact for those who write it.
+//! The invariants of the parts of each value, as facts for the code that writes it.
 #![tactic(auto, unfolding(crate::specs::Spelled::IsSpelledStamp, crate::specs::Spelled::IsSpelledParty, crate::specs::Spelled::IsSpelledSide, crate::specs::Spelled::IsSpelledAgreement, crate::specs::Spelled::IsSpelledService, crate::specs::Spelled::IsSpelledProperty, crate::specs::Spelled::IsSpelledPart, crate::specs::Spelled::IsSpelledRoute, crate::specs::Spelled::IsSpelledMark, crate::specs::Spelled::IsSpelledSubmission, crate::specs::Spelled::IsSpelledDelivery, crate::specs::Spelled::IsSpelledCarried, crate::specs::Spelled::IsSpelledEffect))]
 
 ghost use Rattle.std.specs.Prelude.{IfSome};
@@ -14,11 +14,11 @@ use as4_values::{
     Text, UserHeader,
 };
 
-/// What keeps its parts as their types say.
+/// A value whose parts satisfy the invariants of their types.
 pub trait Spelled {
     ghost is_spelled: { Self → Type 0 };
 
-    /// Does nothing: its parts are what their types say.
+    /// A law: the parts satisfy the invariants of their types. Changes nothing.
     fn show(&self)
         ensures { is_spelled self.now };
 }
@@ -73,7 +73,7 @@ impl<T: Spelled> Spelled for Seq<T> {
     }
 }
 
-/// So it is with each of these.
+/// The same for each of these.
 fn show_all<T: Spelled>(items: &[T])
     ensures { Each T.is_spelled items.now }
 {

@@ -1,16 +1,16 @@
-//! Whether fields are those of a submission or a delivery.
+//! Whether fields make a submission or a delivery.
 
 ghost use Rattle.std.specs.Prelude.{◌↔◌, IsTrue, IfOk};
 ghost use Rattle.as4_effects.specs.Whole.{AreNumbers, AreMatched, IsSubmission, IsDelivery};
 
-use as4_effects::{delivery_fits, is_id_of, is_route, pairs, submission_fits};
-use as4_values::{MAX_MOMENT, NoMemory, Payload, Route, Seq, UserHeader};
+use as4_effects::{delivery_fits, is_id_of, is_route, submission_fits};
+use as4_values::{MAX_MOMENT, NoMemory, Payload, Route, Seq, UserHeader, pairs};
 use std::alloc::Global;
 
-/// How many submissions there may be.
+/// The most submissions of an endpoint.
 const MAX_SUBMISSIONS: u64 = 1_048_576;
 
-/// How often a message is sent again at most.
+/// The most times that a message is sent again.
 const MAX_RETRIES: u32 = 1000;
 
 /// The longest time between two tries, in milliseconds.

@@ -1,4 +1,4 @@
-//! Writes values as they stand in the body of an effect.
+//! Writes values in the format of an effect's body.
 #![tactic(auto, unfolding(as4_effects::specs::Bodies::text_body, as4_effects::specs::Bodies::party_body, as4_effects::specs::Bodies::side_body, as4_effects::specs::Bodies::agreement_body, as4_effects::specs::Bodies::service_body, as4_effects::specs::Bodies::property_body, as4_effects::specs::Bodies::part_body, as4_effects::specs::Bodies::header_body, as4_effects::specs::Bodies::payload_body, as4_effects::specs::Bodies::route_body, as4_effects::specs::Effects::effect_body, as4_effects::specs::Marks::mark_body))]
 
 ghost use Rattle.std.specs.Prelude.{◌≡◌, ◌∷◌, ◌++◌, ◌≤◌, OnOk};
@@ -12,14 +12,14 @@ use as4_values::{
     Service, Side, StampText, Text, UserHeader,
 };
 
-/// What is written into a body.
+/// A value that can be written into a body.
 pub trait Written: Measured {
-    /// Adds the bytes.
+    /// Appends its bytes.
     fn push_to(&self, out: &mut Vec<u8>) -> Result<(), NoMemory>
         ensures { OnOk result (out.new.items ≡ out.old.items ++ Self.body self.now) };
 }
 
-/// Adds a number in so many bytes, big endian.
+/// Appends a number in this number of bytes, big endian.
 #[tactic(auto, using(crate::proofs::NumberLemmas::last_places))]
 pub fn push_number(out: &mut Vec<u8>, places: usize, number: u64) -> Result<(), NoMemory>
     requires { places ≤ 8 }
@@ -29,7 +29,7 @@ pub fn push_number(out: &mut Vec<u8>, places: usize, number: u64) -> Result<(), 
     Ok(())
 }
 
-/// Adds a text behind its length.
+/// Appends the length of a text and the text.
 fn push_text(out: &mut Vec<u8>, text: &[u8]) -> Result<(), NoMemory>
     ensures { OnOk result (out.new.items ≡ out.old.items ++ text_body text.now) }
 {
@@ -38,7 +38,7 @@ fn push_text(out: &mut Vec<u8>, text: &[u8]) -> Result<(), NoMemory>
     Ok(())
 }
 
-/// Adds the bytes of all items, in order.
+/// Appends the bytes of all items, in order.
 pub fn push_all<T: Written>(out: &mut Vec<u8>, items: &[T]) -> Result<(), NoMemory>
     ensures { OnOk result (out.new.items ≡ out.old.items ++ flat_map T.body items.now) }
 {
@@ -183,7 +183,7 @@ impl Written for Route {
     }
 }
 
-/// Adds the fields of a submission.
+/// Appends the fields of a submission.
 fn push_fields(out: &mut Vec<u8>, submission: &Submission) -> Result<(), NoMemory>
     ensures { OnOk result (out.new.items ≡ out.old.items ++ fields_body submission.now) }
 {
@@ -243,7 +243,7 @@ impl Written for Kept {
     }
 }
 
-/// Adds an effect that has but a number.
+/// Appends an effect whose only field is a number.
 fn push_numbered(out: &mut Vec<u8>, kind: u8, number: u64) -> Result<(), NoMemory>
     ensures { OnOk result (out.new.items ≡ out.old.items ++ (kind ∷ number_body 8 number)) }
 {

@@ -1,4 +1,4 @@
--- What an end holds, accounted for by the acts that led to it.
+-- The acts at an endpoint account for its state.
 use Rattle.std.proofs.Common.{◌≡◌, ℕ, zero, suc, ◌+◌, ◌<◌, ◌≤◌, ◌⊎◌, inl, inr, List, [], ◌∷◌, ◌++◌, Bool, true, false, Some, length, length-append, append_assoc, refl, sym, ap, ◌∙◌, subst, arith}
 use Rattle.std.specs.Prelude.{IsTrue, nat_le, slice_get}
 use Rattle.std.specs.List.{count_by, sum_by}
@@ -12,7 +12,7 @@ use Rattle.as4_effects.specs.declared.submission.Submission.{Submission}
 use Rattle.as4_values.specs.declared.header.UserHeader.{UserHeader}
 use Rattle.as4_values.specs.declared.message.Message.TheVariants as message
 use Rattle.as4_values.specs.declared.message.Pair.{Pair}
-use Rattle.as4_values.specs.declared.mode.Mode.{Mode}
+use Rattle.mode_values.specs.declared.mode.Mode.{Mode}
 use Rattle.as4_values.specs.declared.payload.Payload.{Payload}
 use Rattle.exchange_model.specs.Alone.{MayHappenTo, end_after, is_submitted, size_after, written}
 use Rattle.exchange_model.specs.Apply.{after, applied, emptied, unsent}
@@ -51,27 +51,27 @@ use Rattle.exchange_laws.proofs.TimesLemmas.{IsOwn, never, number_below, times_p
 abbrev pub SomeAct : List Act → (Act → Type 0) → Type 0
 SomeAct done P = (act : Act) × Has done act × P act
 
--- in the act a receipt of the submission came, alone or in a pair for a channel of the modes, and settled it
+-- in the act a receipt for the submission was received, alone or in a pair for a channel of the modes, and settled it
 pub record IsSettledBy (u : Submission) (act : Act) : Type 0 where
   pub brings : Receipts act.event.what u
   pub named : (pair : Pair) → act.event.what ≡ what.Came (message.Pair pair) → IsTrue (names_channel act.modes pair.pull.body)
   pub settles : Has act.outcome.effects (effect.Receipted u.number)
 
--- of what was handed in
+-- of the submissions
 pub record AreCounted (done : List Act) (end : End) : Type 0 where
   pub numbered : AreNumberedFrom 0 end.sent
   pub kept : AllKeepTries end.sent
   pub own : (act : Act) → Has done act → IsOwn end.sent (sends act.outcome.reply)
   pub tries : (s : Sent) → Has end.sent s → times_handed_out s.submission.header.id done ≡ s.tries
 
--- of how submissions stand
+-- of their states
 pub record AreSettled (done : List Act) (end : End) : Type 0 where
   pub receipted : (s : Sent) → Has end.sent s → s.mark ≡ mark.Receipted → SomeAct done (IsSettledBy s.submission)
   pub refused : (s : Sent) (code : List ℕ) → Has end.sent s → s.mark ≡ mark.Refused code
       → SomeAct done (λ act. Fails act.event.what s.submission code)
   pub spent : NoneSpent end
 
--- of what was taken in and taken over
+-- of the accepted submissions and the confirmed entries
 pub record AreTaken (done : List Act) (end : End) : Type 0 where
   pub handed_in : (s : Sent) → Has end.sent s → SomeAct done (HandsIn s.submission)
   pub taken_in : (act : Act) (number : ℕ) (id : List ℕ) → Has done act → act.outcome.reply ≡ reply.Submitted number id
@@ -80,7 +80,7 @@ pub record AreTaken (done : List Act) (end : End) : Type 0 where
   pub came : end.confirmed ≤ length end.inbox
   pub taken_over : (n : ℕ) → n < end.confirmed → SomeAct done (TakesOver n)
 
--- of an end alone
+-- of one endpoint alone
 pub record AreAccounted (done : List Act) (end : End) : Type 0 where
   pub counted : AreCounted done end
   pub settled : AreSettled done end
@@ -88,7 +88,7 @@ pub record AreAccounted (done : List Act) (end : End) : Type 0 where
   pub apart : Apart (ids end.inbox)
   pub clock : (act : Act) → Has done act → act.event.what ≡ what.Tick → (IsFull act.outcome.reply → ⊥) → act.event.stamp ≤ end.moment
 
--- an act that was done is still done
+-- an earlier act remains an act
 still : (done : List Act) (act : Act) (P : Act → Type 0) → SomeAct done P → SomeAct (done ++ act ∷ []) P
 still done act P h = (h.0, had_left done (act ∷ []) h.0 h.1, h.2)
 
@@ -216,13 +216,13 @@ not_submitted reply.Unknown plain = refl
 not_submitted (reply.Full size need) plain = refl
 not_submitted (reply.Stopped before after) plain = refl
 
--- a submission that was there before
+-- a submission that existed before
 record StoodBefore (old : List Sent) (t : Sent) : Type 0 where
   one : Sent
   there : Has old one
   same : one.submission ≡ t.submission
 
--- where the count stays, each submission was there before
+-- where the count doesn't change, each submission existed before
 stood : (act : Act) (end new : End) (t : Sent) → AreNumberedFrom 0 end.sent → EndGoes act.event.what act.outcome.reply end new
     → length new.sent ≡ length end.sent → Has new.sent t → StoodBefore end.sent t
 stood act end new t numbered goes count h = elim (goes.tries t h) [
@@ -230,7 +230,7 @@ stood act end new t numbered goes count h = elim (goes.tries t h) [
   | inr next ↦ absurd (omega (arith, next.1, number_below 0 new.sent t goes.sent.numbered h))
 ]
 
--- where nothing is taken in, what was taken in stands
+-- where nothing is submitted, the earlier submissions remain
 taken_before : (done : List Act) (act : Act) (end new : End) → AreTaken done end → EndGoes act.event.what act.outcome.reply end new
     → (a : Act) (number : ℕ) (id : List ℕ) → Has done a → a.outcome.reply ≡ reply.Submitted number id
     → (s : Sent) × (slice_get new.sent number ≡ Some s) × HandsIn s.submission a
@@ -239,7 +239,7 @@ taken_before done act end new taken goes a number id h e =
     let t = goes.sent.stands number s.0 s.1 in
     (t.later, t.there, subst (λ (u : Submission). HandsIn u a) (sym t.same) s.2)
 
--- where the count of submissions stays
+-- where the number of submissions doesn't change
 rests_taken : (done : List Act) (act : Act) (end new : End) → AreNumberedFrom 0 end.sent → AreTaken done end
     → EndGoes act.event.what act.outcome.reply end new → length new.sent ≡ length end.sent → is_submitted act.outcome.reply ≡ false
     → new.confirmed ≤ length new.inbox → ((n : ℕ) → n < new.confirmed → SomeAct (done ++ act ∷ []) (TakesOver n))
@@ -394,7 +394,7 @@ no_earlier modes end event w outcome (inr (inr (inr confirms))) =
 at_most : (a b : ℕ) → nat_le a b ≡ true → a ≤ b
 at_most a b e = grind (arith, nat_tests)
 
--- and shows what it was set to
+-- and is at least at the stamps of its ticks
 shows : (modes : List Mode) (end : End) (event : Event) (outcome : Outcome) → Step modes end event outcome → event.what ≡ what.Tick
     → (IsFull outcome.reply → ⊥) → event.stamp ≤ (applied outcome.effects end).moment
 unfolding Ticks applied after
@@ -425,7 +425,7 @@ accounted_act done act end all step = record {
     kind : Kind act.modes end act.event act.event.what act.outcome
     kind = step_kind act.modes end act.event act.outcome step
 
--- where the journal is folded, nothing else changes
+-- compaction of the journal changes nothing else
 accounted_fold : (done : List Act) (size : ℕ) (end : End) → AreAccounted done end → AreAccounted done (resized size end)
 accounted_fold done size end all = record {
   counted = record {
@@ -457,7 +457,7 @@ accounted_all done (Does act ∷ later) end all may =
 accounted_all done (Folds site size ∷ later) end all may =
     accounted_all done later (resized size end) (accounted_fold done size end all) may.1
 
--- the journal has what was written
+-- the journal has the bytes that were written
 pub sized : (all : List Happening) (end : End) → (end_after all end).size ≡ size_after all end.size
 sized [] end = refl
 sized (Does act ∷ later) end =

@@ -1,4 +1,4 @@
--- One end alone: what happens in two spans of time, and what stands over them.
+-- One endpoint alone: what happens in two spans of time, and what remains true over them.
 use Rattle.std.proofs.Common.{◌≡◌, List, [], ◌∷◌, ◌++◌, false, refl}
 use Rattle.exchange_model.specs.Alone.{MayHappenTo, end_after}
 use Rattle.exchange_model.specs.Apply.{applied}
@@ -20,7 +20,7 @@ stays_numbered (Does act ∷ later) end numbered may =
     stays_numbered later (applied act.outcome.effects end) goes.sent.numbered may.1
 stays_numbered (Folds site size ∷ later) end numbered may = stays_numbered later (resized size end) numbered may.1
 
--- and what is pending no more stays as it is
+-- and a settled submission doesn't change
 pub stays_settled : (all : List Happening) (end : End) (s : Sent) → AreNumberedFrom 0 end.sent → MayHappenTo all end → Has end.sent s
     → is_pending s ≡ false → Has (end_after all end).sent s
 stays_settled [] end s numbered may h settled = h
@@ -29,7 +29,7 @@ stays_settled (Does act ∷ later) end s numbered may h settled =
     stays_settled later (applied act.outcome.effects end) s goes.sent.numbered may.1 (goes.sent.settled s h settled) settled
 stays_settled (Folds site size ∷ later) end s numbered may h settled = stays_settled later (resized size end) s numbered may.1 h settled
 
--- of what happens in two parts the first may happen, and the second where the first has led
+-- if a sequence of two parts may happen, the first part may, and the second may where the first has led
 pub may_split : (all more : List Happening) (end : End) → MayHappenTo (all ++ more) end
     → MayHappenTo all end × MayHappenTo more (end_after all end)
 may_split [] more end may = (tt, may)

@@ -1,4 +1,4 @@
--- What is handed out was asked for, and what is asked for is done.
+-- A message that is sent was asked for, and a request is served.
 use Rattle.std.proofs.Common.{◌≡◌, ℕ, ◌+◌, ◌<◌, ◌≤◌, ◌⊎◌, inl, inr, List, [], ◌∷◌, Bool, true, false, Option, Some, None, length, refl, sym, ap, ◌∙◌, subst}
 use Rattle.std.specs.Prelude.{IsSome, MatchOption, nat_le, nat_lt, slice_get, if◌then◌else◌}
 use Rattle.std.specs.Bool.{MatchBool}
@@ -7,12 +7,12 @@ use Rattle.std.proofs.lemmas.Bool.{lt-leb}
 use Rattle.as4_effects.specs.declared.effect.Effect.{Effect}
 use Rattle.as4_effects.specs.declared.effect.Effect.TheVariants as effect
 use Rattle.as4_effects.specs.declared.queue.Queue.TheVariants as queue
-use Rattle.as4_values.specs.ModeMatch.{mode_named, mode_of, channel_mode}
+use Rattle.mode_values.specs.ModeMatch.{mode_named, mode_of, channel_mode}
 use Rattle.as4_values.specs.declared.header.UserHeader.{UserHeader}
 use Rattle.as4_values.specs.declared.message.Pair.{Pair}
 use Rattle.as4_values.specs.declared.message.Message.{Message}
 use Rattle.as4_values.specs.declared.message.Message.TheVariants as message
-use Rattle.as4_values.specs.declared.mode.Mode.{Mode}
+use Rattle.mode_values.specs.declared.mode.Mode.{Mode}
 use Rattle.as4_values.specs.declared.payload.Load.{Load}
 use Rattle.as4_values.specs.declared.payload.Payload.{Payload}
 use Rattle.as4_values.specs.declared.route.Route.{Route}
@@ -43,7 +43,7 @@ use Rattle.exchange_laws.proofs.RoomLemmas.{rest_taken, submits_small}
 use Rattle.exchange_laws.proofs.ToldLemmas.{not_below}
 use Rattle.exchange_laws.proofs.RoundLemmas.{IsRoomy, row_at, can_write, at_some, at_any, at_bool}
 
--- a submission is taken in
+-- a submission is accepted
 pub taken_in : (modes : List Mode) (end : End) (event : Event) (outcome : Outcome) (name : List ℕ) (conversation : Option (List ℕ)) (loads : List Load)
     → Step modes end event outcome → event.what ≡ what.Submit name conversation loads → IsSome (mode_named modes name)
     → length end.sent < 1048576 → are_too_large loads ≡ false → IsRoomy end outcome
@@ -58,15 +58,15 @@ taken_in modes end event outcome name conversation loads step asked named below 
     let taken : TakesIn served.0 end event conversation loads outcome = at_bool _ _ (are_too_large loads) false small few in
     (taken.0.number, taken.0.header.id, ap (λ (o : Outcome). o.reply) taken.2)
 
--- what an event asks for: the head of what is pushed, or by a pull request, alone or in a pair, that of a channel of the
--- modes
+-- the submission that an event asks for: the head of the push queue, or by a pull request, alone or in a pair, that of
+-- a channel of the modes
 abbrev AskedBy : Sent → List Mode → What → End → Type 0
 AskedBy s modes w end =
     ((w ≡ what.Take) × (head_of queue.Push end ≡ Some s))
     ⊎ (((signal : Signal) × (w ≡ what.Came (message.Signal signal)) × IsPulled s modes signal end)
     ⊎ ((pair : Pair) × (w ≡ what.Came (message.Pair pair)) × IsPulledBehind s modes pair end))
 
--- a user message that is said was asked for, and a push goes to its address
+-- a user message that is sent was asked for, and a push goes to its address
 record WasAsked (modes : List Mode) (end : End) (w : What) (r : Reply) (m : Message) : Type 0 where
   one : Sent
   asked : AskedBy one modes w end
@@ -78,13 +78,13 @@ Asked modes end w outcome =
     (header : UserHeader) (payloads : List Payload) → Has (sends outcome.reply) (message.User header payloads)
     → WasAsked modes end w outcome.reply (message.User header payloads)
 
--- nothing is said
+-- nothing is sent
 silent : (modes : List Mode) (end : End) (w : What) (r : Reply) (effects : List Effect) (outcome : Outcome) → sends r ≡ []
     → outcome ≡ record { effects = effects; reply = r } → Asked modes end w outcome
 silent modes end w r effects outcome none e header payloads said =
     absurd (subst (λ (ms : List Message). Has ms (message.User header payloads)) (ap (λ (o : Outcome). sends o.reply) e ∙ none) said)
 
--- what is said is no user message
+-- the message that is sent is no user message
 another : (modes : List Mode) (end : End) (w : What) (r : Reply) (effects : List Effect) (outcome : Outcome) (m : Message)
     → ((header : UserHeader) (payloads : List Payload) → m ≡ message.User header payloads → ⊥)
     → sends r ≡ m ∷ [] → outcome ≡ record { effects = effects; reply = r } → Asked modes end w outcome
@@ -95,7 +95,7 @@ another modes end w r effects outcome m other one e header payloads said =
     no_user (inl same) = other header payloads same
     no_user (inr none) = none
 
--- a signal is said
+-- a signal is sent
 signals : (modes : List Mode) (end : End) (w : What) (r : Reply) (effects : List Effect) (outcome : Outcome) (signal : Signal)
     → sends r ≡ message.Signal signal ∷ [] → outcome ≡ record { effects = effects; reply = r } → Asked modes end w outcome
 signals modes end w r effects outcome signal one e = another modes end w r effects outcome (message.Signal signal) (λ header payloads same. cc) one e
@@ -182,7 +182,7 @@ user_comes modes end event w header payloads outcome h =
     by_bool _ _ _ (is_known header.id end.inbox) k (λ _. receipts modes end w header [] event outcome) (λ _ d.
     receipts modes end w header _ event outcome d.3))
 
--- a pull request, alone or in a pair: whose head is handed out at this end, asks for it by this event
+-- a pull request, alone or in a pair: this event asks for the head that this endpoint sends
 pull_comes : (modes : List Mode) (end at : End) (event : Event) (w : What) (pull : Signal) (mpc : List ℕ) (outcome : Outcome)
     → pull.body ≡ body.Pull mpc → ((s : Sent) → IsPulled s modes pull at → AskedBy s modes w end)
     → PullComes modes at event pull.id mpc outcome → Asked modes end w outcome
@@ -226,7 +226,7 @@ signal_comes modes end event signal (body.Pull mpc) outcome e h =
 signal_comes modes end event signal (body.Receipt copy) outcome e h = receipt_comes modes end event _ signal.id signal.ref_to copy outcome h
 signal_comes modes end event signal (body.Errors items) outcome e h = silent modes end _ reply.Quiet _ outcome refl h
 
--- a pair, whose pull request asks the end behind its receipt
+-- a pair, whose pull request asks the endpoint after its receipt
 pair_comes : (modes : List Mode) (end : End) (event : Event) (pair : Pair) (outcome : Outcome)
     → PairComes modes end event pair.receipt pair.pull outcome → Asked modes end (what.Came (message.Pair pair)) outcome
 pair_comes modes end event pair outcome h = elim (pair_cases modes end event pair outcome h) [
@@ -293,7 +293,7 @@ step_asked act end header payloads step said =
     header payloads said in
     (asked.one, asked.asked, asked.same, asked.address)
 
--- an ask for a mode that pulls sends a pull request for its channel to its address
+-- an `Ask` by a pull mode sends a pull request for its channel to its address
 pub asks_pull : (modes : List Mode) (end : End) (event : Event) (outcome : Outcome) (name mpc address : List ℕ) (mode : Mode)
     → Step modes end event outcome → event.what ≡ what.Ask name → mode_named modes name ≡ Some mode → mode.route ≡ route.Pull mpc address
     → (signal : Signal) × (outcome.reply ≡ reply.Request address (message.Signal signal)) × (signal.body ≡ body.Pull mpc)
@@ -305,7 +305,7 @@ asks_pull modes end event outcome name mpc address mode step asked named pulls =
     let rests : Rests (reply.Request address (message.Signal by.0)) outcome = rest_taken end step.row outcome _ step.limited by.2 in
     (by.0, ap (λ (o : Outcome). o.reply) rests, by.1.asks)
 
--- an ask with an entry that isn't confirmed bundles its receipt with the pull request
+-- an `AskWith` for an entry that isn't confirmed bundles its receipt with the pull request
 pub asks_pair : (modes : List Mode) (end : End) (event : Event) (outcome : Outcome) (name : List ℕ) (n : ℕ) (mpc address : List ℕ) (mode : Mode)
     (entry : InboxEntry)
     → Step modes end event outcome → event.what ≡ what.AskWith name n → mode_named modes name ≡ Some mode → mode.route ≡ route.Pull mpc address

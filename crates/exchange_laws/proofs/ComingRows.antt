@@ -1,4 +1,4 @@
--- What an end does with the messages of the other end.
+-- What an endpoint does with the messages of the other endpoint.
 use Rattle.std.proofs.Common.{◌≡◌, ℕ, ◌⊎◌, List, [], ◌∷◌, ◌++◌, true, false, Option, Some, None, map, inl, inr, refl, sym, ap, ◌∙◌, subst}
 use Rattle.std.specs.List.{filter_map}
 use Rattle.std.specs.Option.{option_map, option_and_then}
@@ -6,12 +6,12 @@ use Rattle.as4_effects.specs.declared.effect.Effect.{Effect}
 use Rattle.as4_effects.specs.declared.effect.Effect.TheVariants as effect
 use Rattle.as4_effects.specs.declared.queue.Queue.TheVariants as queue
 use Rattle.as4_effects.specs.declared.submission.Submission.{Submission}
-use Rattle.as4_values.specs.ModeMatch.{mode_of, channel_mode}
+use Rattle.mode_values.specs.ModeMatch.{mode_of, channel_mode}
 use Rattle.as4_values.specs.declared.header.UserHeader.{UserHeader}
 use Rattle.as4_values.specs.declared.message.Pair.{Pair}
 use Rattle.as4_values.specs.declared.message.Message.{Message}
 use Rattle.as4_values.specs.declared.message.Message.TheVariants as message
-use Rattle.as4_values.specs.declared.mode.Mode.{Mode}
+use Rattle.mode_values.specs.declared.mode.Mode.{Mode}
 use Rattle.as4_values.specs.declared.payload.Payload.{Payload}
 use Rattle.as4_values.specs.declared.signal.Signal.{Signal}
 use Rattle.as4_values.specs.declared.signal_body.ErrorItem.{ErrorItem}
@@ -55,7 +55,7 @@ errors_back inbox ref_to about b None e = absurd cc
 errors_back inbox ref_to about b (Some row) e =
     let same : body.Errors (error_item row about ∷ []) ≡ b = cc in subst (BacksSignal inbox ref_to) same tt
 
--- an error is told
+-- an error is reported
 errs : (what : What) (code : ℕ) (about : List ℕ) (end : End) (event : Event) (outcome : Outcome) → AreNumberedFrom 0 end.sent
     → Errs code about event outcome
     → Goes what end outcome
@@ -166,14 +166,14 @@ abbrev AreFailures : What → List Rejection → List Sent → Type 0
 AreFailures what refusals sent = (refusal : Rejection) → Has refusals refusal
     → (s : Sent) → Has sent s → s.submission.number ≡ refusal.number → Fails what s.submission refusal.code
 
--- the same behind a refusal
+-- the same after a refusal
 failures_behind : (what : What) (refusal : Rejection) (refusals : List Rejection) (sent : List Sent) → AreFailures what refusals sent
     → AreFailures what refusals (changed refusal.number (marked (mark.Refused refusal.code)) sent)
 failures_behind what refusal refusals sent fail later h t there number =
     let s = stay_marked sent refusal.number (mark.Refused refusal.code) t there in
     subst (λ (u : Submission). Fails what u later.code) s.2 (fail later h s.0 s.1 (ap (λ (u : Submission). u.number) s.2 ∙ number))
 
--- the refusals, one after another, where each is of a pending submission
+-- the refusals one after another, each of a pending submission
 refuses : (what : What) (refusals : List Rejection) (end : End) → AreNumberedFrom 0 end.sent → AreApart refusals
     → ((refusal : Rejection) → Has refusals refusal → IsPendingNumber refusal.number end.sent) → AreFailures what refusals end.sent
     → EndGoes what reply.Quiet end (after_all (refused refusals) end)
@@ -206,7 +206,7 @@ errors_come signal items end outcome errors numbered h = goes_by (Came (message.
     (refuses (Came (message.Signal signal)) (once (filter_map (refusal_of signal.ref_to end.sent) items)) end numbered (once_apart _)
     (refusals_pend end.sent signal.ref_to items numbered) (refusals_fail end.sent signal items numbered errors))
 
--- a signal, by what it holds
+-- a signal, by its body
 signal_comes : (modes : List Mode) (end : End) (event : Event) (signal : Signal) (b : SignalBody) (outcome : Outcome)
     → signal.body ≡ b → AreNumberedFrom 0 end.sent
     → SignalComes modes end event signal.id signal.ref_to b outcome → Goes (Came (message.Signal signal)) end outcome
@@ -228,7 +228,7 @@ goes_behind what r number end new first rest = record {
   tries = tries_behind (sends r) end.sent number mark.Receipted new.sent rest.tries;
 }
 
--- the row of its pull request at the end behind
+-- the row of its pull request at the endpoint after the receipt
 pub pulls_behind : (modes : List Mode) (end : End) (event : Event) (pair : Pair) (mpc : List ℕ) (s : Sent) (outcome : Outcome)
     → AreNumberedFrom 0 end.sent → IsReceiptAt s pair.receipt end → (b : IsBehind modes end event pair.pull mpc s outcome)
     → SentGoes (Came (message.Pair pair)) end.sent (changed s.submission.number (marked mark.Receipted) end.sent)
@@ -269,7 +269,7 @@ pair_comes modes end event pair outcome numbered h = elim (pair_cases modes end 
     what : What
     what = Came (message.Pair pair)
 
--- what comes
+-- any received message
 pub comes : (modes : List Mode) (end : End) (event : Event) (m : Message) (outcome : Outcome) → AreNumberedFrom 0 end.sent
     → Comes modes end event m outcome → Goes (Came m) end outcome
 comes modes end event (message.User header payloads) outcome numbered h = user_comes modes end event header payloads outcome numbered h

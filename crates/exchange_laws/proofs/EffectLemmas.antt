@@ -1,4 +1,4 @@
--- What effects change of an end, and what they leave.
+-- What effects change at an endpoint, and what they leave.
 use Rattle.std.proofs.Common.{◌≡◌, ℕ, ◌+◌, ◌≤◌, ◌⊎◌, inl, inr, List, [], ◌∷◌, ◌++◌, Bool, true, false, length, map, refl, sym, ap, ◌∙◌, subst, arith}
 use Rattle.std.specs.Prelude.{◌==◌, ◌&&◌, nat_le, if◌then◌else◌}
 use Rattle.std.proofs.lemmas.Bool.{cases_Bool}
@@ -19,7 +19,7 @@ use Rattle.exchange_model.proofs.ListLemmas.{Has}
 use Rattle.exchange_laws.proofs.ListLemmas.{has_mapped, has_either}
 use Rattle.exchange_laws.proofs.OutcomeKinds.{IsPlainEffect, ArePlain, IsMade, AreMade}
 
--- the record of the effects makes the journal longer, and no more
+-- the record of the effects makes the journal longer, and changes nothing else
 pub record IsLonger (new end : End) (bytes : ℕ) : Type 0 where
   pub sent : new.sent ≡ end.sent
   pub inbox : new.inbox ≡ end.inbox
@@ -83,24 +83,24 @@ plain_applied effects end plain =
     let more = longer effects end in
     record { count = ap length more.sent ∙ made.count; confirmed = more.confirmed ∙ made.confirmed; moment = more.moment ∙ made.moment }
 
--- none was sent for the last time and is overdue
+-- no submission is past its last try and overdue
 abbrev pub NoneSpent : End → Type 0
 NoneSpent end = (s : Sent) → Has end.sent s → is_spent end.moment s ≡ false
 
--- what was never sent isn't
+-- one that was never sent isn't
 unsent_one : (moment : ℕ) (s : Submission) (t : Sent) → Has (unsent s ∷ []) t → is_spent moment t ≡ false
 unsent_one moment s t (inl e) = subst (λ (u : Sent). is_spent moment u ≡ false) e (grind (arith, nat_tests))
 unsent_one moment s t (inr none) = absurd none
 
--- what was sent just now isn't
+-- one that was just sent isn't
 tried_one : (moment : ℕ) (s : Sent) → is_spent moment (tried moment s) ≡ false
 tried_one moment s = let timed = s.submission.timed in let long = timed.0 in grind (arith, nat_tests)
 
--- what is pending no more isn't
+-- a settled one isn't
 settled_one : (moment : ℕ) (s : Sent) → is_pending s ≡ false → is_spent moment s ≡ false
 settled_one moment s e = rw e refl
 
--- what is overdue is given up
+-- an overdue one expires
 failed_one : (moment : ℕ) (s : Sent) → is_spent moment (failed_if_spent moment s) ≡ false
 failed_one moment s = by_test (is_spent moment s) refl
   where

@@ -1,4 +1,4 @@
--- What an event leaves at an end, and what the end says to it.
+-- How an event changes an endpoint, and its reply.
 use Rattle.std.proofs.Common.{◌≡◌, ℕ, List, [], ◌∷◌, Bool, true, false, Option, Some, None, refl, sym, subst}
 use Rattle.std.specs.Prelude.{MatchOption}
 use Rattle.std.specs.Bool.{MatchBool}
@@ -25,7 +25,7 @@ use Rattle.exchange_laws.proofs.InboxLemmas.{ids}
 use Rattle.exchange_laws.proofs.InboxSteps.{InboxGoes, inbox_stays}
 use Rattle.exchange_laws.proofs.TriesSteps.{IsQuiet, TriesGo, quiet_none, tries_quiet, stay_same}
 
--- a receipt is of a message that came
+-- a receipt is for a message that was received
 abbrev pub BacksSignal : List InboxEntry → Option (List ℕ) → SignalBody → Type 0
 BacksSignal inbox ref_to (body.Receipt copy) = (id : List ℕ) → ref_to ≡ Some id → Has (ids inbox) id
 BacksSignal inbox ref_to (body.Pull mpc) = Unit {0}
@@ -38,14 +38,14 @@ Backs sent inbox (message.User header payloads) =
 Backs sent inbox (message.Signal signal) = BacksSignal inbox signal.ref_to signal.body
 Backs sent inbox (message.Pair pair) = BacksSignal inbox pair.receipt.ref_to pair.receipt.body
 
--- from before an event to after it: what was sent, what came, and what is said to the other end
+-- from before an event to after it: the submissions, the inbox, and the messages to the other endpoint
 pub record EndGoes (what : What) (reply : Reply) (old new : End) : Type 0 where
   pub sent : SentGoes what old.sent new.sent
   pub inbox : InboxGoes what old.inbox old.confirmed new.inbox new.confirmed
   pub says : (m : Message) → Has (sends reply) m → Backs new.sent new.inbox m
   pub tries : TriesGo (sends reply) old.sent new.sent
 
--- the record of the effects makes the journal longer, and no more
+-- the record of the effects makes the journal longer, and changes nothing else
 goes_applied : (what : What) (r : Reply) (effects : List Effect) (end : End) → EndGoes what r end (after_all effects end)
     → EndGoes what r end (applied effects end)
 unfolding applied
@@ -59,14 +59,14 @@ unfolding applied
 unapplied what r [] end g = g
 unapplied what r (e ∷ effects) end g = record { sent = g.sent; inbox = g.inbox; says = g.says; tries = g.tries }
 
--- by what the outcome is
+-- by the value of the outcome
 pub goes_by : (what : What) (r : Reply) (effects : List Effect) (end : End) (outcome : Outcome)
     → outcome ≡ record { effects = effects; reply = r }
     → EndGoes what r end (after_all effects end) → EndGoes what outcome.reply end (applied outcome.effects end)
 goes_by what r effects end outcome e g =
     subst (λ (o : Outcome). EndGoes what o.reply end (applied o.effects end)) (sym e) (goes_applied what r effects end g)
 
--- a receipt stands by the message that came
+-- a receipt is backed by the message that was received
 pub receipt_backs : (inbox : List InboxEntry) (header : UserHeader) (signal : Signal) → signal.ref_to ≡ Some header.id
     → signal.body ≡ body.Receipt (Some header)
     → Has (ids inbox) header.id → BacksSignal inbox signal.ref_to signal.body

@@ -17,12 +17,12 @@ id_of entry = entry.header.id
 abbrev pub ids : List InboxEntry → List (List ℕ)
 ids inbox = map id_of inbox
 
--- no two are the same
+-- no two are equal
 abbrev pub Apart : List (List ℕ) → Type 0
 Apart [] = Unit {0}
 Apart (x ∷ xs) = (Has xs x → ⊥) × Apart xs
 
--- a new one behind them
+-- a new one at the end
 pub apart_push : (xs : List (List ℕ)) (x : List ℕ) → Apart xs → (Has xs x → ⊥) → Apart (xs ++ x ∷ [])
 apart_push [] x apart new = (λ h. absurd h, tt)
 apart_push (y ∷ ys) x apart new =
@@ -93,7 +93,7 @@ counted_no : (id : List ℕ) (e : InboxEntry) → (e.header.id ≡ id → ⊥) �
 counted_no id e other true same = absurd (other ((bytes_eq-Decides e.header.id id).0 same))
 counted_no id e other false same = refl
 
--- an identifier that isn't there
+-- an identifier that isn't in the inbox
 pub count_none : (id : List ℕ) (inbox : List InboxEntry) → (Has (ids inbox) id → ⊥) → count_by (is_of id) inbox ≡ 0
 count_none id [] none = refl
 count_none id (e ∷ es) none =
@@ -101,7 +101,7 @@ count_none id (e ∷ es) none =
     let rest : count_by (is_of id) es ≡ 0 = count_none id es (λ h. none (inr h)) in
     omega (arith, count_step id e es)
 
--- one of identifiers that differ stands there once
+-- with distinct identifiers, each one is there once
 pub count_one : (id : List ℕ) (inbox : List InboxEntry) → Apart (ids inbox) → Has (ids inbox) id → count_by (is_of id) inbox ≡ 1
 count_one id [] apart h = absurd h
 count_one id (e ∷ es) apart (inl same) =

@@ -12,7 +12,7 @@ use Rattle.exchange_model.proofs.ListLemmas.{Has}
 use Rattle.exchange_laws.proofs.ListLemmas.{had_left, got_left}
 use Rattle.exchange_laws.proofs.InboxLemmas.{id_of, ids, Apart, apart_push, unknown_new}
 
--- an entry that stood at this place before; where its payloads still are to stand, they stood before too
+-- an entry that was at this place before; where its payloads must remain, they were there before too
 pub record Stood (old : List InboxEntry) (confirmed : ℕ) (n : ℕ) (entry : InboxEntry) (is_kept : Type 0) : Type 0 where
   pub before : InboxEntry
   pub there : slice_get old n ≡ Some before
@@ -20,14 +20,14 @@ pub record Stood (old : List InboxEntry) (confirmed : ℕ) (n : ℕ) (entry : In
   pub payloads : is_kept → entry.payloads ≡ before.payloads
   pub unconfirmed : is_kept → confirmed ≤ n
 
--- an entry that stands at this place later; where its payloads still are to stand, they do
+-- an entry that is at this place later; where its payloads must remain, they do
 pub record Stays (new : List InboxEntry) (n : ℕ) (entry : InboxEntry) (is_kept : Type 0) : Type 0 where
   pub later : InboxEntry
   pub there : slice_get new n ≡ Some later
   pub header : later.header ≡ entry.header
   pub payloads : is_kept → later.payloads ≡ entry.payloads
 
--- from before an event to after it, with the counts of those that are confirmed
+-- from before an event to after it, with the counts of confirmed entries
 pub record InboxGoes (what : What) (old : List InboxEntry) (before : ℕ) (new : List InboxEntry) (after : ℕ) : Type 0 where
   pub apart : Apart (ids old) → Apart (ids new)
   pub known : (id : List ℕ) → Has (ids old) id → Has (ids new) id
@@ -83,7 +83,7 @@ ids_emptied zero inbox = refl
 ids_emptied (suc count) [] = refl
 ids_emptied (suc count) (e ∷ es) = ap (λ xs. e.header.id ∷ xs) (ids_emptied count es)
 
--- an entry that is left was there, and has its payloads where it is not emptied
+-- an entry that remains existed before, and has its payloads unless it is emptied
 got_emptied : (count : ℕ) (inbox : List InboxEntry) (n : ℕ) (x : InboxEntry)
     → slice_get (map stripped (take count inbox) ++ drop count inbox) n ≡ Some x
     → (before : InboxEntry) × (slice_get inbox n ≡ Some before) × (x.header ≡ before.header) × (count ≤ n → x.payloads ≡ before.payloads)
@@ -94,7 +94,7 @@ got_emptied (suc count) (e ∷ es) zero x at =
 got_emptied (suc count) (e ∷ es) (suc n) x at =
     let h = got_emptied count es n x at in (h.0, h.1, h.2, λ k. h.3 (omega arith))
 
--- an entry that was there is left, and has its payloads where it is not emptied
+-- an entry that existed before remains, and has its payloads unless it is emptied
 emptied_got : (count : ℕ) (inbox : List InboxEntry) (n : ℕ) (x : InboxEntry) → slice_get inbox n ≡ Some x
     → Stays (map stripped (take count inbox) ++ drop count inbox) n x (count ≤ n)
 emptied_got zero inbox n x at = record { later = x; there = at; header = refl; payloads = λ k. refl }
@@ -106,7 +106,7 @@ emptied_got (suc count) (e ∷ es) (suc n) x at =
     let h = emptied_got count es n x at in
     record { later = h.later; there = h.there; header = h.header; payloads = λ k. h.payloads (omega arith) }
 
--- the consumer took over more
+-- the consumer confirmed more
 pub inbox_emptied : (what : What) (inbox : List InboxEntry) (confirmed count : ℕ) → confirmed ≤ count
     → InboxGoes what inbox confirmed (emptied count inbox) count
 unfolding emptied

@@ -1,4 +1,4 @@
--- What stands in joined and mapped lists, and which items a list has by `Contains` and by place.
+-- Items of joined and mapped lists, by `Contains` and by place.
 use Rattle.std.proofs.Common.{◌≡◌, ℕ, zero, suc, ◌<◌, ◌⊎◌, inl, inr, List, [], ◌∷◌, ◌++◌, Bool, true, false, cond, Option, Some, None, length, get_or, map, refl, sym, ap, ◌∙◌, arith}
 use Rattle.std.specs.Prelude.{slice_get}
 use Rattle.std.specs.List.{Contains, find, filter_map, cons_option}
@@ -26,18 +26,18 @@ has_got [] n x e = absurd cc
 has_got (y ∷ ys) zero x e = inl cc
 has_got (y ∷ ys) (suc n) x e = inr (has_got ys n x e)
 
--- the item at a place is there in a longer list
+-- the item at a place is there in a longer list too
 pub got_left : {X : Type 0} (xs ys : List X) (n : ℕ) (x : X) → slice_get xs n ≡ Some x → slice_get (xs ++ ys) n ≡ Some x
 got_left [] ys n x e = absurd cc
 got_left (y ∷ xs) ys zero x e = e
 got_left (y ∷ xs) ys (suc n) x e = got_left xs ys n x e
 
--- the last of a longer list is there
+-- the last item of a longer list is there
 pub got_last : {X : Type 0} (xs : List X) (x : X) → slice_get (xs ++ x ∷ []) (length xs) ≡ Some x
 got_last [] x = refl
 got_last (y ∷ xs) x = got_last xs x
 
--- and mapped in the mapped one
+-- and its image in the mapped list
 pub got_mapped : {X Y : Type 0} (f : X → Y) (xs : List X) (n : ℕ) (x : X) → slice_get xs n ≡ Some x
     → slice_get (map f xs) n ≡ Some (f x)
 got_mapped f [] n x e = absurd cc
@@ -59,19 +59,19 @@ has_either [] ys x h = inr h
 has_either (y ∷ xs) ys x (inl e) = inl (inl e)
 has_either (y ∷ xs) ys x (inr h) = elim (has_either xs ys x h) [ inl a ↦ inl (inr a) | inr b ↦ inr b ]
 
--- what stands in a mapped list comes from an item
+-- an item of a mapped list is the image of an item
 pub has_mapped : {X Y : Type 0} (f : X → Y) (xs : List X) (y : Y) → Has (map f xs) y → (x : X) × Has xs x × (f x ≡ y)
 has_mapped f [] y h = absurd h
 has_mapped f (x ∷ xs) y (inl e) = (x, inl refl, e)
 has_mapped f (x ∷ xs) y (inr h) = let m = has_mapped f xs y h in (m.0, inr m.1, m.2)
 
--- an item stands mapped in the mapped list
+-- the image of an item is in the mapped list
 pub had_mapped : {X Y : Type 0} (f : X → Y) (xs : List X) (x : X) → Has xs x → Has (map f xs) (f x)
 had_mapped f [] x h = absurd h
 had_mapped f (y ∷ xs) x (inl e) = inl (ap f e)
 had_mapped f (y ∷ xs) x (inr h) = inr (had_mapped f xs x h)
 
--- by the first test's answer
+-- by the result of the first test
 finds_by : {X : Type 0} (p : X → Bool) (y x : X) (ys : List X) (b : Bool) → p y ≡ b → p x ≡ true
     → (Has ys x → (z : X) × (find p ys ≡ Some z)) → Has (y ∷ ys) x → (z : X) × (cond b (Some y) (find p ys) ≡ Some z)
 finds_by p y x ys true e passes rest h = (y, refl)
@@ -83,14 +83,14 @@ pub finds : {X : Type 0} (p : X → Bool) (xs : List X) (x : X) → Has xs x →
 finds p [] x h passes = absurd h
 finds p (y ∷ ys) x h passes = finds_by p y x ys (p y) refl passes (λ k. finds p ys x k passes) h
 
--- by what the first item gives
+-- by the result for the first item
 filter_mapped_by : {X Y : Type 0} (f : X → Option Y) (x : X) (y : Y) (ys : List Y) (o : Option Y) → f x ≡ o
     → (Has ys y → (z : X) × (f z ≡ Some y)) → Has (cons_option o ys) y → (z : X) × (f z ≡ Some y)
 filter_mapped_by f x y ys None e rest h = rest h
 filter_mapped_by f x y ys (Some z) e rest (inl same) = (x, e ∙ ap Some same)
 filter_mapped_by f x y ys (Some z) e rest (inr h) = rest h
 
--- what some items give is given by one
+-- each result comes from one of the items
 pub has_filter_mapped : {X Y : Type 0} (f : X → Option Y) (xs : List X) (y : Y) → Has (filter_map f xs) y
     → (x : X) × (f x ≡ Some y)
 has_filter_mapped f [] y h = absurd h

@@ -1,4 +1,4 @@
--- What kind of outcome a step gives: it takes a submission in, sets the clock, confirms entries, or does none of these.
+-- The kinds of outcome: a step accepts a submission, sets the clock, confirms entries, or does none of these.
 use Rattle.std.proofs.Common.{◌≡◌, ℕ, ◌<◌, ◌≤◌, ◌⊎◌, inl, inr, List, [], ◌∷◌, Bool, true, false, Option, Some, None, length, map, refl, sym, ap, ◌∙◌, subst, arith}
 use Rattle.std.specs.Prelude.{nat_le, nat_lt, slice_get, if◌then◌else◌}
 use Rattle.std.specs.List.{filter_map}
@@ -9,13 +9,13 @@ use Rattle.as4_effects.specs.declared.effect.Effect.TheVariants as effect
 use Rattle.as4_effects.specs.declared.effect.Tick.{Tick}
 use Rattle.as4_effects.specs.declared.queue.Queue.TheVariants as queue
 use Rattle.as4_effects.specs.declared.submission.Submission.{Submission}
-use Rattle.as4_values.specs.ModeFields.{side_fields}
-use Rattle.as4_values.specs.ModeMatch.{Agreed, Matches, agreed_of, mode_named, mode_of, channel_mode}
+use Rattle.mode_values.specs.ModeFields.{side_fields}
+use Rattle.mode_values.specs.ModeMatch.{Agreed, Matches, agreed_of, mode_named, mode_of, channel_mode}
 use Rattle.as4_values.specs.declared.header.UserHeader.{UserHeader}
 use Rattle.as4_values.specs.declared.message.Pair.{Pair}
 use Rattle.as4_values.specs.declared.message.Message.{Message}
 use Rattle.as4_values.specs.declared.message.Message.TheVariants as message
-use Rattle.as4_values.specs.declared.mode.Mode.{Mode}
+use Rattle.mode_values.specs.declared.mode.Mode.{Mode}
 use Rattle.as4_values.specs.declared.payload.Load.{Load}
 use Rattle.as4_values.specs.declared.payload.Payload.{Payload}
 use Rattle.as4_values.specs.declared.route.Route.{Route}
@@ -40,7 +40,7 @@ use Rattle.exchange_model.specs.declared.what.What.TheVariants as what
 use Rattle.exchange_laws.proofs.EndSteps.{by_option, by_bool}
 use Rattle.exchange_laws.proofs.PairRows.{pair_cases}
 
--- effects that take in no submission, set no clock and confirm nothing, and replies that tell of none
+-- effects that submit nothing, set no clock and confirm nothing, and replies that report none of these
 abbrev pub IsPlainEffect : Effect → Type 0
 IsPlainEffect (effect.Submitted submission) = ⊥
 IsPlainEffect (effect.Ticked tick) = ⊥
@@ -62,7 +62,7 @@ pub record IsPlain (outcome : Outcome) : Type 0 where
   pub effects : ArePlain outcome.effects
   pub reply : IsPlainReply outcome.reply
 
--- a submission is taken in, by a mode
+-- a submission is accepted, by a mode
 pub record IsTakenIn (modes : List Mode) (w : What) (s : Submission) : Type 0 where
   pub name : List ℕ
   pub conversation : Option (List ℕ)
@@ -92,7 +92,7 @@ pub record Setting (end : End) (event : Event) (outcome : Outcome) : Type 0 wher
   pub later : end.moment ≤ tick.moment
   pub at : tick.moment ≡ event.stamp
 
--- entries are confirmed that came
+-- received entries are confirmed
 pub record Confirming (end : End) (w : What) (outcome : Outcome) : Type 0 where
   pub upto : ℕ
   pub asked : w ≡ what.Confirm upto

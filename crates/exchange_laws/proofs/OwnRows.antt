@@ -1,14 +1,14 @@
--- What an end does with the events of its own producer, consumer and clock.
+-- What an endpoint does with the events of its own producer, consumer and clock.
 use Rattle.std.proofs.Common.{◌≡◌, ℕ, ◌+◌, ◌≤◌, List, [], ◌∷◌, Bool, true, false, Option, Some, None, length, inl, inr, refl, sym, ap, subst, arith}
 use Rattle.std.specs.Prelude.{nat_le, nat_lt, slice_get, if◌then◌else◌}
 use Rattle.std.proofs.lemmas.Bool.Decides.{nat_tests}
 use Rattle.as4_effects.specs.declared.effect.Effect.TheVariants as effect
 use Rattle.as4_effects.specs.declared.queue.Queue.{Queue}
 use Rattle.as4_effects.specs.declared.queue.Queue.TheVariants as queue
-use Rattle.as4_values.specs.ModeMatch.{mode_named}
+use Rattle.mode_values.specs.ModeMatch.{mode_named}
 use Rattle.as4_values.specs.declared.message.Message.{Message}
 use Rattle.as4_values.specs.declared.message.Message.TheVariants as message
-use Rattle.as4_values.specs.declared.mode.Mode.{Mode}
+use Rattle.mode_values.specs.declared.mode.Mode.{Mode}
 use Rattle.as4_values.specs.declared.payload.Load.{Load}
 use Rattle.as4_values.specs.declared.route.Route.{Route}
 use Rattle.as4_values.specs.declared.route.Route.TheVariants as route
@@ -39,7 +39,7 @@ use Rattle.exchange_laws.proofs.InboxSteps.{inbox_stays, inbox_emptied}
 use Rattle.exchange_laws.proofs.TriesSteps.{tries_quiet, stay_same, stay_ticked, tries_push, tries_tried}
 use Rattle.exchange_laws.proofs.EndSteps.{Backs, BacksSignal, EndGoes, goes_by, receipt_backs, rests, rests_silent, by_option, by_bool}
 
--- what the event leads to
+-- the result of the event
 abbrev pub Goes : What → End → Outcome → Type 0
 Goes what end outcome = EndGoes what outcome.reply end (applied outcome.effects end)
 
@@ -83,7 +83,7 @@ ticks end event outcome numbered h =
       tries = tries_quiet [] end.sent _ (λ id. refl) (stay_ticked end.sent t.0.moment);
     }))
 
--- a head is handed out
+-- a head is sent
 pub hands_out : (what : What) (q : Queue) (end : End) (s : Sent) (r : Reply) (outcome : Outcome) → AreNumberedFrom 0 end.sent
     → head_of q end ≡ Some s
     → sends r ≡ message_of s.submission ∷ [] → Gives (effect.Tried s.submission.number) r outcome → Goes what end outcome
@@ -142,7 +142,7 @@ asks_with what modes end event name n outcome numbered h =
         by_bool _ _ _ (nat_lt n end.confirmed) k (λ _. rests_silent what reply.Gone end outcome refl numbered)
         (λ _. paired mpc address (slice_get end.inbox n) refl)
 
--- the answer to a question about an entry sends nothing
+-- the reply about an entry sends nothing
 pub read_silent : (end : End) (n : ℕ) → sends (read_reply end n) ≡ []
 unfolding read_reply
 read_silent end n = silent_by (nat_lt n end.confirmed)
@@ -178,7 +178,7 @@ confirms what end upto outcome numbered h =
       tries = tries_quiet [] end.sent _ (λ id. refl) (stay_same end.sent);
     })))
 
--- the answer to a question about a submission sends nothing
+-- the reply about a submission sends nothing
 pub standing_silent : (o : Option Sent) → sends (standing_reply o) ≡ []
 standing_silent None = refl
 standing_silent (Some s) = silent_mark s.tries s.mark

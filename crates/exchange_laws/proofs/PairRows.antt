@@ -1,5 +1,5 @@
--- What a pair comes to: an error; or its pull request's row, at the end as it is or at the one behind its receipt's
--- effect.
+-- The cases of a pair: an error, or the row of its pull request, at the unchanged endpoint or at the endpoint after its
+-- receipt's effect.
 use Rattle.std.proofs.Common.{◌≡◌, ℕ, ◌⊎◌, inl, inr, List, [], ◌∷◌, ◌++◌, Bool, true, false, Option, Some, None, refl, sym, ap, ◌∙◌, subst}
 use Rattle.std.specs.Prelude.{IsSome, IsTrue, MatchOption, if◌then◌else◌, is_some}
 use Rattle.std.specs.Bool.{MatchBool}
@@ -7,11 +7,11 @@ use Rattle.std.proofs.lemmas.Option.{same_Some}
 use Rattle.std.specs.Option.{option_and_then}
 use Rattle.as4_effects.specs.declared.effect.Effect.{Effect}
 use Rattle.as4_effects.specs.declared.effect.Effect.TheVariants as effect
-use Rattle.as4_values.specs.ModeMatch.{channel_mode}
+use Rattle.mode_values.specs.ModeMatch.{channel_mode}
 use Rattle.as4_values.specs.SignalParts.{is_receipt, is_pull}
 use Rattle.as4_values.specs.declared.header.UserHeader.{UserHeader}
 use Rattle.as4_values.specs.declared.message.Pair.{Pair}
-use Rattle.as4_values.specs.declared.mode.Mode.{Mode}
+use Rattle.mode_values.specs.declared.mode.Mode.{Mode}
 use Rattle.as4_values.specs.declared.signal.Signal.{Signal}
 use Rattle.as4_values.specs.declared.signal_body.SignalBody.{SignalBody}
 use Rattle.as4_values.specs.declared.signal_body.SignalBody.TheVariants as body
@@ -28,14 +28,14 @@ use Rattle.exchange_model.proofs.FoundLemmas.{sent_of_has}
 use Rattle.exchange_model.proofs.ListLemmas.{Has}
 use Rattle.exchange_laws.proofs.EndSteps.{by_option, by_bool}
 
--- the pull request's row at the end behind the receipt of a pending submission, with both effects in one record
+-- the row of the pull request at the endpoint after the receipt for a pending submission; one record holds both effects
 pub record IsBehind (modes : List Mode) (end : End) (event : Event) (pull : Signal) (mpc : List ℕ) (s : Sent) (outcome : Outcome) : Type 0 where
   pub pending : is_pending s ≡ true
   pub pulled : Outcome
   pub row : PullComes modes (after (effect.Receipted s.submission.number) end) event pull.id mpc pulled
   pub is : outcome ≡ record { effects = effect.Receipted s.submission.number ∷ pulled.effects; reply = pulled.reply }
 
--- the pull request's row where the receipt changes nothing
+-- the row of the pull request where the receipt changes nothing
 pub record IsAlone (modes : List Mode) (end : End) (event : Event) (pull : Signal) (mpc : List ℕ) (s : Sent) (outcome : Outcome) : Type 0 where
   pub settled : is_pending s ≡ false
   pub row : PullComes modes end event pull.id mpc outcome
@@ -53,7 +53,7 @@ pub record IsRefused (event : Event) (outcome : Outcome) : Type 0 where
   pub about : List ℕ
   pub errs : Errs code about event outcome
 
--- what the bodies of a pair are
+-- the bodies of a pair
 receipt_copy : (b : SignalBody) → IsTrue (is_receipt b) → (copy : Option UserHeader) × (b ≡ body.Receipt copy)
 receipt_copy (body.Pull mpc) h = absurd cc
 receipt_copy (body.Receipt copy) h = (copy, refl)
@@ -87,7 +87,7 @@ refused end event id ref_to copy settled h noisy =
         (λ _ g. let no_one : true ≡ false = sym (ap (λ (o : Outcome). is_quiet o.reply) g) ∙ noisy in cc)
         (λ _ g. let no_one : true ≡ false = sym (ap (λ (o : Outcome). is_quiet o.reply) g) ∙ noisy in cc)
 
--- a receipt that gives none changes nothing, or settles a pending submission
+-- a receipt that gives no error changes nothing, or settles a pending submission
 abbrev IsEffect : Sent → List Effect → Type 0
 IsEffect s effects =
     ((is_pending s ≡ false) × (effects ≡ []))
@@ -120,7 +120,7 @@ quiet end event id ref_to copy settled h q =
           (λ pending g. inr (pending, ap (λ (o : Outcome). o.effects) g)) (λ done g. inl (done, ap (λ (o : Outcome). o.effects) g));
     }
 
--- behind a receipt that gives no error, by whether a mode names the channel
+-- after a receipt that gives no error, by whether a mode names the channel
 joined : (modes : List Mode) (end : End) (event : Event) (pull : Signal) (mpc : List ℕ) (settled outcome : Outcome) (named : Bool)
     → pull.body ≡ body.Pull mpc → is_some (channel_mode modes mpc) ≡ named → (k : PullsBehind modes end event pull settled outcome)
     → outcome ≡ record { effects = if named then settled.effects ++ k.0.effects else []; reply = k.0.reply }
@@ -217,7 +217,7 @@ pair_cases modes end event pair outcome h =
         inr (serve modes end event pair.receipt pair.pull r.0 p.0 settled outcome r.1 p.1
         (quiet end event pair.receipt.id pair.receipt.ref_to r.0 settled row silent) (ap is_some e) k)
 
--- a receipt of a submission gives no error
+-- a receipt for a submission gives no error
 quiet_of : (end : End) (event : Event) (id : List ℕ) (ref_to : Option (List ℕ)) (copy : Option UserHeader) (settled : Outcome) (s : Sent)
     → ReceiptComes end event id ref_to copy settled → option_and_then (λ ref. sent_of ref end.sent) ref_to ≡ Some s
     → (IsOther copy s.submission.header → ⊥) → is_quiet settled.reply ≡ true
@@ -234,7 +234,7 @@ quiet_of end event id ref_to copy settled s h found own = by_copy (subst (λ p. 
     by_copy (inl other) = absurd (own other.0)
     by_copy (inr kept) = settles kept.1
 
--- a pair whose receipt is one of a submission, for a channel that a mode names
+-- a pair whose receipt is for a submission, and whose channel a mode names
 pub pair_served : (modes : List Mode) (end : End) (event : Event) (pair : Pair) (outcome : Outcome) (s : Sent)
     → PairComes modes end event pair.receipt pair.pull outcome → IsReceiptAt s pair.receipt end → IsTrue (names_channel modes pair.pull.body)
     → (mpc : List ℕ) × (pair.pull.body ≡ body.Pull mpc)

@@ -1,4 +1,4 @@
--- An error signal refuses pending submissions only, each once, and each by a failure about it.
+-- An error signal refuses only pending submissions, each once, and each because of a failure about it.
 use Rattle.std.proofs.Common.{◌≡◌, ℕ, ◌⊎◌, inl, inr, List, [], ◌∷◌, Bool, true, false, Option, Some, None, refl, sym, ap, ◌∙◌, subst, arith}
 use Rattle.std.specs.Prelude.{not, ◌==◌, if◌then◌else◌}
 use Rattle.std.specs.List.{filter, filter_map, cons_option}
@@ -24,12 +24,12 @@ use Rattle.exchange_laws.proofs.SentLemmas.{one_of_number}
 use Rattle.exchange_laws.proofs.SentSteps.{Fails}
 use Rattle.exchange_laws.proofs.SentChanges.{IsPendingNumber, pending_number}
 
--- no two refuse one submission
+-- no two refuse the same submission
 abbrev pub AreApart : List Rejection → Type 0
 AreApart [] = Unit {0}
 AreApart (refusal ∷ refusals) = ((later : Rejection) → Has refusals later → later.number ≡ refusal.number → ⊥) × AreApart refusals
 
--- what stands once stands there
+-- a refusal of `once` is one of the list
 once_has : (refusals : List Rejection) (refusal : Rejection) → Has (once refusals) refusal → Has refusals refusal
 unfolding once
 once_has [] refusal h = absurd h
@@ -37,7 +37,7 @@ once_has (first ∷ refusals) refusal (inl e) = inl e
 once_has (first ∷ refusals) refusal (inr h) =
     inr (once_has refusals refusal (has_filtered (λ (later : Rejection). not (later.number == first.number)) (once refusals) refusal h).0)
 
--- by the first test's answer
+-- by the result of the first test
 filtered_apart : (p : Rejection → Bool) (refusals : List Rejection) → AreApart refusals → AreApart (filter p refusals)
 filtered_apart p [] apart = tt
 filtered_apart p (refusal ∷ refusals) apart = by_test (p refusal) (filtered_apart p refusals apart.1)
@@ -57,7 +57,7 @@ once_apart (first ∷ refusals) = (
     differs : (later : Rejection) → not (later.number == first.number) ≡ true → later.number ≡ first.number → ⊥
     differs later test e = grind (arith, nat_tests)
 
--- what some items give is given by one of them
+-- each result comes from one of the items
 given_by : {X Y : Type 0} (f : X → Option Y) (x : X) (y : Y) (xs : List X) (o : Option Y) → f x ≡ o
     → (Has (filter_map f xs) y → (z : X) × Has xs z × (f z ≡ Some y)) → Has (cons_option o (filter_map f xs)) y
     → (z : X) × Has (x ∷ xs) z × (f z ≡ Some y)
@@ -88,7 +88,7 @@ refusals_pend sent ref_to items numbered refusal h =
     (pending_by item.severity item.code (option_or item.about ref_to) sent numbered) in
     found_pending refusal.number sent (sent_at refusal.number sent) numbered refl pending
 
--- a refusal by an error is one by a failure, about a submission of its number, with its code
+-- a refusal by an error comes from a failure, about a submission of its number, with its code
 record IsAbout (severity : Severity) (code : List ℕ) (about : Option (List ℕ)) (sent : List Sent) (refusal : Rejection) : Type 0 where
   failure : severity ≡ Failure
   one : Sent
@@ -123,7 +123,7 @@ about_by Failure code (Some id) sent refusal e = by_found (sent_of id sent) refl
     by_found None found f = absurd cc
     by_found (Some s) found f = by_pending s found (is_pending s) f
 
--- so each submission that is refused is so by a failure about it
+-- so each refused submission is refused by a failure about it
 pub refusals_fail : (sent : List Sent) (signal : Signal) (items : List ErrorItem) → AreNumberedFrom 0 sent → signal.body ≡ body.Errors items
     → (refusal : Rejection) → Has (once (filter_map (refusal_of signal.ref_to sent) items)) refusal
     → (s : Sent) → Has sent s → s.submission.number ≡ refusal.number → Fails (Came (message.Signal signal)) s.submission refusal.code

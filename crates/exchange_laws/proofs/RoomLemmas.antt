@@ -1,4 +1,4 @@
--- Where the journal has room for any effect, the row of an event is taken.
+-- Where the journal has room for any effect, the outcome of an event is its row.
 use Rattle.std.proofs.Common.{◌≡◌, ℕ, ◌+◌, ◌≤◌, ◌⊎◌, inl, inr, List, [], ◌∷◌, ◌++◌, Bool, true, false, Option, Some, length, length-append, refl, sym, ap, ◌∙◌, subst, arith}
 use Rattle.std.specs.Prelude.{◌==◌, ◌||◌, nat_le}
 use Rattle.std.specs.List.{flat_map}
@@ -11,10 +11,10 @@ use Rattle.as4_effects.specs.Sound.{effect_limit, fits_an_effect}
 use Rattle.as4_effects.specs.declared.effect.Effect.{Effect}
 use Rattle.as4_effects.specs.declared.effect.Effect.TheVariants as effect
 use Rattle.as4_effects.specs.declared.queue.Queue.TheVariants as queue
-use Rattle.as4_values.specs.ModeMatch.{mode_named, mode_of, channel_mode}
+use Rattle.mode_values.specs.ModeMatch.{mode_named, mode_of, channel_mode}
 use Rattle.as4_values.specs.declared.header.UserHeader.{UserHeader}
 use Rattle.as4_values.specs.declared.message.Pair.{Pair}
-use Rattle.as4_values.specs.declared.mode.Mode.{Mode}
+use Rattle.mode_values.specs.declared.mode.Mode.{Mode}
 use Rattle.as4_values.specs.declared.payload.Load.{Load}
 use Rattle.as4_values.specs.declared.payload.Payload.{Payload}
 use Rattle.exchange_model.specs.Apply.{record_len}
@@ -32,7 +32,7 @@ use Rattle.exchange_model.specs.declared.what.What.{What}
 use Rattle.exchange_laws.proofs.EndSteps.{by_option, by_bool}
 use Rattle.exchange_laws.proofs.PairRows.{pair_cases}
 
--- one effect at most, within its limit, or two that have but a number
+-- at most one effect, within its limit, or two effects with only a number each
 abbrev pub IsSmall : List Effect → Type 0
 IsSmall [] = Unit {0}
 IsSmall (e ∷ []) = length (effect_body e) ≤ effect_limit
@@ -46,7 +46,7 @@ fitting body fits = grind (arith, nat_tests)
 numbered : (kind number : ℕ) → length (kind ∷ number_body 8 number) ≤ effect_limit
 numbered kind number = omega (arith, number_length 8 number)
 
--- the record of one is eleven bytes longer
+-- the record of one effect is eleven bytes longer
 one_record : (e : Effect) → record_len (e ∷ []) ≡ length (effect_body e) + 11
 unfolding record_len effects_body
 one_record e =
@@ -76,7 +76,7 @@ has_room_for end (e ∷ []) room small = room_for_one end e room small
 has_room_for end (e ∷ f ∷ []) room small = room_for_two end e f room small
 has_room_for end (e ∷ f ∷ g ∷ effects) room small = absurd small
 
--- the journal isn't full, or has room for what the row writes
+-- the journal isn't full, or has room for the record of the row
 abbrev pub CanWrite : End → Outcome → Outcome → Type 0
 CanWrite end row outcome = (IsFull outcome.reply → ⊥) ⊎ (HasRoomForOne end × IsSmall row.effects)
 
@@ -124,7 +124,7 @@ pull_small modes end event id mpc row h =
     by_option _ _ _ (head_of (queue.Channel mpc) end) k (errs 6 id event row)
     (λ s _ g. subst (λ (o : Outcome). IsSmall o.effects) (sym g) (numbered 3 s.submission.number)))
 
--- a pull request hands out a head, or nothing
+-- a pull request sends a head, or nothing
 pub pull_few : (modes : List Mode) (end : End) (event : Event) (id mpc : List ℕ) (row : Outcome) → PullComes modes end event id mpc row
     → (row.effects ≡ []) ⊎ ((number : ℕ) × (row.effects ≡ effect.Tried number ∷ []))
 unfolding PullComes

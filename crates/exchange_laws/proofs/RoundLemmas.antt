@@ -1,4 +1,4 @@
--- Three acts of which nothing is lost: a submission is handed out, brought over, and its receipt is brought back.
+-- Three acts without loss: a submission is sent, is received, and its receipt is returned.
 use Rattle.std.proofs.Common.{◌≡◌, ℕ, ◌⊎◌, inl, inr, List, [], ◌∷◌, Bool, true, false, Option, Some, None, length, refl, sym, ap, ◌∙◌, subst, arith}
 use Rattle.std.specs.Prelude.{MatchOption, IsSome, IsTrue, is_some, ◌==◌, if◌then◌else◌}
 use Rattle.std.specs.Bool.{MatchBool}
@@ -9,11 +9,11 @@ use Rattle.as4_effects.specs.declared.effect.Effect.TheVariants as effect
 use Rattle.as4_effects.specs.declared.queue.Queue.{Queue}
 use Rattle.as4_effects.specs.declared.queue.Queue.TheVariants as queue
 use Rattle.as4_effects.specs.declared.submission.Submission.{Submission}
-use Rattle.as4_values.specs.ModeMatch.{mode_of, channel_mode}
+use Rattle.mode_values.specs.ModeMatch.{mode_of, channel_mode}
 use Rattle.as4_values.specs.declared.header.UserHeader.{UserHeader}
 use Rattle.as4_values.specs.declared.message.Message.TheVariants as message
 use Rattle.as4_values.specs.declared.message.Pair.{Pair}
-use Rattle.as4_values.specs.declared.mode.Mode.{Mode}
+use Rattle.mode_values.specs.declared.mode.Mode.{Mode}
 use Rattle.as4_values.specs.declared.signal.Signal.{Signal}
 use Rattle.as4_values.specs.declared.signal_body.SignalBody.{SignalBody}
 use Rattle.as4_values.specs.declared.signal_body.SignalBody.TheVariants as body
@@ -45,7 +45,7 @@ use Rattle.exchange_laws.proofs.EndSteps.{by_bool}
 use Rattle.exchange_laws.proofs.PairRows.{IsAlone, IsBehind, pair_served}
 use Rattle.exchange_laws.proofs.RoomLemmas.{CanWrite, IsSmall, row_taken, takes_small, pull_small, pair_small, user_small, receipt_small}
 
--- the row of what happens
+-- the row of the event
 pub row_at : (modes : List Mode) (end : End) (event : Event) (outcome : Outcome) (w : What) (step : Step modes end event outcome)
     → CanWrite end step.row outcome → event.what ≡ w
     → RowOf modes end event w outcome
@@ -57,7 +57,7 @@ row_at modes end event outcome w step room e =
 abbrev pub IsRoomy : End → Outcome → Type 0
 IsRoomy end outcome = (IsFull outcome.reply → ⊥) ⊎ HasRoomForOne end
 
--- so it can write what is small
+-- so it can write a small record
 pub can_write : (modes : List Mode) (end : End) (event : Event) (outcome : Outcome) (w : What) (step : Step modes end event outcome)
     → IsRoomy end outcome → event.what ≡ w → (RowOf modes end event w step.row → IsSmall step.row.effects)
     → CanWrite end step.row outcome
@@ -81,7 +81,7 @@ gives_after : (e : Effect) (r : Reply) (end : End) (outcome : Outcome) (R : End 
     → R (applied (e ∷ []) end) → R (applied outcome.effects end)
 gives_after e r end outcome R h there = subst (λ (o : Outcome). R (applied o.effects end)) (sym h) there
 
--- a number is itself
+-- a number equals itself
 own_number : (n : ℕ) → (n == n) ≡ true
 own_number n = grind (arith, nat_tests)
 
@@ -93,7 +93,7 @@ changed_has sent s change h =
     subst (Has (changed s.submission.number change sent)) (ap (λ (b : Bool). if b then change s else s) (own_number s.submission.number))
     (had_mapped (λ (t : Sent). if t.submission.number == s.submission.number then change t else t) sent s h)
 
--- it is there, and its receipt hasn't come
+-- it is there, and has no receipt yet
 abbrev pub IsPendingAt : Submission → End → Type 0
 IsPendingAt u end = (t : Sent) × Has end.sent t × (t.submission ≡ u) × (is_pending t ≡ true)
 
@@ -102,7 +102,7 @@ pub record IsOut (s : Sent) (outcome : Outcome) (end : End) : Type 0 where
   pub sent : sends outcome.reply ≡ message_of s.submission ∷ []
   pub pends : IsPendingAt s.submission end
 
--- a head that is handed out is pending
+-- a head that is sent is pending
 tried_out : (q : Queue) (end : End) (s : Sent) (r : Reply) (outcome : Outcome) → head_of q end ≡ Some s
     → sends r ≡ message_of s.submission ∷ [] → Gives (effect.Tried s.submission.number) r outcome
     → IsOut s outcome (applied outcome.effects end)
@@ -128,7 +128,7 @@ pull_row act end signal mpc step room came pull =
     small row = pull_small act.modes end act.event signal.id mpc step.row
         (subst (λ (b : SignalBody). SignalComes act.modes end act.event signal.id signal.ref_to b step.row) pull row)
 
--- by that row the head of the channel is handed out
+-- this row sends the head of the channel
 pull_out : (modes : List Mode) (end : End) (event : Event) (id mpc : List ℕ) (outcome : Outcome) (s : Sent) → PullComes modes end event id mpc outcome
     → IsSome (channel_mode modes mpc) → head_of (queue.Channel mpc) end ≡ Some s → IsOut s outcome (applied outcome.effects end)
 unfolding PullComes
@@ -149,7 +149,7 @@ pulled_out : (act : Act) (end : End) (s : Sent) (signal : Signal) → Step act.m
 pulled_out act end s signal step room came p =
     pull_out act.modes end act.event signal.id p.0 act.outcome s (pull_row act end signal p.0 step room came p.1) p.2 p.3
 
--- the pull request of a pair asks for it, at the end behind the receipt
+-- the pull request of a pair asks for it, at the endpoint after the receipt
 behind_out : (modes : List Mode) (end : End) (event : Event) (pair : Pair) (mpc : List ℕ) (t s : Sent) (outcome : Outcome)
     → IsBehind modes end event pair.pull mpc t outcome → IsSome (channel_mode modes mpc) → head_of (queue.Channel mpc) (behind_receipt t end) ≡ Some s
     → IsOut s outcome (applied outcome.effects end)
@@ -190,7 +190,7 @@ pair_out act end s pair step room came t of p =
         (ap (λ (at : Bool). head_of (queue.Channel p.0) (if at then after (effect.Receipted t.submission.number) end else end)) (sym a.settled) ∙ p.3)
     by_row (inr b) = behind_out act.modes end act.event pair p.0 t s act.outcome b p.2 p.3
 
--- what is asked for is handed out
+-- a message that is asked for is sent
 pub out_sends : (act : Act) (end : End) (s : Sent) → Step act.modes end act.event act.outcome → IsRoomy end act.outcome
     → IsAskedFor s act end
     → IsOut s act.outcome (applied act.outcome.effects end)
@@ -202,7 +202,7 @@ out_sends act end s step room (inl taken) =
 out_sends act end s step room (inr (inl pulled)) = pulled_out act end s pulled.0 step room pulled.1 pulled.2
 out_sends act end s step room (inr (inr paired)) = pair_out act end s paired.0 step room paired.1 paired.2.0 paired.2.1 paired.2.2
 
--- the message stands in the inbox, and its receipt is sent
+-- the message is in the inbox, and its receipt is sent
 pub record IsDelivered (s : Sent) (r : Reply) (end : End) : Type 0 where
   pub signal : Signal
   pub answers : r ≡ reply.Answer (message.Signal signal)
@@ -210,7 +210,7 @@ pub record IsDelivered (s : Sent) (r : Reply) (end : End) : Type 0 where
   pub copies : signal.body ≡ body.Receipt (Some s.submission.header)
   pub stands : StandsIn s end
 
--- what is brought over is delivered and receipted; where it came before, it is receipted again
+-- a message that is received is delivered and receipted; if it was received before, it is receipted again
 pub over_delivers : (act : Act) (end : End) (s : Sent) → Step act.modes end act.event act.outcome → IsRoomy end act.outcome
     → act.event.what ≡ what.Came (message_of s.submission) → IsSome (mode_of act.modes s.submission.header)
     → (is_known s.submission.header.id end.inbox ≡ true → StandsIn s end)
@@ -265,7 +265,7 @@ receipt_row act end signal copy step room came receipt =
     small row = receipt_small end act.event signal.id signal.ref_to copy step.row
         (subst (λ (b : SignalBody). SignalComes act.modes end act.event signal.id signal.ref_to b step.row) receipt row)
 
--- the receipt of a pending submission settles it, where it comes alone
+-- the receipt for a pending submission settles it, if received alone
 back_alone : (act : Act) (end : End) (t : Sent) (signal : Signal) (copy : Option UserHeader) → Step act.modes end act.event act.outcome
     → IsRoomy end act.outcome
     → act.event.what ≡ what.Came (message.Signal signal) → signal.ref_to ≡ Some t.submission.header.id
@@ -290,7 +290,7 @@ back_alone act end t signal copy step room came refers receipt own_copy numbered
     own (inl other) = absurd (own_copy other.0)
     own (inr k) = settled k.1
 
--- where it comes in a pair
+-- if received in a pair
 back_paired : (act : Act) (end : End) (t : Sent) (pair : Pair) (copy : Option UserHeader) → Step act.modes end act.event act.outcome
     → IsRoomy end act.outcome → act.event.what ≡ what.Came (message.Pair pair) → IsTrue (names_channel act.modes pair.pull.body)
     → pair.receipt.ref_to ≡ Some t.submission.header.id → pair.receipt.body ≡ body.Receipt copy
@@ -323,7 +323,7 @@ back_paired act end t pair copy step room came named refers receipt own_copy num
       | inr b ↦ settled served.0 b
     ]
 
--- either way
+-- in either case
 brought_either : (modes : List Mode) (w : What) (signal : Signal) → BringsSignal modes w signal
     → (w ≡ what.Came (message.Signal signal))
     ⊎ ((pair : Pair) × (w ≡ what.Came (message.Pair pair)) × (pair.receipt ≡ signal) × IsTrue (names_channel modes pair.pull.body))

@@ -60,7 +60,7 @@ next_may site act world next = subst (λ (a : Site). MayHappenAt a act world) ne
 behind_at : (site : Site) (act : Act) (world : World) → act.site ≡ site → behind_act act world ≡ world_at site act world
 behind_at site act world here = ap (λ (a : Site). world_at a act world) here
 
--- the message that it sends may come, where the reply isn't lost
+-- the other endpoint may receive the message that it sends, unless the reply is lost
 said_then : (act : Act) (speaker : Speaker) (m : Message) → sends act.outcome.reply ≡ m ∷ [] → act.lost ≡ false
     → Contains (acted act speaker).said m
 said_then act speaker m one kept = contains_had (acted act speaker).said m
@@ -83,7 +83,7 @@ sends_one site world act m here one = record {
 abbrev IsReceiptedAt : Submission → Speaker → Type 0
 IsReceiptedAt u speaker = (t : Sent) × (sent_of u.header.id speaker.end.sent ≡ Some t) × (t.mark ≡ mark.Receipted)
 
--- what the inbox knows by this identifier is the message of the submission
+-- the inbox entry with this identifier is the message of the submission
 entry_of : (id : List ℕ) (inbox : List InboxEntry) → Has (ids inbox) id
     → (n : ℕ) × (entry : InboxEntry) × (slice_get inbox n ≡ Some entry) × (entry.header.id ≡ id)
 entry_of id [] h = absurd h

@@ -1,14 +1,14 @@
--- What an end sends, the other end can take.
+-- The other endpoint can take each message that an endpoint sends.
 use Rattle.std.proofs.Common.{◌≡◌, ℕ, ◌≤◌, ◌⊎◌, inl, inr, List, [], ◌∷◌, Bool, true, false, Option, Some, None, length, length-append, refl, sym, subst, arith}
 use Rattle.std.specs.Prelude.{IsTrue, nat_le, nat_lt, ◌&&◌, slice_get}
 use Rattle.std.specs.Option.{option_and_then}
 use Rattle.std.proofs.lemmas.Bool.Decides.{nat_tests}
-use Rattle.as4_values.specs.ModeMatch.{mode_named, mode_of, channel_mode}
+use Rattle.mode_values.specs.ModeMatch.{mode_named, mode_of, channel_mode}
 use Rattle.as4_values.specs.declared.header.UserHeader.{UserHeader}
 use Rattle.as4_values.specs.declared.message.Pair.{Pair}
 use Rattle.as4_values.specs.declared.message.Message.{Message}
 use Rattle.as4_values.specs.declared.message.Message.TheVariants as message
-use Rattle.as4_values.specs.declared.mode.Mode.{Mode}
+use Rattle.mode_values.specs.declared.mode.Mode.{Mode}
 use Rattle.as4_values.specs.declared.payload.Load.{Load}
 use Rattle.as4_values.specs.declared.payload.Payload.{Payload}
 use Rattle.as4_values.specs.declared.route.Route.{Route}
@@ -39,29 +39,29 @@ use Rattle.exchange_laws.proofs.EndSteps.{by_option, by_bool}
 use Rattle.exchange_laws.proofs.PairRows.{pair_cases}
 use Rattle.exchange_laws.proofs.OwnRows.{read_silent, standing_silent}
 
--- the header and the payloads take less than they do with all else of a submission
+-- the header and the payloads are shorter than the whole submission
 delivered_shorter : (number : ℕ) (header : UserHeader) (payloads : List Payload) (route : Route) (retries period moment : ℕ)
     → length (delivered_body header payloads) ≤ length (submitted_body number header payloads route retries period moment)
 delivered_shorter number header payloads route retries period moment = simp length-append (omega arith)
 
--- what is shorter fits too
+-- shorter bytes fit too
 shorter_fits : (short long : List ℕ) → length short ≤ length long → fits_an_effect long ≡ true → fits_an_effect short ≡ true
 unfolding fits_an_effect
 shorter_fits short long less fits = grind (arith, nat_tests)
 
--- both of two tests
+-- two tests that both hold
 both : (a b : Bool) → a ≡ true → b ≡ true → (a && b) ≡ true
 both true b ha hb = hb
 both false b ha hb = absurd cc
 
--- the message of a submission can be delivered
+-- the message of a submission is deliverable
 pub submission_may_come : (s : Submission) → may_come (what.Came (message_of s)) ≡ true
 unfolding may_come is_deliverable
 submission_may_come s =
     let shorter = delivered_shorter s.number s.header s.payloads s.route s.retries s.period s.moment in
     both _ _ s.paired (shorter_fits _ _ shorter s.fits)
 
--- so can each signal
+-- so is each signal
 pub signal_may_come : (signal : Signal) → may_come (what.Came (message.Signal signal)) ≡ true
 unfolding may_come
 signal_may_come signal = refl
@@ -70,7 +70,7 @@ pair_may_come : (pair : Pair) → may_come (what.Came (message.Pair pair)) ≡ t
 unfolding may_come
 pair_may_come pair = refl
 
--- the other end can take what the reply sends
+-- the other endpoint can take the messages of the reply
 abbrev pub MayBeTaken : Reply → Type 0
 MayBeTaken r = (m : Message) → Has (sends r) m → IsTrue (may_come (what.Came m))
 
@@ -145,7 +145,7 @@ asks_with modes end event name n outcome h =
     asked (route.Pull mpc address) k =
         by_bool _ _ _ (nat_lt n end.confirmed) k (λ _. sends_none reply.Gone _ outcome refl) (λ _. paired mpc address (slice_get end.inbox n))
 
--- an error is told
+-- an error is reported
 errs : (code : ℕ) (about : List ℕ) (event : Event) (outcome : Outcome) → Errs code about event outcome
     → MayBeTaken outcome.reply
 errs code about event outcome h =
@@ -192,7 +192,7 @@ receipt_comes end event id ref_to copy outcome h =
     named s (inl other) = errs 302 id event outcome other.1
     named s (inr own) = settles s own.1
 
--- a signal, by what it holds
+-- a signal, by its body
 signal_comes : (modes : List Mode) (end : End) (event : Event) (id : List ℕ) (ref_to : Option (List ℕ)) (b : SignalBody)
     (outcome : Outcome) → SignalComes modes end event id ref_to b outcome → MayBeTaken outcome.reply
 signal_comes modes end event id ref_to (body.Pull mpc) outcome h = pull_comes modes end event id mpc outcome h
@@ -210,7 +210,7 @@ pair_comes modes end event pair outcome h = elim (pair_cases modes end event pai
   ]
 ]
 
--- what comes
+-- any received message
 comes : (modes : List Mode) (end : End) (event : Event) (m : Message) (outcome : Outcome) → Comes modes end event m outcome
     → MayBeTaken outcome.reply
 comes modes end event (message.User header payloads) outcome h = user_comes modes end event header payloads outcome h
@@ -247,7 +247,7 @@ limited_sends end row outcome may h =
     by_bool _ _ _ (has_room end row.effects) h (λ _ same. subst (λ (o : Outcome). MayBeTaken o.reply) (sym same) may)
     (λ _. sends_none (reply.Full _ _) _ outcome refl)
 
--- a step at an end
+-- a step at an endpoint
 pub step_sends : (modes : List Mode) (end : End) (event : Event) (outcome : Outcome) → Step modes end event outcome
     → MayBeTaken outcome.reply
 step_sends modes end event outcome step =

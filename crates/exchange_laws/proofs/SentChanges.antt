@@ -1,4 +1,4 @@
--- What each effect changes of what an end was handed in to send.
+-- How each effect changes the submissions of an endpoint.
 use Rattle.std.proofs.Common.{◌≡◌, ℕ, ◌+◌, ◌≤◌, ◌⊎◌, inl, inr, List, Bool, true, false, map, refl, sym, ap, ◌∙◌, subst, arith}
 use Rattle.std.specs.Prelude.{◌==◌, nat_le, if◌then◌else◌}
 use Rattle.std.proofs.lemmas.Bool.Decides.{nat_tests}
@@ -15,15 +15,15 @@ use Rattle.exchange_laws.proofs.ListLemmas.{has_mapped}
 use Rattle.exchange_laws.proofs.SentLemmas.{one_of_number, and_left, and_right}
 use Rattle.exchange_laws.proofs.SentSteps.{Receipts, Fails, Causes, KeepsTries, IsChange, SentGoes, sent_map}
 
--- what the test of numbers says
+-- the test of numbers decides their equality
 pub same_number : (a b : ℕ) → (a == b) ≡ true → a ≡ b
 same_number a b e = grind (arith, nat_tests)
 
--- the change of one submission, by whether the number is its
+-- the change of one submission, if it has the number
 abbrev one_changed : ℕ → (Sent → Sent) → Sent → Sent
 one_changed number change s = if s.submission.number == number then change s else s
 
--- what is to be shown of a change of the submission of one number
+-- the proof obligations for a change of the submission of one number
 pub record IsOneChange (what : What) (sent : List Sent) (number : ℕ) (change : Sent → Sent) : Type 0 where
   pub same : (s : Sent) → (change s).submission ≡ s.submission
   pub marked : (s : Sent) → Has sent s → s.submission.number ≡ number
@@ -74,7 +74,7 @@ unfolding changed
 sent_changed what sent number change numbered c =
     sent_map what sent (one_changed number change) numbered (one_change what sent number change c)
 
--- what waits isn't given up, and what is pending isn't receipted
+-- a waiting submission isn't expired, and a pending one isn't receipted
 not_failed : (s : Sent) → is_waiting s ≡ true → s.mark ≡ mark.Failed → ⊥
 not_failed s waits m = let p : is_pending s ≡ true = and_left _ _ waits in let q : false ≡ true = sym (ap is_pending_mark m) ∙ p in cc
 
@@ -85,13 +85,13 @@ not_both s pending settled = let q : false ≡ true = sym settled ∙ pending in
 abbrev pub IsPendingNumber : ℕ → List Sent → Type 0
 IsPendingNumber number sent = (s : Sent) → Has sent s → s.submission.number ≡ number → is_pending s ≡ true
 
--- that of a pending submission is
+-- the number of a pending submission is pending
 pub pending_number : (sent : List Sent) (s : Sent) → AreNumberedFrom 0 sent → Has sent s → is_pending s ≡ true
     → IsPendingNumber s.submission.number sent
 pending_number sent s numbered h pending t k e =
     subst (λ (u : Sent). is_pending u ≡ true) (one_of_number sent s t numbered h k (sym e)) pending
 
--- and stays so where another number is refused
+-- and stays pending where another number is refused
 pub pending_behind : (sent : List Sent) (number refused : ℕ) (code : List ℕ) → (number ≡ refused → ⊥) → IsPendingNumber number sent
     → IsPendingNumber number (changed refused (marked (mark.Refused code)) sent)
 unfolding changed
@@ -126,7 +126,7 @@ sent_tried what sent s moment numbered h waits = sent_changed what sent s.submis
     more_left : s.tries + 1 ≤ s.submission.retries + 1
     more_left = at_most s.tries s.submission.retries (and_right (is_pending s) (nat_le s.tries s.submission.retries) waits)
 
--- its receipt came
+-- its receipt was received
 pub sent_receipted : (what : What) (sent : List Sent) (s : Sent) → AreNumberedFrom 0 sent → Has sent s → is_pending s ≡ true
     → Receipts what s.submission → SentGoes what sent (changed s.submission.number (marked mark.Receipted) sent)
 sent_receipted what sent s numbered h pending came = sent_changed what sent s.submission.number (marked mark.Receipted) numbered (record {
@@ -137,7 +137,7 @@ sent_receipted what sent s numbered h pending came = sent_changed what sent s.su
   more = λ t. omega arith;
 })
 
--- an error for it came
+-- an error for it was received
 pub sent_refused : (what : What) (sent : List Sent) (number : ℕ) (code : List ℕ) → AreNumberedFrom 0 sent → IsPendingNumber number sent
     → ((s : Sent) → Has sent s → s.submission.number ≡ number → Fails what s.submission code)
     → SentGoes what sent (changed number (marked (mark.Refused code)) sent)

@@ -1,4 +1,5 @@
--- Submissions at an end: each has its place as its number, so by its number or its identifier it is found, and no other.
+-- The submissions of an endpoint: the place of each is its number, so its number and its identifier each find it and no
+-- other.
 use Rattle.std.proofs.Common.{◌≡◌, ℕ, suc, List, [], ◌∷◌, Bool, true, false, Some, map, refl, sym, ap, ◌∙◌}
 use Rattle.std.specs.Prelude.{◌&&◌}
 use Rattle.std.specs.Str.{bytes_eq}
@@ -13,13 +14,13 @@ use Rattle.exchange_model.proofs.ListLemmas.{Has}
 use Rattle.exchange_model.proofs.NumberedLemmas.{itself, one_number}
 use Rattle.exchange_laws.proofs.ListLemmas.{finds}
 
--- one submission of a number
+-- a number has one submission
 pub one_of_number : (sent : List Sent) (s t : Sent) → AreNumberedFrom 0 sent → Has sent s → Has sent t
     → s.submission.number ≡ t.submission.number → s ≡ t
 one_of_number sent s t numbered h k e =
     same_Some s t (sym (itself 0 sent s numbered h) ∙ ap (λ n. sent_at n sent) e ∙ itself 0 sent t numbered k)
 
--- what changes no submission keeps the numbers
+-- a map that changes no submission keeps the numbers
 pub numbered_map : (n : ℕ) (f : Sent → Sent) (sent : List Sent) → ((s : Sent) → (f s).submission ≡ s.submission) → AreNumberedFrom n sent
     → AreNumberedFrom n (map f sent)
 unfolding AreNumberedFrom
@@ -27,7 +28,7 @@ numbered_map n f [] keeps numbered = tt
 numbered_map n f (s ∷ sent) keeps numbered =
     (ap (λ (u : Submission). u.number) (keeps s) ∙ numbered.0, numbered_map (suc n) f sent keeps numbered.1)
 
--- both of two that are true together
+-- both of two Booleans whose conjunction holds
 pub and_right : (a b : Bool) → (a && b) ≡ true → b ≡ true
 and_right true b h = h
 and_right false b h = absurd cc

@@ -1,4 +1,4 @@
--- How an event changes what an end was handed in to send.
+-- How an event changes the submissions of an endpoint.
 use Rattle.std.proofs.Common.{◌≡◌, ℕ, ◌+◌, ◌≤◌, ◌⊎◌, inl, inr, List, [], ◌∷◌, ◌++◌, Option, Some, length, map, refl, sym, ap, ◌∙◌, subst, arith}
 use Rattle.std.specs.Prelude.{slice_get, false}
 use Rattle.std.specs.Option.{option_or}
@@ -24,7 +24,7 @@ use Rattle.exchange_model.proofs.NumberedLemmas.{numbered_push}
 use Rattle.exchange_laws.proofs.ListLemmas.{has_mapped, had_mapped, had_left, has_either, got_left, got_mapped}
 use Rattle.exchange_laws.proofs.SentLemmas.{numbered_map}
 
--- a signal comes alone, or as the receipt of a pair
+-- a signal is received alone, or as the receipt of a pair
 abbrev pub Brings : What → Signal → Type 0
 Brings (Came (message.Signal came)) signal = came ≡ signal
 Brings (Came (message.Pair pair)) signal = pair.receipt ≡ signal
@@ -44,7 +44,7 @@ brings_either (Read n) signal h = absurd h
 brings_either (Confirm upto) signal h = absurd h
 brings_either (Status id) signal h = absurd h
 
--- a receipt of the submission comes, with no copy of another header
+-- a receipt for the submission is received, without a copy of another header
 pub record Receipts (what : What) (s : Submission) : Type 0 where
   pub signal : Signal
   pub copy : Option UserHeader
@@ -53,7 +53,7 @@ pub record Receipts (what : What) (s : Submission) : Type 0 where
   pub names : signal.ref_to ≡ Some s.header.id
   pub same : IsOther copy s.header → ⊥
 
--- an error signal comes with a failure of this code that is about the submission
+-- an error signal is received with a failure of this code about the submission
 pub record Fails (what : What) (s : Submission) (code : List ℕ) : Type 0 where
   pub signal : Signal
   pub items : List ErrorItem
@@ -65,14 +65,14 @@ pub record Fails (what : What) (s : Submission) (code : List ℕ) : Type 0 where
   pub names : option_or item.about signal.ref_to ≡ Some s.header.id
   pub told : item.code ≡ code
 
--- what makes a submission stand so
+-- the cause of a submission's state
 abbrev pub Causes : What → Mark → Submission → Type 0
 Causes what mark.Pending s = Unit {0}
 Causes what mark.Receipted s = Receipts what s
 Causes what mark.Failed s = what ≡ Tick
 Causes what (mark.Refused code) s = Fails what s code
 
--- none was sent more often than its mode says, and what is given up as often
+-- no submission was sent more often than its mode says, and an expired one was sent exactly as often
 pub record KeepsTries (s : Sent) : Type 0 where
   pub most : s.tries ≤ s.submission.retries + 1
   pub all : s.mark ≡ mark.Failed → s.tries ≡ s.submission.retries + 1
@@ -80,7 +80,7 @@ pub record KeepsTries (s : Sent) : Type 0 where
 abbrev pub AllKeepTries : List Sent → Type 0
 AllKeepTries sent = (s : Sent) → Has sent s → KeepsTries s
 
--- the submission that stands at this place later
+-- the submission at this place later
 pub record Stands (new : List Sent) (n : ℕ) (s : Sent) : Type 0 where
   pub later : Sent
   pub there : slice_get new n ≡ Some later
@@ -91,15 +91,15 @@ pub record Stands (new : List Sent) (n : ℕ) (s : Sent) : Type 0 where
 pub record SentGoes (what : What) (old new : List Sent) : Type 0 where
   pub numbered : AreNumberedFrom 0 new
   pub kept : (s : Sent) → Has old s → (t : Sent) × Has new t × (t.submission ≡ s.submission)
-  -- each stood so before, or was made to stand so
+  -- each had this state before, or the event caused it
   pub marked : (t : Sent) → Has new t
       → ((s : Sent) × Has old s × (s.mark ≡ t.mark) × (s.submission ≡ t.submission)) ⊎ Causes what t.mark t.submission
   pub tries : AllKeepTries old → AllKeepTries new
-  -- what is pending no more changes no more
+  -- a settled submission doesn't change
   pub settled : (s : Sent) → Has old s → is_pending s ≡ false → Has new s
   pub stands : (n : ℕ) (s : Sent) → slice_get old n ≡ Some s → Stands new n s
 
--- one that stands as receipted, or as refused
+-- a submission that is receipted, or refused
 pub receipted_by : (what : What) (old new : List Sent) (t : Sent) → SentGoes what old new → Has new t → t.mark ≡ mark.Receipted
     → ((s : Sent) × Has old s × (s.mark ≡ mark.Receipted) × (s.submission ≡ t.submission)) ⊎ Receipts what t.submission
 receipted_by what old new t goes h m = elim (goes.marked t h) [
@@ -148,7 +148,7 @@ sent_push what sent s numbered e = record {
     new_keeps t (inl e) = subst KeepsTries e (record { most = omega arith; all = λ m. absurd cc })
     new_keeps t (inr none) = absurd none
 
--- a change of each submission's standing
+-- a change of the state of each submission
 pub record IsChange (what : What) (sent : List Sent) (f : Sent → Sent) : Type 0 where
   pub same : (s : Sent) → (f s).submission ≡ s.submission
   pub marked : (s : Sent) → Has sent s → (s.mark ≡ (f s).mark) ⊎ Causes what (f s).mark s.submission

@@ -1,15 +1,15 @@
--- A submission that stands as receipted stood so before, or an effect says so; and such an effect of a pair stands only
--- where a mode names its channel.
+-- A receipted submission was receipted before, or an effect made it so. A pair has such an effect only where a mode
+-- names its channel.
 use Rattle.std.proofs.Common.{◌≡◌, ℕ, ◌⊎◌, inl, inr, List, [], ◌∷◌, ◌++◌, Bool, true, false, Option, Some, None, map, refl, sym, ap, ◌∙◌, subst}
 use Rattle.std.specs.Prelude.{IsSome, IsTrue, is_some, ◌==◌, if◌then◌else◌}
 use Rattle.as4_effects.specs.declared.effect.Effect.{Effect}
 use Rattle.as4_effects.specs.declared.effect.Effect.TheVariants as effect
 use Rattle.as4_effects.specs.declared.submission.Submission.{Submission}
-use Rattle.as4_values.specs.ModeMatch.{channel_mode}
+use Rattle.mode_values.specs.ModeMatch.{channel_mode}
 use Rattle.as4_values.specs.declared.message.Message.{Message}
 use Rattle.as4_values.specs.declared.message.Message.TheVariants as message
 use Rattle.as4_values.specs.declared.message.Pair.{Pair}
-use Rattle.as4_values.specs.declared.mode.Mode.{Mode}
+use Rattle.mode_values.specs.declared.mode.Mode.{Mode}
 use Rattle.as4_values.specs.declared.signal_body.SignalBody.{SignalBody}
 use Rattle.as4_values.specs.declared.signal_body.SignalBody.TheVariants as body
 use Rattle.exchange_model.specs.Apply.{unsent, tried, marked, failed_if_spent, changed, after, after_all, applied}
@@ -31,7 +31,7 @@ use Rattle.exchange_laws.proofs.OutcomeKinds.{IsMade, AreMade}
 use Rattle.exchange_laws.proofs.PairRows.{pair_cases}
 use Rattle.exchange_laws.proofs.SentChanges.{same_number}
 
--- the submission stood as receipted before
+-- the submission was receipted before
 pub record StoodReceipted (sent : List Sent) (t : Sent) : Type 0 where
   pub one : Sent
   pub there : Has sent one
@@ -41,7 +41,7 @@ pub record StoodReceipted (sent : List Sent) (t : Sent) : Type 0 where
 itself : (sent : List Sent) (t : Sent) → Has sent t → t.mark ≡ mark.Receipted → StoodReceipted sent t
 itself sent t h m = record { one = t; there = h; mark = m; same = refl }
 
--- one that is as it was, or was changed into this
+-- one that is unchanged, or was changed into this
 mapped : (sent : List Sent) (change : Sent → Sent) (test : Sent → Bool) (t : Sent)
     → Has (map (λ (s : Sent). if test s then change s else s) sent) t
     → (s : Sent) × Has sent s × (((test s ≡ true) × (change s ≡ t)) ⊎ (s ≡ t))
@@ -78,7 +78,7 @@ other_mark sent change test t other h m =
     by_change s there (inl c) = absurd (other s (ap (λ (u : Sent). u.mark) c.1 ∙ m))
     by_change s there (inr e) = itself sent t (subst (Has sent) e there) m
 
--- behind one effect
+-- after one effect
 receipted_one : (e : Effect) (end : End) (t : Sent) → IsMade e → Has (after e end).sent t → t.mark ≡ mark.Receipted
     → StoodReceipted end.sent t ⊎ (e ≡ effect.Receipted t.submission.number)
 unfolding after changed
@@ -110,7 +110,7 @@ receipted_one (effect.Confirmed upto) end t made h m = inl (itself end.sent t h 
 receipted_one (effect.Carried carried) end t made h m = absurd made
 receipted_one (effect.Kept kept) end t made h m = absurd made
 
--- behind all of them
+-- after all of them
 receipted_all : (effects : List Effect) (end : End) (t : Sent) → AreMade effects → Has (after_all effects end).sent t → t.mark ≡ mark.Receipted
     → StoodReceipted end.sent t ⊎ Has effects (effect.Receipted t.submission.number)
 receipted_all [] end t made h m = inl (itself end.sent t h m)
@@ -130,7 +130,7 @@ pub receipted_applied : (effects : List Effect) (end : End) (t : Sent) → AreMa
 receipted_applied effects end t made h m =
     receipted_all effects end t made (subst (λ (sent : List Sent). Has sent t) (longer effects end).sent h) m
 
--- what a pair changes, it changes for a channel of these modes
+-- a pair changes something only for a channel of these modes
 pair_named : (modes : List Mode) (end : End) (event : Event) (pair : Pair) (row : Outcome) (e : Effect)
     → PairComes modes end event pair.receipt pair.pull row → Has row.effects e → IsTrue (names_channel modes pair.pull.body)
 pair_named modes end event pair row e h there = elim (pair_cases modes end event pair row h) [
@@ -142,7 +142,7 @@ pair_named modes end event pair row e h there = elim (pair_cases modes end event
     some_named None some = absurd cc
     some_named (Some mode) some = refl
 
--- what changes at a step comes for a channel of the modes
+-- a step with effects, if its event is a pair, is for a channel of the modes
 pub step_named : (modes : List Mode) (end : End) (event : Event) (outcome : Outcome) (e : Effect) → Step modes end event outcome
     → Has outcome.effects e → (pair : Pair) → event.what ≡ Came (message.Pair pair) → IsTrue (names_channel modes pair.pull.body)
 step_named modes end event outcome e step there pair came =

@@ -1,4 +1,4 @@
--- Each of two ends alone: what happens at it may happen to it, whatever the other end is.
+-- Each of two endpoints alone: what happens at it may happen to it, whatever the other endpoint does.
 use Rattle.std.proofs.Common.{◌≡◌, ℕ, List, [], ◌∷◌, cond, refl, ap, ◌∙◌, subst}
 use Rattle.exchange_model.specs.Alone.{MayHappenTo, end_after}
 use Rattle.exchange_model.specs.End.{End}
@@ -32,7 +32,7 @@ acts_at_site site [] = refl
 acts_at_site site (Does act ∷ later) = acts_by site act.site act (at_site site later) (acts_at site later) (acts_at_site site later)
 acts_at_site site (Folds here size ∷ later) = folds_none site here size (at_site site later) ∙ acts_at_site site later
 
--- one act more, at this or at the other site
+-- one more act, at this or at the other site
 may_by : (site here : Site) (act : Act) (all : List Happening) (world : World) → MayHappenAt here act world
     → MayHappenTo all (speaker_at site (world_at here act world)).end
     → MayHappenTo (cond (is_same_site here site) (Does act ∷ all) all) (speaker_at site world).end
@@ -41,7 +41,7 @@ may_by Left Right act all world may rest = rest
 may_by Right Left act all world may rest = rest
 may_by Right Right act all world may rest = (may.step, rest)
 
--- one fold more
+-- one more compaction
 fold_by : (site here : Site) (size : ℕ) (all : List Happening) (world : World) → IsFoldedSize (speaker_at here world).end size
     → MayHappenTo all (speaker_at site (folded_at here size world)).end
     → MayHappenTo (cond (is_same_site here site) (Folds here size ∷ all) all) (speaker_at site world).end
@@ -82,7 +82,7 @@ after_alone site (Does act ∷ later) world =
 after_alone site (Folds here size ∷ later) world =
     after_fold site here size (at_site site later) world _ (after_alone site later (folded_at here size world))
 
--- so what an end of a world sent is counted in its acts
+-- so the acts of an endpoint of a world account for what it sent
 counted_from : (site : Site) (all : List Happening) → MayHappenTo (at_site site all) (speaker_at site new_world).end
     → AreCounted (acts_of (at_site site all)) (end_after (at_site site all) (speaker_at site new_world).end)
 counted_from Left all may = (accounted (at_site Left all) may).counted

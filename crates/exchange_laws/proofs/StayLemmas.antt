@@ -1,4 +1,4 @@
--- What an end keeps, whatever happens to it.
+-- What an endpoint keeps, whatever happens to it.
 use Rattle.std.proofs.Common.{◌≤◌, List, [], ◌∷◌, refl, ◌∙◌, arith}
 use Rattle.exchange_model.specs.Alone.{MayHappenTo, end_after}
 use Rattle.exchange_model.specs.Apply.{applied}

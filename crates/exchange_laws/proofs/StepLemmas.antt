@@ -1,6 +1,6 @@
--- What a step leaves at an end, whatever the event is.
+-- How a step changes an endpoint, whatever the event is.
 use Rattle.std.proofs.Common.{List, refl, sym, subst}
-use Rattle.as4_values.specs.declared.mode.Mode.{Mode}
+use Rattle.mode_values.specs.declared.mode.Mode.{Mode}
 use Rattle.exchange_model.specs.End.{End}
 use Rattle.exchange_model.specs.Numbered.{AreNumberedFrom}
 use Rattle.exchange_model.specs.Questions.{sent_of}
@@ -33,7 +33,7 @@ limited_goes : (w : What) (end : End) (row outcome : Outcome) → AreNumberedFro
 limited_goes w end row outcome numbered goes h =
     by_bool _ _ _ (has_room end row.effects) h (λ _ same. subst (Goes w end) (sym same) goes) (λ _. rests_silent w _ end outcome refl numbered)
 
--- a step at an end
+-- a step at an endpoint
 pub step_goes : (modes : List Mode) (end : End) (event : Event) (outcome : Outcome) → AreNumberedFrom 0 end.sent
     → Step modes end event outcome → Goes event.what end outcome
 step_goes modes end event outcome numbered step =

@@ -1,4 +1,4 @@
--- How often a submission was handed out, counted in acts.
+-- How often a submission was sent, counted in acts.
 use Rattle.std.proofs.Common.{◌≡◌, ℕ, zero, suc, ◌+◌, ◌<◌, ◌⊎◌, inl, inr, List, [], ◌∷◌, ◌++◌, Bool, true, false, length, map, refl, sym, ap, ◌∙◌, arith}
 use Rattle.std.specs.List.{count_by, list_any}
 use Rattle.std.proofs.lemmas.List.Sums.{sum_by-cons, sum_by_push}
@@ -18,18 +18,18 @@ use Rattle.exchange_laws.proofs.ListLemmas.{has_mapped}
 use Rattle.exchange_laws.proofs.InboxLemmas.{Apart, or_either}
 use Rattle.exchange_laws.proofs.TriesSteps.{has_message, one_if}
 
--- a message that is said is one of an end's submissions
+-- a user message that is sent is one of the endpoint's submissions
 abbrev pub IsOwn : List Sent → List Message → Type 0
 IsOwn sent said = (header : UserHeader) (payloads : List Payload) → Has said (message.User header payloads)
     → (s : Sent) × Has sent s × (s.submission.header ≡ header) × (s.submission.payloads ≡ payloads)
 
--- one act more
+-- one more act
 pub times_push : (id : List ℕ) (done : List Act) (act : Act)
     → times_handed_out id (done ++ act ∷ []) ≡ times_handed_out id done + one_if (has_message id (sends act.outcome.reply))
 unfolding times_handed_out hands_out
 times_push id done act = sum_by_push (λ (a : Act). one_if (has_message id (sends a.outcome.reply))) done act
 
--- a message of this identifier is among those that are said
+-- a message of this identifier is among the messages that are sent
 said_has : (id : List ℕ) (said : List Message) → has_message id said ≡ true
     → (header : UserHeader) × (payloads : List Payload) × Has said (message.User header payloads) × (header.id ≡ id)
 said_has id [] e = absurd cc
@@ -53,7 +53,7 @@ number_below n (t ∷ sent) s numbered (inl e) =
     omega (arith, numbered.0)
 number_below n (t ∷ sent) s numbered (inr h) = omega (arith, number_below (suc n) sent s numbered.1 h)
 
--- identifiers of other numbers are others
+-- other numbers have other identifiers
 not_later : (n : ℕ) (u : Submission) (sent : List Sent) → u.number < n → AreNumberedFrom n sent
     → Has (map (λ (s : Sent). s.submission.header.id) sent) u.header.id → ⊥
 not_later n u sent less numbered h =
@@ -67,7 +67,7 @@ ids_apart n [] numbered = tt
 ids_apart n (s ∷ sent) numbered =
     (not_later (suc n) s.submission sent (omega (arith, numbered.0)) numbered.1, ids_apart (suc n) sent numbered.1)
 
--- what isn't submitted yet was never handed out
+-- a submission that doesn't exist yet was never sent
 pub never : (u : Submission) (done : List Act) (sent : List Sent) → AreNumberedFrom 0 sent → u.number ≡ length sent
     → ((act : Act) → Has done act → IsOwn sent (sends act.outcome.reply)) → times_handed_out u.header.id done ≡ 0
 unfolding times_handed_out hands_out

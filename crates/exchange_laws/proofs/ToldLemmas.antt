@@ -1,8 +1,8 @@
--- What producers and consumers are told is so.
+-- What the replies to producers and consumers say is true.
 use Rattle.std.proofs.Common.{◌≡◌, ℕ, zero, suc, ◌<◌, ◌≤◌, ◌⊎◌, inl, inr, List, [], ◌∷◌, Bool, true, false, Option, Some, None, length, refl, sym, ap, ◌∙◌, subst, arith}
 use Rattle.std.specs.Prelude.{nat_lt, slice_get, if◌then◌else◌}
 use Rattle.std.proofs.lemmas.Bool.Decides.{nat_tests}
-use Rattle.as4_values.specs.declared.mode.Mode.{Mode}
+use Rattle.mode_values.specs.declared.mode.Mode.{Mode}
 use Rattle.exchange_model.specs.End.{End}
 use Rattle.exchange_model.specs.Questions.{sent_of}
 use Rattle.exchange_model.specs.Table.{Rests, RowOf, IsLimited, Step, has_room, entry_reply, read_reply, standing_reply, mark_reply}
@@ -55,7 +55,7 @@ read_gone : (end : End) (n : ℕ) → n < end.confirmed → read_reply end n ≡
 unfolding read_reply
 read_gone end n less = ap (λ (b : Bool). if b then reply.Gone else entry_reply (slice_get end.inbox n)) (is_below n end.confirmed less)
 
--- by how it stands
+-- by its state
 told_of : (s : Sent) (m : Mark) → TellsOf s m (mark_reply s.tries m)
 told_of s mark.Pending = refl
 told_of s mark.Receipted = refl

@@ -1,4 +1,4 @@
--- How often submissions were handed out, from before an event to after it, beside what is said to it.
+-- How often submissions were sent, from before an event to after it, compared with the messages that the event sends.
 use Rattle.std.proofs.Common.{◌≡◌, ℕ, ◌+◌, ◌⊎◌, inl, inr, List, [], ◌∷◌, ◌++◌, Bool, true, false, cond, length, map, refl, sym, ap, ◌∙◌, arith}
 use Rattle.std.specs.Prelude.{◌==◌, ◌||◌, if◌then◌else◌}
 use Rattle.std.specs.List.{list_any}
@@ -35,17 +35,17 @@ IsQuiet said = (id : List ℕ) → has_message id said ≡ false
 pub quiet_none : (said : List Message) → said ≡ [] → IsQuiet said
 quiet_none said none id = ap (has_message id) none
 
--- each submission was there, and was handed out as often
+-- each submission existed before, and was sent as often
 abbrev pub TriesStay : List Sent → List Sent → Type 0
 TriesStay old new = (t : Sent) → Has new t → (s : Sent) × Has old s × (s.submission ≡ t.submission) × (t.tries ≡ s.tries)
 
--- each submission was there, and counts a try more where its message is said; or it is the next, and nothing is said
+-- each submission existed before, and has one more try if its message is sent; or it is the next, and nothing is sent
 abbrev pub TriesGo : List Message → List Sent → List Sent → Type 0
 TriesGo said old new = (t : Sent) → Has new t
     → ((s : Sent) × Has old s × (s.submission ≡ t.submission) × (t.tries ≡ s.tries + one_if (has_message t.submission.header.id said)))
     ⊎ ((t.tries ≡ 0) × (t.submission.number ≡ length old) × (said ≡ []))
 
--- where none is said, the tries stay
+-- where no user message is sent, the tries don't change
 pub tries_quiet : (said : List Message) (old new : List Sent) → IsQuiet said → TriesStay old new → TriesGo said old new
 tries_quiet said old new quiet stay t h =
     let s = stay t h in
@@ -57,7 +57,7 @@ tries_quiet said old new quiet stay t h =
 pub stay_same : (sent : List Sent) → TriesStay sent sent
 stay_same sent t h = (t, h, refl, refl)
 
--- each one changed, but not in its tries
+-- each one changed, except its tries
 stay_map : (sent : List Sent) (f : Sent → Sent) → ((s : Sent) → (f s).submission ≡ s.submission) → ((s : Sent) → (f s).tries ≡ s.tries)
     → TriesStay sent (map f sent)
 stay_map sent f same tries t h =
@@ -138,7 +138,7 @@ one_test sent s t numbered h k = by_test (bytes_eq s.submission.header.id t.subm
         let no : false ≡ true = sym e ∙ is in cc)
         ∙ sym (or_false _ ∙ e)
 
--- one is handed out, and its message is said
+-- one is sent, and so is its message
 pub tries_tried : (said : List Message) (sent : List Sent) (s : Sent) (moment : ℕ) → AreNumberedFrom 0 sent → Has sent s
     → said ≡ message_of s.submission ∷ [] → TriesGo said sent (changed s.submission.number (tried moment) sent)
 unfolding changed

@@ -1,4 +1,4 @@
--- What holds of two ends and a network, whatever has happened.
+-- Invariants of two endpoints and a network, whatever has happened.
 use Rattle.std.proofs.Common.{◌≡◌, ℕ, ◌≤◌, ◌⊎◌, inl, inr, List, [], ◌∷◌, ◌++◌, Bool, true, false, Option, Some, sym, ap, ◌∙◌, subst}
 use Rattle.std.specs.Prelude.{slice_get, if◌then◌else◌}
 use Rattle.as4_values.specs.declared.message.Message.{Message}
@@ -25,26 +25,26 @@ use Rattle.exchange_laws.proofs.InboxSteps.{Stood}
 use Rattle.exchange_laws.proofs.EndSteps.{Backs, BacksSignal, EndGoes}
 use Rattle.exchange_laws.proofs.StepLemmas.{step_goes}
 
--- of a speaker: its submissions are numbered, its inbox has no identifier twice, and it stands by what it said
+-- of a speaker: its submissions are numbered, its inbox has no identifier twice, and its state backs what it sent
 pub record SpeakerHolds (speaker : Speaker) : Type 0 where
   pub numbered : AreNumberedFrom 0 speaker.end.sent
   pub apart : Apart (ids speaker.end.inbox)
   pub said : (m : Message) → Has speaker.said m → Backs speaker.end.sent speaker.end.inbox m
 
--- from one end to the other: each entry was submitted, and what is receipted came
+-- from one endpoint to the other: each entry was submitted, and each receipted submission was received
 pub record Holds (sender receiver : End) : Type 0 where
   pub submitted : (n : ℕ) (entry : InboxEntry) → slice_get receiver.inbox n ≡ Some entry
       → (s : Sent) × Has sender.sent s × CameFrom s entry (receiver.confirmed ≤ n)
   pub receipted : (s : Sent) → Has sender.sent s → s.mark ≡ mark.Receipted → Has (ids receiver.inbox) s.submission.header.id
 
--- of both speakers, and both ways
+-- of both speakers, in both directions
 pub record WorldHolds (world : World) : Type 0 where
   pub left : SpeakerHolds world.left
   pub right : SpeakerHolds world.right
   pub to_right : Holds world.left.end world.right.end
   pub to_left : Holds world.right.end world.left.end
 
--- what was said is stood by later
+-- a signal that was backed is backed later
 backs_signal_later : (old new : List InboxEntry) (ref_to : Option (List ℕ)) (b : SignalBody)
     → ((id : List ℕ) → Has (ids old) id → Has (ids new) id)
     → BacksSignal old ref_to b → BacksSignal new ref_to b
@@ -52,7 +52,7 @@ backs_signal_later old new ref_to (body.Receipt copy) known backs = λ id e. kno
 backs_signal_later old new ref_to (body.Pull mpc) known backs = tt
 backs_signal_later old new ref_to (body.Errors items) known backs = tt
 
--- what was said is stood by later
+-- a message that was backed is backed later
 backs_later : (w : What) (r : Reply) (old new : End) (m : Message) → EndGoes w r old new → Backs old.sent old.inbox m
     → Backs new.sent new.inbox m
 backs_later w r old new (message.User header payloads) goes backs =
@@ -62,13 +62,13 @@ backs_later w r old new (message.Signal signal) goes backs =
 backs_later w r old new (message.Pair pair) goes backs =
     backs_signal_later old.inbox new.inbox pair.receipt.ref_to pair.receipt.body goes.inbox.known backs
 
--- what was said is old, or said in this act
+-- a sent message is old, or was sent in this act
 said_either : (lost : Bool) (said new : List Message) (m : Message) → Has (if lost then said else said ++ new) m
     → Has said m ⊎ Has new m
 said_either true said new m h = inl h
 said_either false said new m h = has_either said new m h
 
--- what an act leaves
+-- the result of an act
 act_goes : (act : Act) (speaker other : Speaker) → SpeakerHolds speaker → MayAct act speaker other
     → EndGoes act.event.what act.outcome.reply speaker.end (acted act speaker).end
 act_goes act speaker other holds may = step_goes act.modes speaker.end act.event act.outcome holds.numbered may.step
@@ -87,12 +87,12 @@ speaker_acts act speaker other holds may = record {
     goes : EndGoes act.event.what act.outcome.reply speaker.end (acted act speaker).end
     goes = act_goes act speaker other holds may
 
--- the other end stands by what comes
+-- the other endpoint backs a received message
 heard : (w : What) (m : Message) (other : Speaker) → SpeakerHolds other → IsHeard other.said w → w ≡ what.Came m
     → Backs other.end.sent other.end.inbox m
 heard w m other holds h e = holds.said m (has_contained other.said m (subst (IsHeard other.said) e h))
 
--- a receipt that comes is of a message that the other end knows
+-- a receipt that is received is for a message that the other endpoint knows
 receipt_heard : (w : What) (s : Sent) (other : Speaker) → SpeakerHolds other → IsHeard other.said w → Receipts w s.submission
     → Has (ids other.end.inbox) s.submission.header.id
 receipt_heard w s other holds h r =
@@ -168,7 +168,7 @@ world_acts Right act world holds may = record {
   to_left = sender_acts act world.right world.left holds.right holds.left may holds.to_left;
 }
 
--- where a journal is folded, nothing else changes
+-- compaction of the journal changes nothing else
 speaker_folds : (size : ℕ) (speaker : Speaker) → SpeakerHolds speaker → SpeakerHolds (folded size speaker)
 speaker_folds size speaker holds = record { numbered = holds.numbered; apart = holds.apart; said = holds.said }
 

@@ -1,0 +1,1 @@
+-- No specs: the laws cite those of exchange_model.

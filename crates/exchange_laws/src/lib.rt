@@ -1,4 +1,4 @@
-//! What is promised of an exchange between two ends, whatever is lost, repeated or reordered.
+//! The guarantees of an exchange between two endpoints, whatever messages are lost, repeated or reordered.
 #![tactic(auto)]
 
 mod laws;

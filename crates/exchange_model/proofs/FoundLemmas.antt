@@ -1,4 +1,4 @@
--- What is found at an end is one of its submissions.
+-- A submission that a search at an endpoint finds is one of its submissions.
 use Rattle.std.proofs.Common.{◌≡◌, ℕ, List, Bool, true, ◌&&◌, eqb, Some}
 use Rattle.std.specs.List.{filter}
 use Rattle.std.specs.Str.{bytes_eq}
@@ -10,21 +10,21 @@ use Rattle.exchange_model.specs.Questions.{due, is_ready, is_waiting, is_in, hea
 use Rattle.exchange_model.specs.declared.sent.Sent.{Sent}
 use Rattle.exchange_model.proofs.ListLemmas.{Has, has_filtered, has_found, first_least_has}
 
--- what a number finds has that number
+-- the submission found by a number has that number
 pub sent_at_has : (number : ℕ) (sent : List Sent) (s : Sent) → sent_at number sent ≡ Some s
     → Has sent s × (s.submission.number ≡ number)
 sent_at_has number sent s e =
     let h = has_found (λ (t : Sent). eqb t.submission.number number) sent s e in
     (h.0, eqb-true s.submission.number number h.1)
 
--- what an identifier finds has that identifier
+-- the submission found by an identifier has that identifier
 pub sent_of_has : (id : List ℕ) (sent : List Sent) (s : Sent) → sent_of id sent ≡ Some s
     → Has sent s × (s.submission.header.id ≡ id)
 sent_of_has id sent s e =
     let h = has_found (λ (t : Sent). bytes_eq t.submission.header.id id) sent s e in
     (h.0, (bytes_eq-Decides s.submission.header.id id).0 h.1)
 
--- the head of a queue is a submission that waits
+-- the head of a queue is a waiting submission
 pub head_has : (q : Queue) (end : End) (s : Sent) → head_of q end ≡ Some s → Has end.sent s × (is_waiting s ≡ true)
 unfolding head_of
 head_has q end s e =

@@ -8,7 +8,7 @@ abbrev pub Has : {X : Type 0} → List X → X → Type 0
 Has [] x = ⊥
 Has (y ∷ ys) x = (y ≡ x) ⊎ Has ys x
 
--- by the first test's answer
+-- by the result of the first test
 filtered_by : {X : Type 0} (p : X → Bool) (y x : X) (ys : List X) (b : Bool) → p y ≡ b
     → (Has (filter p ys) x → Has ys x × (p x ≡ true)) → Has (cond b (y ∷ filter p ys) (filter p ys)) x
     → Has (y ∷ ys) x × (p x ≡ true)
@@ -16,23 +16,23 @@ filtered_by p y x ys true e rest (inl same) = (inl same, sym (ap p same) ∙ e)
 filtered_by p y x ys true e rest (inr h) = (inr (rest h).0, (rest h).1)
 filtered_by p y x ys false e rest h = (inr (rest h).0, (rest h).1)
 
--- what a filter keeps passes
+-- an item that a filter keeps passes
 pub has_filtered : {X : Type 0} (p : X → Bool) (xs : List X) (x : X) → Has (filter p xs) x → Has xs x × (p x ≡ true)
 has_filtered p [] x h = absurd h
 has_filtered p (y ∷ ys) x h = filtered_by p y x ys (p y) refl (has_filtered p ys x) h
 
--- by the first test's answer
+-- by the result of the first test
 found_by : {X : Type 0} (p : X → Bool) (y x : X) (ys : List X) (b : Bool) → p y ≡ b
     → (find p ys ≡ Some x → Has ys x × (p x ≡ true)) → cond b (Some y) (find p ys) ≡ Some x → Has (y ∷ ys) x × (p x ≡ true)
 found_by p y x ys true e rest h = let same : y ≡ x = cc in (inl same, sym (ap p same) ∙ e)
 found_by p y x ys false e rest h = (inr (rest h).0, (rest h).1)
 
--- what is found is there, and passes
+-- an item that is found is in the list, and passes
 pub has_found : {X : Type 0} (p : X → Bool) (xs : List X) (x : X) → find p xs ≡ Some x → Has xs x × (p x ≡ true)
 has_found p [] x h = absurd cc
 has_found p (y ∷ ys) x h = found_by p y x ys (p y) refl (has_found p ys x) h
 
--- the lesser of an item and one that stands later
+-- the lesser of an item and a later one
 lesser_either : {X : Type 0} (key : X → ℕ) (x z : X) (xs : List X) (least : Option X) → ((y : X) → least ≡ Some y → Has xs y)
     → lesser key x least ≡ z → Has (x ∷ xs) z
 lesser_either key x z xs None there e = inl e

@@ -1,4 +1,4 @@
--- Submissions that stand at their numbers: the one of a number is at its place, and no two have one identifier.
+-- Submissions at the places of their numbers: the one of a number is at its place, and no two have the same identifier.
 use Rattle.std.proofs.Common.{◌≡◌, ◌≢◌, ℕ, zero, suc, ◌+◌, ◌<◌, ◌≤◌, inl, inr, List, [], ◌∷◌, ◌++◌, Some, length, refl, sym, ap, ◌∙◌, arith}
 use Rattle.std.specs.List.{slice_get}
 use Rattle.std.proofs.lemmas.Bool.{and_parts, eq-eqb, ne_eqb, cond-true, cond-false}
@@ -52,7 +52,7 @@ place_from n (suc k) (s ∷ sent) numbered =
 pub place : (k : ℕ) (sent : List Sent) → AreNumberedFrom 0 sent → sent_at k sent ≡ slice_get sent k
 place k sent numbered = ap (λ m. sent_at m sent) (let e : k ≡ 0 + k = omega arith in e) ∙ place_from 0 k sent numbered
 
--- a change at a number leaves those behind it
+-- a change at a number leaves the later ones
 pub changed_before : (n k : ℕ) (f : Sent → Sent) (sent : List Sent) → AreNumberedFrom n sent → k < n → changed k f sent ≡ sent
 unfolding AreNumberedFrom changed
 changed_before n k f [] numbered before = refl
@@ -77,7 +77,7 @@ named : (s : Submission) → s.header.id ≡ submission_id s.number (nonce_in s.
 unfolding is_id_of
 named s = (bytes_eq-Decides s.header.id (submission_id s.number (nonce_in s.number s.header.id))).0 (and_parts _ _ s.identified).1
 
--- submissions of one identifier have one number
+-- submissions with the same identifier have the same number
 pub one_number : (s t : Submission) → s.header.id ≡ t.header.id → s.number ≡ t.number
 one_number s t e =
     submission_number s.number t.number (nonce_in s.number s.header.id) (nonce_in t.number t.header.id)

@@ -13,7 +13,7 @@ use Rattle.exchange_model.proofs.FoundLemmas.{sent_of_has}
 use Rattle.exchange_model.proofs.ListLemmas.{Has}
 use Rattle.exchange_model.proofs.NumberedLemmas.{itself}
 
--- a refusal by number names a submission that is found by it, and pending
+-- a refusal by number names a submission that this number finds, and it is pending
 pending_with : (code : List ℕ) (sent : List Sent) (s : Sent) → sent_at s.submission.number sent ≡ Some s
     → IfSome (refusal_with code s) (λ r. is_one is_pending (sent_at r.number sent) ≡ true)
 pending_with code sent s found =

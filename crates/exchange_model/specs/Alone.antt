@@ -1,4 +1,4 @@
--- One end alone, whatever comes to it, from a partner that forges too.
+-- One endpoint alone, whatever it receives. Its partner may also forge messages.
 use Rattle.std.specs.Prelude.{◌≡◌, ◌≢◌, ℕ, ◌+◌, ◌<◌, ◌≤◌, List, [], ◌∷◌, Bool, true, false, Some, length, map, slice_get}
 use Rattle.std.specs.List.{AllPairs, Contains, count_by}
 use Rattle.as4_effects.specs.declared.effect.Effect.{Effect}
@@ -21,7 +21,7 @@ use Rattle.as4_effects.specs.declared.mark.Mark.TheVariants.{Receipted, Failed, 
 use Rattle.exchange_model.specs.declared.sent.Sent.{Sent}
 use Rattle.exchange_model.specs.declared.what.What.TheVariants.{Tick}
 
--- one after another, each may happen at the end that those before it have led to
+-- in this order, each may happen at the endpoint that the earlier ones lead to
 abbrev pub MayHappenTo : List Happening → End → Type 0
 MayHappenTo [] end = Unit {0}
 MayHappenTo (Does act ∷ later) end =
@@ -33,16 +33,16 @@ end_after [] end = end
 end_after (Does act ∷ later) end = end_after later (applied act.outcome.effects end)
 end_after (Folds site size ∷ later) end = end_after later (resized size end)
 
--- the producer is told that the submission is taken in
+-- the reply to the producer is that the message is submitted
 abbrev pub is_submitted : Reply → Bool
 is_submitted (reply.Submitted number id) = true
 is_submitted other = false
 
--- what an end was handed in, and what became of it
+-- the submissions of an endpoint
 pub record IsOutboxSafe (acts : List Act) (end : End) : Type 0 where
-  -- no two submissions have one identifier
+  -- no two submissions have the same identifier
   pub told_apart : AllPairs (λ a b. a ≢ b) (map (λ (s : Sent). s.submission.header.id) end.sent)
-  -- each was handed in, each that was taken in is there, and there are as many as were taken in
+  -- each was submitted, each accepted one is there, and there are as many as were accepted
   pub handed_in : (s : Sent) → Contains end.sent s → (act : Act) × Contains acts act × HandsIn s.submission act
   pub taken_in : (act : Act) (number : ℕ) (id : List ℕ) → Contains acts act → act.outcome.reply ≡ reply.Submitted number id
       → (s : Sent) × (slice_get end.sent number ≡ Some s) × HandsIn s.submission act
@@ -51,48 +51,49 @@ pub record IsOutboxSafe (acts : List Act) (end : End) : Type 0 where
   pub own : (act : Act) (header : UserHeader) (payloads : List Payload) → Contains acts act
       → Contains (sends act.outcome.reply) (message.User header payloads)
       → (s : Sent) × Contains end.sent s × (message.User header payloads ≡ message_of s.submission)
-  -- the tries of a submission are the acts that handed it out, one more than its mode sends it again at most
+  -- the tries of a submission are the acts that sent it, at most one more than its retries
   pub tries : (s : Sent) → Contains end.sent s → times_handed_out s.submission.header.id acts ≡ s.tries
   pub limited : (s : Sent) → Contains end.sent s → s.tries ≤ s.submission.retries + 1
 
--- how a submission came to stand as it does
+-- how a submission came to its state
 pub record IsSettledRightly (acts : List Act) (end : End) : Type 0 where
-  -- it counts as receipted only where a receipt of it came and settled it
+  -- it is receipted only if a receipt for it was received and settled it
   pub receipted : (s : Sent) → Contains end.sent s → s.mark ≡ Receipted → (act : Act) × Contains acts act × BringsReceiptOf s act
-  -- it counts as refused only where a failure about it came
+  -- it is refused only if a failure about it was received
   pub refused : (s : Sent) (code : List ℕ) → Contains end.sent s → s.mark ≡ Refused code
       → (act : Act) × Contains acts act × BringsFailureOf s code act
-  -- it is given up only where it was handed out as often as its mode says
+  -- it is expired only if it was sent as often as its mode says
   pub given_up : (s : Sent) → Contains end.sent s → s.mark ≡ Failed
       → times_handed_out s.submission.header.id acts ≡ s.submission.retries + 1
-  -- and it is given up once its last try is overdue by the clock
+  -- and it is expired as soon as its last try is overdue by the clock
   pub none_spent : (s : Sent) → Contains end.sent s → is_spent end.moment s ≡ false
 
--- what came to an end
+-- the messages that an endpoint received
 pub record IsInboxSafe (acts : List Act) (end : End) : Type 0 where
   -- the inbox has each identifier at most once
   pub at_most_once : AllPairs (λ a b. a ≢ b) (map (λ (entry : InboxEntry). entry.header.id) end.inbox)
-  -- what counts as taken over came, and was confirmed
+  -- each message that counts as confirmed was received, and an act confirmed it
   pub came : end.confirmed ≤ length end.inbox
   pub taken_over : (n : ℕ) → n < end.confirmed → (act : Act) × Contains acts act × TakesOver n act
 
--- how many bytes the record of an act has in the journal; without effects there is none
+-- the number of bytes of an act's record in the journal; without effects there is no record
 abbrev pub written : List Effect → ℕ
 written [] = 0
 written (e ∷ effects) = record_len (e ∷ effects)
 
--- how many bytes a journal of so many has behind these: an act adds its record, a fold leaves what it leaves
+-- the size of a journal of `size` bytes after these: an act adds its record, and a compaction sets the size
 abbrev pub size_after : List Happening → ℕ → ℕ
 size_after [] size = size
 size_after (Does act ∷ later) size = size_after later (size + written act.outcome.effects)
 size_after (Folds site left ∷ later) size = size_after later left
 
--- what holds at an end whatever its partner sends
+-- what holds at an endpoint whatever its partner sends
 pub record IsSafe (all : List Happening) (end : End) : Type 0 where
   pub outbox : IsOutboxSafe (acts_of all) end
   pub settled : IsSettledRightly (acts_of all) end
   pub inbox : IsInboxSafe (acts_of all) end
-  -- the clock shows what it was set to
+  -- the clock is at least at the stamp of each tick
   pub clock : (act : Act) → Contains (acts_of all) act → act.event.what ≡ Tick → ¬ IsFull act.outcome.reply → act.event.stamp ≤ end.moment
-  -- the journal has its first bytes and the acts' records, those since its last fold behind what that left
+  -- the journal's size: its first nine bytes and the acts' records; after a compaction, what that left and the records
+  -- since then
   pub size : end.size ≡ size_after all 9

@@ -1,4 +1,4 @@
--- What effects change at an end, and which effects fit there: this handler's own.
+-- How effects change an endpoint, and which effects fit it: this handler's own.
 use Rattle.std.specs.Prelude.{ℕ, suc, ◌+◌, List, [], ◌∷◌, ◌++◌, Bool, true, false, not, ◌&&◌, ◌||◌, ◌==◌, nat_lt, nat_le, if◌then◌else◌, Option, Some, None, option_map, length, map, take, drop}
 use Rattle.as4_effects.specs.Effects.{effects_body}
 use Rattle.as4_effects.specs.declared.carried.Carried.{Carried}
@@ -24,24 +24,24 @@ as_carried c = record { submission = c.submission; tries = c.tries; last = c.las
 abbrev pub tried : ℕ → Sent → Sent
 tried moment s = record s { tries = s.tries + 1; last = moment }
 
--- standing so from then on
+-- with this state
 abbrev pub marked : Mark → Sent → Sent
 marked m s = record s { mark = m }
 
--- given up, where it is spent at this moment
+-- expired, where it is spent at this moment
 abbrev pub failed_if_spent : ℕ → Sent → Sent
 failed_if_spent moment s = if is_spent moment s then marked mark.Failed s else s
 
--- the submission of this number changed, and no other
+-- changes the submission of this number, and no other
 unfoldable pub changed : ℕ → (Sent → Sent) → List Sent → List Sent
 changed number change sent = map (λ s. if s.submission.number == number then change s else s) sent
 
--- the first so many entries without their payloads, the others as they are
+-- the first `count` entries without their payloads, the others unchanged
 unfoldable pub emptied : ℕ → List InboxEntry → List InboxEntry
 emptied count inbox =
     map (λ (entry : InboxEntry). record entry { payloads = [] }) (take count inbox) ++ drop count inbox
 
--- the end after one effect
+-- the endpoint after one effect
 unfoldable pub after : Effect → End → End
 after (effect.Submitted submission) end = record end { sent = end.sent ++ unsent submission ∷ [] }
 after (effect.Ticked tick) end =
@@ -61,17 +61,17 @@ abbrev pub after_all : List Effect → End → End
 after_all [] end = end
 after_all (e ∷ effects) end = after_all effects (after e end)
 
--- how many bytes the record of these effects takes: its gate, the eight bytes of its length, and its body
+-- the number of bytes of these effects' record: its gate (the commit byte), the eight bytes of its length, and its body
 unfoldable pub record_len : List Effect → ℕ
 record_len effects = length (effects_body effects) + 9
 
--- the end after the record of these effects; where there are none there is no record
+-- the endpoint after the record of these effects; without effects there is no record
 unfoldable pub applied : List Effect → End → End
 applied [] end = end
 applied (e ∷ effects) end =
     let new = after_all (e ∷ effects) end in record new { size = new.size + record_len (e ∷ effects) }
 
--- there is such a submission, and the test holds of it
+-- there is such a submission, and it passes the test
 abbrev pub is_one : (Sent → Bool) → Option Sent → Bool
 is_one test None = false
 is_one test (Some s) = test s
@@ -81,13 +81,13 @@ abbrev pub is_next : Submission → End → Bool
 is_next submission end =
     (submission.number == length end.sent) && not (is_one (λ s. true) (sent_of submission.header.id end.sent))
 
--- how often it was sent and when last agree, and what was given up was sent as often as its mode says
+-- the number of tries and the time of the last one agree, and an expired submission was sent as often as its mode says
 abbrev pub are_tries : Sent → Bool
 are_tries s =
     nat_le s.tries (s.submission.retries + 1)
     && ((not (is_failed_mark s.mark) || (s.tries == s.submission.retries + 1)) && (not (s.tries == 0) || (s.last == 0)))
 
--- an effect that can stand at an end
+-- an effect that fits the endpoint
 unfoldable pub is_fit : Effect → End → Bool
 is_fit (effect.Submitted submission) end = is_next submission end
 is_fit (effect.Ticked tick) end = nat_lt end.moment tick.moment
@@ -100,7 +100,7 @@ is_fit (effect.Carried carried) end =
     (end.moment == 0) && (is_next carried.submission end && are_tries (as_carried carried))
 is_fit (effect.Kept kept) end = not (is_known kept.header.id end.inbox) && (end.confirmed == length end.inbox)
 
--- the place of the first that doesn't fit where those before it have made their changes
+-- the place of the first effect that doesn't fit after those before it were applied
 abbrev pub first_unfit : List Effect → End → Option ℕ
 first_unfit [] end = None
 first_unfit (e ∷ effects) end =

@@ -1,13 +1,13 @@
--- What an act has brought, where an end's state comes from it.
+-- Which acts cause the state of an endpoint.
 use Rattle.std.specs.Prelude.{◌≡◌, ℕ, ◌≤◌, List, IsTrue, Option, Some, map}
 use Rattle.std.specs.List.{Contains}
 use Rattle.std.specs.Option.{option_or}
 use Rattle.as4_effects.specs.declared.effect.Effect.TheVariants as effect
 use Rattle.as4_effects.specs.declared.submission.Submission.{Submission}
-use Rattle.as4_values.specs.ModeMatch.{Matches, mode_named}
+use Rattle.mode_values.specs.ModeMatch.{Matches, mode_named}
 use Rattle.as4_values.specs.declared.header.UserHeader.{UserHeader}
 use Rattle.as4_values.specs.declared.message.Message.TheVariants as message
-use Rattle.as4_values.specs.declared.mode.Mode.{Mode}
+use Rattle.mode_values.specs.declared.mode.Mode.{Mode}
 use Rattle.as4_values.specs.declared.payload.Load.{Load}
 use Rattle.as4_values.specs.declared.payload.Payload.{Payload}
 use Rattle.as4_values.specs.declared.signal.Signal.{Signal}
@@ -21,7 +21,7 @@ use Rattle.exchange_model.specs.declared.sent.Sent.{Sent}
 use Rattle.exchange_model.specs.declared.what.What.{What}
 use Rattle.exchange_model.specs.declared.what.What.TheVariants.{Submit, Came, Confirm}
 
--- the submission was handed in, by a mode of the end: it has the contents of its loads, and is sent as the mode says
+-- the act submitted it, by a mode of the endpoint: it has the contents of its loads, and is sent as the mode says
 pub record HandsIn (s : Submission) (act : Act) : Type 0 where
   pub name : List ℕ
   pub conversation : Option (List ℕ)
@@ -38,13 +38,13 @@ pub record HandsIn (s : Submission) (act : Act) : Type 0 where
   pub retries : s.retries ≡ mode.retries
   pub period : s.period ≡ mode.period
 
--- a receipt comes: alone, or in a pair that asks for a channel of these modes
+-- a signal is received: alone, or as the receipt of a pair that pulls from a channel of these modes
 abbrev pub BringsSignal : List Mode → What → Signal → Type 0
 BringsSignal modes (Came (message.Signal signal)) brought = signal ≡ brought
 BringsSignal modes (Came (message.Pair pair)) brought = (pair.receipt ≡ brought) × IsTrue (names_channel modes pair.pull.body)
 BringsSignal modes other brought = ⊥
 
--- a receipt came that names the submission, with no copy of another header, and it settled the submission
+-- a receipt was received that names the submission, without a copy of another header, and it settled the submission
 pub record BringsReceiptOf (s : Sent) (act : Act) : Type 0 where
   pub signal : Signal
   pub copy : Option UserHeader
@@ -54,7 +54,7 @@ pub record BringsReceiptOf (s : Sent) (act : Act) : Type 0 where
   pub same : ¬ IsOther copy s.submission.header
   pub settles : Contains act.outcome.effects (effect.Receipted s.submission.number)
 
--- an error signal came with a failure of this code that is about the submission
+-- an error signal was received with a failure of this code about the submission
 pub record BringsFailureOf (s : Sent) (code : List ℕ) (act : Act) : Type 0 where
   pub signal : Signal
   pub items : List ErrorItem
@@ -66,7 +66,7 @@ pub record BringsFailureOf (s : Sent) (code : List ℕ) (act : Act) : Type 0 whe
   pub names : option_or item.about signal.ref_to ≡ Some s.submission.header.id
   pub told : item.code ≡ code
 
--- the consumer confirmed the entry at this place, or a later one, and was told so
+-- the consumer confirmed the entry at this place or a later one, and the reply said so
 pub record TakesOver (n : ℕ) (act : Act) : Type 0 where
   pub upto : ℕ
   pub asked : act.event.what ≡ Confirm upto

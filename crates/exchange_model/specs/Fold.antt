@@ -1,5 +1,5 @@
--- An end written again, short: the effects that give it back from the empty end, each in a record of its own. A journal
--- that only grows is folded so; the end stays as it is, but for its journal's size.
+-- Compaction: the effects that make an endpoint again from the empty one, each in a record of its own. A growing
+-- journal is compacted to these. The endpoint's state doesn't change, except its journal's size.
 use Rattle.std.specs.Prelude.{◌≡◌, ℕ, zero, suc, ◌+◌, List, [], ◌∷◌, ◌++◌, take, drop}
 use Rattle.std.specs.List.{sum_by}
 use Rattle.as4_effects.specs.declared.effect.Effect.{Effect}
@@ -16,17 +16,17 @@ ItemByItem is [] [] = Unit {0}
 ItemByItem is (x ∷ xs) (y ∷ ys) = is x y × ItemByItem is xs ys
 ItemByItem is xs ys = ⊥
 
--- a submission is carried over as it stands
+-- a submission is carried over in its state
 abbrev pub CarriesOver : Sent → Effect → Type 0
 CarriesOver s (effect.Carried carried) = as_carried carried ≡ s
 CarriesOver s other = ⊥
 
--- of an entry that was taken over the header is kept
+-- only the header of a confirmed entry is kept
 abbrev pub KeepsHeader : InboxEntry → Effect → Type 0
 KeepsHeader entry (effect.Kept kept) = kept.header ≡ entry.header
 KeepsHeader entry other = ⊥
 
--- any other entry is delivered as it came
+-- any other entry is delivered again, unchanged
 abbrev pub DeliversAgain : InboxEntry → Effect → Type 0
 DeliversAgain entry (effect.Delivered delivery) = (delivery.header ≡ entry.header) × (delivery.payloads ≡ entry.payloads)
 DeliversAgain entry other = ⊥
@@ -36,7 +36,7 @@ abbrev pub SetsClock : ℕ → List Effect → Type 0
 SetsClock zero effects = effects ≡ []
 SetsClock (suc moment) effects = (tick : Tick) × (tick.moment ≡ suc moment) × (effects ≡ effect.Ticked tick ∷ [])
 
--- the effects that an end is folded to: its submissions in order, then its inbox in order, then its clock
+-- the effects of an endpoint's compaction: its submissions in order, its inbox in order, its clock
 pub record IsFolded (end : End) (effects : List Effect) : Type 0 where
   pub carried : List Effect
   pub kept : List Effect
@@ -48,13 +48,13 @@ pub record IsFolded (end : End) (effects : List Effect) : Type 0 where
   pub set : SetsClock end.moment clock
   pub is : effects ≡ carried ++ kept ++ delivered ++ clock
 
--- how many bytes the journal has then: its first nine, and a record for each effect
+-- the size of the compacted journal: its first nine bytes, and a record for each effect
 unfoldable pub folded_size : List Effect → ℕ
 folded_size effects = 9 + sum_by (λ (e : Effect). record_len (e ∷ [])) effects
 
 abbrev pub IsFoldedSize : End → ℕ → Type 0
 IsFoldedSize end size = (effects : List Effect) × IsFolded end effects × (size ≡ folded_size effects)
 
--- the end with a journal of another size
+-- the endpoint with a journal of another size
 abbrev pub resized : ℕ → End → End
 resized size end = record end { size = size }

@@ -1,3 +1,4 @@
+-- The specs of exchange_model.
 pub mod Alone
 pub mod Apply
 pub mod Causes

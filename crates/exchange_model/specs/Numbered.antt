@@ -1,4 +1,4 @@
--- Each submission stands at its number.
+-- Each submission is at the place of its number.
 use Rattle.std.specs.Prelude.{◌≡◌, ℕ, suc, List, [], ◌∷◌}
 use Rattle.exchange_model.specs.declared.sent.Sent.{Sent}
 

@@ -1,4 +1,4 @@
--- What can be asked of an end (AS4 Profile, section 3.2, on retries and duplicates; ebMS 3.0 Core, section 3.4, on
+-- Queries on an endpoint (AS4 Profile, section 3.2, on retries and duplicates; ebMS 3.0 Core, section 3.4, on
 -- channels).
 use Rattle.std.specs.Prelude.{ℕ, ◌+◌, List, Bool, true, false, ◌&&◌, ◌==◌, nat_le, if◌then◌else◌, Option}
 use Rattle.std.specs.List.{filter, find, list_any}
@@ -20,7 +20,7 @@ abbrev pub is_pending_mark : Mark → Bool
 is_pending_mark mark.Pending = true
 is_pending_mark other = false
 
--- and in which way one was settled
+-- how a submission was settled
 abbrev pub is_receipted_mark : Mark → Bool
 is_receipted_mark mark.Receipted = true
 is_receipted_mark other = false
@@ -33,15 +33,15 @@ abbrev pub is_refused_mark : Mark → Bool
 is_refused_mark (mark.Refused code) = true
 is_refused_mark other = false
 
--- neither receipted, given up nor refused
+-- neither receipted, expired nor refused
 abbrev pub is_pending : Sent → Bool
 is_pending s = is_pending_mark s.mark
 
--- when it is to be sent, or given up: when it was handed in, or a period after it was sent last
+-- when it is to be sent or expires: when it was submitted, or a period after it was last sent
 abbrev pub due : Sent → ℕ
 due s = if s.tries == 0 then s.submission.moment else s.last + s.submission.period
 
--- it may still be sent: it is pending, and was sent at most as often as its mode says that it is sent again
+-- it may still be sent: it is pending, and was sent at most as often as its retries
 abbrev pub is_waiting : Sent → Bool
 is_waiting s = is_pending s && nat_le s.tries s.submission.retries
 
@@ -66,23 +66,23 @@ is_same_queue a b = false
 abbrev pub is_in : Queue → Sent → Bool
 is_in q s = is_same_queue (queue_of s.submission.route) q
 
--- the head of a queue: of those that may be sent now, the first that is due; of several due at once the one of
--- the least number
+-- the head of a queue: of the submissions that may be sent now, the one that is due first; of several due at once, the
+-- one with the least number
 unfoldable pub head_of : Queue → End → Option Sent
 head_of q end = first_least due (filter (λ s. is_ready end.moment s && is_in q s) end.sent)
 
--- the submission of this number, of this identifier
+-- the submission of this number, and that of this identifier
 abbrev pub sent_at : ℕ → List Sent → Option Sent
 sent_at number sent = find (λ s. s.submission.number == number) sent
 
 abbrev pub sent_of : List ℕ → List Sent → Option Sent
 sent_of id sent = find (λ s. bytes_eq s.submission.header.id id) sent
 
--- a message of this identifier came
+-- a message of this identifier was received
 unfoldable pub is_known : List ℕ → List InboxEntry → Bool
 is_known id inbox = list_any (λ entry. bytes_eq entry.header.id id) inbox
 
--- how a submission stands
+-- the state of a submission
 unfoldable pub standing_of : ℕ → Mark → Standing
 standing_of tries mark.Pending = standing.Pending tries
 standing_of tries mark.Receipted = standing.Receipted

@@ -19,14 +19,14 @@ pub record Rejection : Type 0 where
 abbrev pub refusal_with : List ℕ → Sent → Option Rejection
 refusal_with code s = if is_pending s then Some (record { number = s.submission.number; code = code }) else None
 
--- by a failure, the pending submission that it is about: the one that it names, else the one that its signal
--- refers to; a warning refuses none
+-- for a failure, the pending submission that it is about: the one that it names, else the one that its signal refers
+-- to; for a warning, none
 abbrev pub refusal_by : Severity → List ℕ → Option (List ℕ) → List Sent → Option Rejection
 refusal_by Warning code about sent = None
 refusal_by Failure code about sent =
     option_and_then (refusal_with code) (option_and_then (λ id. sent_of id sent) about)
 
--- by an error of a signal with this reference
+-- for an error of a signal with this reference
 abbrev pub refusal_of : Option (List ℕ) → List Sent → ErrorItem → Option Rejection
 refusal_of ref_to sent item = refusal_by item.severity item.code (option_or item.about ref_to) sent
 
@@ -35,7 +35,7 @@ unfoldable pub once : List Rejection → List Rejection
 once [] = []
 once (refusal ∷ refusals) = refusal ∷ filter (λ later. not (later.number == refusal.number)) (once refusals)
 
--- what an error signal with these items changes
+-- the effects of an error signal with these items
 unfoldable pub refusals_of : Option (List ℕ) → List Sent → List ErrorItem → List Effect
 refusals_of ref_to sent items =
     map (λ refusal. Refused refusal.number refusal.code) (once (filter_map (refusal_of ref_to sent) items))

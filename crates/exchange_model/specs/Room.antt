@@ -1,4 +1,4 @@
--- Room in the journal for the record of any one effect that an event makes; the two of a pair take less.
+-- Room in the journal for the record of any single effect that an event makes; the two effects of a pair need less.
 use Rattle.std.specs.Prelude.{◌+◌, ◌≤◌}
 use Rattle.as4_effects.specs.Sound.{effect_limit}
 use Rattle.exchange_model.specs.End.{End}

@@ -1,4 +1,4 @@
--- The submission that is made of what is handed in (ebMS 3.0 Core, section 5.2.2; AS4 Profile, section 5.1).
+-- The submission that is made of a producer's data (ebMS 3.0 Core, section 5.2.2; AS4 Profile, section 5.1).
 use Rattle.std.specs.Prelude.{◌≡◌, ℕ, ◌+◌, List, [], ◌++◌, Bool, not, ◌||◌, nat_lt, Option, Some, None, length, map, codes}
 use Rattle.std.specs.Fmt.{decimal}
 use Rattle.std.specs.List.{All, list_all, range_with_len, sum_by}
@@ -8,7 +8,7 @@ use Rattle.as4_values.specs.Moment.{IsStampOf}
 use Rattle.as4_values.specs.Payload.{is_media_text}
 use Rattle.as4_values.specs.declared.header.UserHeader.{UserHeader}
 use Rattle.as4_values.specs.declared.header.PartInfo.{PartInfo}
-use Rattle.as4_values.specs.declared.mode.Mode.{Mode}
+use Rattle.mode_values.specs.declared.mode.Mode.{Mode}
 use Rattle.as4_values.specs.declared.payload.Load.{Load}
 use Rattle.as4_values.specs.declared.payload.Payload.{Payload}
 use Rattle.as4_values.specs.declared.route.Route.{Route}
@@ -31,11 +31,11 @@ abbrev pub address_of : Route → List ℕ
 address_of (Push address) = address
 address_of (Pull mpc address) = address
 
--- the Content-IDs of so many payloads: 1, 2 and so on, a point and the identifier (RFC 2392)
+-- the Content-IDs of `count` payloads: 1, 2 and so on, a point and the identifier (RFC 2392)
 unfoldable pub cids_of : List ℕ → ℕ → List (List ℕ)
 cids_of id count = map (λ k. decimal (k + 1) ++ codes "." ++ id) (range_with_len 0 count)
 
--- the header by a mode, for so many payloads: made at the moment `ms`, with this identifier
+-- the header by a mode, for `count` payloads: made at the moment `ms`, with this identifier
 pub record IsHeaderOf (mode : Mode) (id : List ℕ) (ms : ℕ) (conversation : Option (List ℕ)) (count : ℕ) (header : UserHeader) : Type 0 where
   pub mpc : header.mpc ≡ channel_of mode.route
   pub stamped : IsStampOf ms header.stamp
@@ -51,13 +51,13 @@ pub record IsHeaderOf (mode : Mode) (id : List ℕ) (ms : ℕ) (conversation : O
   pub hrefs : map (λ (part : PartInfo). part.href) header.parts ≡ map (λ cid. Some (codes "cid:" ++ cid)) (cids_of id count)
   pub bare : All (λ (part : PartInfo). part.properties ≡ []) header.parts
 
--- each load as it is, behind its Content-ID
+-- each load unchanged, with its Content-ID
 pub record ArePayloadsOf (id : List ℕ) (loads : List Load) (payloads : List Payload) : Type 0 where
   pub cids : map (λ (payload : Payload). payload.cid) payloads ≡ cids_of id (length loads)
   pub medias : map (λ (payload : Payload). payload.media) payloads ≡ map (λ (load : Load). load.media) loads
   pub contents : map (λ (payload : Payload). payload.content) payloads ≡ map (λ (load : Load). load.content) loads
 
--- the submission of this number by a mode, handed in at the moment `now` by the end's clock, in an event of the
+-- the submission of this number by a mode, submitted at the moment `now` by the endpoint's clock, in an event with the
 -- moment `ms` and this nonce
 pub record IsSubmissionOf (mode : Mode) (number now ms nonce : ℕ) (conversation : Option (List ℕ)) (loads : List Load) (s : Submission) : Type 0 where
   pub numbered : s.number ≡ number

@@ -1,4 +1,4 @@
--- The machine: what an end does with an event, row by row. In each function the first row that fits decides.
+-- The machine: what an endpoint does with an event, row by row. In each function the first row that fits decides.
 --
 --     event                 where                                            effect       reply
 --     Submit                no mode of that name                             none         NoMode
@@ -8,7 +8,7 @@
 --                           else                                             Submitted    Submitted
 --     Tick                  stamp at most the moment                         none         Ticked 0
 --                           else                                             Ticked       Ticked, those that fail now
---     Take                  no head among what is pushed                     none         Nothing
+--     Take                  no head in the push queue                        none         Nothing
 --                           else                                             Tried        Push
 --     Ask                   no pull mode of that name                        none         NoMode
 --                           else                                             none         Request, a pull request
@@ -28,7 +28,7 @@
 --                           else                                             none         Quiet
 --     Came, pair            its receipt gives an error                       none         that error
 --                           no mode names the channel                        none         error 0001
---                           else, behind the receipt's effect, if any:
+--                           else, after the receipt's effect, if any:
 --                           no head in the channel                           that         error 0006
 --                           else                                             that, Tried  the user message
 --     Came, errors          each pending submission that a failure names     Refused      Quiet
@@ -39,7 +39,8 @@
 --                           at least the inbox's length                      none         NoEntry
 --                           else                                             Confirmed    Confirmed
 --     Status                not submitted here                               none         Unknown
---                           else                                             none         Pending, Receipted, Failed, RefusedWith
+--                           else                                             none         Pending, Receipted, Failed,
+--                                                                                         RefusedWith
 --     any                   the journal has no room for the effects' record  none         Full
 --
 -- One-Way/Push and One-Way/Pull: ebMS 3.0 Core, section 2.2, and AS4 Profile, section 2; retries and duplicates: AS4
@@ -57,12 +58,12 @@ use Rattle.as4_effects.specs.declared.effect.Effect.TheVariants as effect
 use Rattle.as4_effects.specs.declared.effect.Tick.{Tick}
 use Rattle.as4_effects.specs.declared.queue.Queue.TheVariants as queue
 use Rattle.as4_effects.specs.declared.submission.Submission.{Submission}
-use Rattle.as4_values.specs.ModeMatch.{mode_of, mode_named, channel_mode}
+use Rattle.mode_values.specs.ModeMatch.{mode_of, mode_named, channel_mode}
 use Rattle.as4_values.specs.declared.header.UserHeader.{UserHeader}
 use Rattle.as4_values.specs.declared.message.Pair.{Pair}
 use Rattle.as4_values.specs.declared.message.Message.{Message}
 use Rattle.as4_values.specs.declared.message.Message.TheVariants as message
-use Rattle.as4_values.specs.declared.mode.Mode.{Mode}
+use Rattle.mode_values.specs.declared.mode.Mode.{Mode}
 use Rattle.as4_values.specs.declared.payload.Load.{Load}
 use Rattle.as4_values.specs.declared.payload.Payload.{Payload}
 use Rattle.as4_values.specs.declared.route.Route.{Route}
@@ -201,15 +202,16 @@ ReceiptComes end event id ref_to copy outcome =
     (IsOther copy s.submission.header × Errs 302 id event outcome)
     ⊎ ((¬ IsOther copy s.submission.header) × Settles s outcome))
 
--- Came, a signal; the row of errors stands here
+-- Came, a signal; this includes the row of errors
 abbrev pub SignalComes : List Mode → End → Event → List ℕ → Option (List ℕ) → SignalBody → Outcome → Type 0
 SignalComes modes end event id ref_to (body.Pull mpc) outcome = PullComes modes end event id mpc outcome
 SignalComes modes end event id ref_to (body.Receipt copy) outcome = ReceiptComes end event id ref_to copy outcome
 SignalComes modes end event id ref_to (body.Errors items) outcome =
     outcome ≡ record { effects = refusals_of ref_to end.sent items; reply = reply.Quiet }
 
--- Came, pair: its receipt's row, and where that gives no error, its pull request's at the end behind the receipt's
--- effect; both rows' effects stand in one record, but for a channel that no mode names nothing changes
+-- Came, pair: the row of its receipt; unless that gives an error, the row of its pull request follows, at the endpoint
+-- after the receipt's effect. One record holds the effects of both rows. Where no mode names the channel, nothing
+-- changes
 abbrev pub is_quiet : Reply → Bool
 is_quiet reply.Quiet = true
 is_quiet other = false
@@ -275,7 +277,7 @@ RowOf modes end event (what.Read n) outcome = Rests (read_reply end n) outcome
 RowOf modes end event (what.Confirm upto) outcome = Confirms end upto outcome
 RowOf modes end event (what.Status id) outcome = Rests (standing_reply (sent_of id end.sent)) outcome
 
--- how many bytes a journal may have (this handler's own)
+-- the most bytes of a journal (this handler's own)
 abbrev pub journal_limit : ℕ
 journal_limit = 4294967296
 
@@ -283,13 +285,13 @@ journal_limit = 4294967296
 unfoldable pub has_room : End → List Effect → Bool
 has_room end effects = (length effects == 0) || nat_le (end.size + record_len effects) journal_limit
 
--- the row, where the journal has room for its record; else the reply says that it has none
+-- the row, where the journal has room for its record; else the reply `Full`
 abbrev pub IsLimited : End → Outcome → Outcome → Type 0
 IsLimited end row outcome =
     MatchBool (has_room end row.effects) (outcome ≡ row)
     (Rests (reply.Full end.size (record_len row.effects)) outcome)
 
--- an end with these modes gives this outcome to an event
+-- an endpoint with these modes gives this outcome to an event
 pub record Step (modes : List Mode) (end : End) (event : Event) (outcome : Outcome) : Type 0 where
   pub row : Outcome
   pub decided : RowOf modes end event event.what row

@@ -1,4 +1,4 @@
--- What the types of an event keep beside what its value shows.
+-- Facts that the types of an event keep and that its value doesn't show.
 use Rattle.std.specs.Prelude.{◌^◌, ◌<◌, ◌≤◌, IfSome, length}
 use Rattle.exchange_model.specs.declared.event.Event.{Event}
 use Rattle.exchange_model.specs.declared.what.What.{What}

@@ -1,10 +1,11 @@
--- Two ends and a network that may lose, repeat and reorder what they send: each message that an end ever sent may
--- arrive at the other end never, once or often, at any time. A crash is a step whose reply is lost, or no step. Between
--- two acts an end's journal may be folded: by a checkpoint where it gets shorter, by a migration whatever its size is.
+-- Two endpoints and a network that may lose, repeat and reorder their messages: each message that an endpoint ever sent
+-- may arrive at the other never, once or often, at any time. A crash is a step whose reply is lost, or no step. Between
+-- two acts an endpoint's journal may be compacted: by a checkpoint where that makes it shorter, by a migration whatever
+-- its size is.
 use Rattle.std.specs.Prelude.{ℕ, List, [], ◌∷◌, ◌++◌, Bool, true, false, if◌then◌else◌}
 use Rattle.std.specs.List.{Contains, filter}
 use Rattle.as4_values.specs.declared.message.Message.{Message}
-use Rattle.as4_values.specs.declared.mode.Mode.{Mode}
+use Rattle.mode_values.specs.declared.mode.Mode.{Mode}
 use Rattle.exchange_model.specs.Apply.{applied}
 use Rattle.exchange_model.specs.End.{End, empty_end}
 use Rattle.exchange_model.specs.Fold.{IsFoldedSize, resized}
@@ -16,7 +17,7 @@ use Rattle.exchange_model.specs.declared.reply.Reply.TheVariants as reply
 use Rattle.exchange_model.specs.declared.what.What.{What}
 use Rattle.exchange_model.specs.declared.what.What.TheVariants as what
 
--- an end, and each message that it ever sent
+-- an endpoint, and each message that it ever sent
 pub record Speaker : Type 0 where
   pub end : End
   pub said : List Message
@@ -40,7 +41,7 @@ is_same_site Left Left = true
 is_same_site Right Right = true
 is_same_site a b = false
 
--- what happens at one end: an event under some modes, its outcome, and whether the reply is lost
+-- what happens at one endpoint: an event under some modes, its outcome, and whether the reply is lost
 pub record Act : Type 0 where
   pub site : Site
   pub modes : List Mode
@@ -48,36 +49,36 @@ pub record Act : Type 0 where
   pub outcome : Outcome
   pub lost : Bool
 
--- the message that a reply sends to the other end
+-- the message that a reply sends to the other endpoint
 abbrev pub sends : Reply → List Message
 sends (reply.Push address message) = message ∷ []
 sends (reply.Request address message) = message ∷ []
 sends (reply.Answer message) = message ∷ []
 sends other = []
 
--- a message that comes is one that the other end sent
+-- a received message is one that the other endpoint sent
 abbrev pub IsHeard : List Message → What → Type 0
 IsHeard said (what.Came message) = Contains said message
 IsHeard said other = Unit {0}
 
--- what happens in a world: an act, or the journal of the end at a site is folded to this size
+-- what happens in a world: an act, or a compaction of the journal at a site to this size
 pub data Happening : Type 0 where
   Does : Act → Happening
   Folds : Site → ℕ → Happening
 
--- the act may happen at an end that hears the other
+-- the act may happen at an endpoint that receives from the other
 pub record MayAct (act : Act) (speaker other : Speaker) : Type 0 where
   pub heard : IsHeard other.said act.event.what
   pub step : Step act.modes speaker.end act.event act.outcome
 
--- the end behind an outcome whose reply leaves or is lost
+-- the endpoint after an outcome whose reply is sent or lost
 abbrev pub speaker_after : Outcome → Bool → Speaker → Speaker
 speaker_after outcome lost speaker = record {
   end = applied outcome.effects speaker.end;
   said = if lost then speaker.said else speaker.said ++ sends outcome.reply;
 }
 
--- what the act leads to at its end
+-- the endpoint after an act
 abbrev pub acted : Act → Speaker → Speaker
 acted act speaker = speaker_after act.outcome act.lost speaker
 
@@ -93,7 +94,7 @@ abbrev pub speaker_at : Site → World → Speaker
 speaker_at Left world = world.left
 speaker_at Right world = world.right
 
--- the world where the journal of the end at a site has another size
+-- the world where the journal of the endpoint at a site has another size
 abbrev pub folded : ℕ → Speaker → Speaker
 folded size speaker = record speaker { end = resized size speaker.end }
 
@@ -101,7 +102,7 @@ abbrev pub folded_at : Site → ℕ → World → World
 folded_at Left size world = record world { left = folded size world.left }
 folded_at Right size world = record world { right = folded size world.right }
 
--- one after another, each may happen where those before it have led
+-- in this order, each may happen in the world that the earlier ones lead to
 abbrev pub MayHappen : List Happening → World → Type 0
 MayHappen [] world = Unit {0}
 MayHappen (Does act ∷ later) world = MayHappenAt act.site act world × MayHappen later (world_at act.site act world)
@@ -113,7 +114,7 @@ world_after [] world = world
 world_after (Does act ∷ later) world = world_after later (world_at act.site act world)
 world_after (Folds site size ∷ later) world = world_after later (folded_at site size world)
 
--- the acts among what happens
+-- the acts among these
 abbrev pub acts_of : List Happening → List Act
 acts_of [] = []
 acts_of (Does act ∷ later) = act ∷ acts_of later

@@ -1,9 +1,11 @@
+//! Entries of the inbox.
+
 use as4_values::{Payload, Seq, UserHeader};
 
-/// A message that came.
+/// A received message.
 #[derive(Drop)]
 pub struct InboxEntry {
     pub header: UserHeader,
-    /// None where the consumer has taken the message over.
+    /// Empty once the consumer has confirmed the message.
     pub payloads: Seq<Payload>,
 }

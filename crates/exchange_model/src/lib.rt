@@ -1,5 +1,5 @@
-//! An exchange of messages between two ends: the events that an end meets, its replies, and the definitions that the
-//! handler's functions and the laws cite.
+//! An exchange of messages between two endpoints: the events of an endpoint, its replies, and the definitions that the
+//! contracts and the laws cite.
 #![tactic(auto)]
 
 mod event;

@@ -1,8 +1,10 @@
+//! Outcomes of events.
+
 use crate::reply::Reply;
 use as4_effects::Effect;
 use as4_values::Seq;
 
-/// What an event gives at an end: what it changes, and what is said to it.
+/// The outcome of an event at an endpoint: its effects and its reply.
 #[derive(Drop)]
 pub struct Outcome {
     pub effects: Seq<Effect>,

@@ -1,61 +1,63 @@
+//! Replies to events.
+
 use as4_values::{Code, Message, MessageId, Payload, Seq, Text, UserHeader};
 
-/// What an end says to an event.
+/// The reply of an endpoint to an event.
 #[derive(Drop)]
 pub enum Reply {
-    /// The message was taken in under this number and identifier.
+    /// The message is submitted, with this number and identifier.
     Submitted {
         number: u64,
         id: MessageId,
     },
-    /// No processing mode of this name serves.
+    /// There is no processing mode of this name that serves the event.
     NoMode,
     /// There is no number left for a submission.
     OutboxFull,
-    /// A submission may not be so large, have so many payloads, or such a media text.
+    /// The submission is too large, or has too many payloads or an invalid media text.
     TooLarge,
-    /// The clock was set; so many submissions were given up.
+    /// The clock is at the event's stamp or later. `failed` submissions expired.
     Ticked {
         failed: u64,
     },
-    /// This message is to be sent to this address.
+    /// Send this message to this address.
     Push {
         address: Text,
         message: Message,
     },
-    /// There is nothing to be pushed.
+    /// There is nothing to push.
     Nothing,
-    /// This pull request is to be sent to this address.
+    /// Send this pull request to this address.
     Request {
         address: Text,
         message: Message,
     },
-    /// This message goes back to where the event's message came from.
+    /// Send this message back to the sender of the event's message.
     Answer(Message),
-    /// The message that came is answered by none.
+    /// The received message gets no answer.
     Quiet,
     /// The message in the inbox.
     Entry {
         header: UserHeader,
         payloads: Seq<Payload>,
     },
-    /// No message of this number has come.
+    /// The inbox has no message of this number.
     NoEntry,
-    /// The message of this number was taken over.
+    /// The message of this number was confirmed.
     Gone,
-    /// The messages up to this one were taken over.
+    /// The messages up to and including this one are confirmed.
     Confirmed {
         upto: u64,
     },
-    /// The submission has no receipt yet; it was sent so many times.
+    /// The submission has no receipt yet; it was sent `tries` times.
     Pending {
         tries: u32,
     },
-    /// The receipt of the submission came.
+    /// The receipt for the submission was received.
     Receipted,
-    /// The submission was given up: no receipt came (`EBMS:0301`).
+    /// The submission expired: no receipt was received (`EBMS:0301`).
     Failed,
-    /// The other end refused the submission with this error.
+    /// The other endpoint refused the submission with this error.
     RefusedWith {
         code: Code,
     },
@@ -66,7 +68,7 @@ pub enum Reply {
         size: u64,
         need: u64,
     },
-    /// A disk fault stopped this end: its count of faults rose from `before` to `after`.
+    /// A disk fault stopped this endpoint: its count of faults rose from `before` to `after`.
     Stopped {
         before: u64,
         after: u64,

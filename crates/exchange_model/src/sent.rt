@@ -1,25 +1,27 @@
+//! Entries of the outbox.
+
 use as4_effects::{Mark, Submission};
 
-/// A submission, and what became of it.
+/// A submission and its state.
 #[derive(Drop)]
 pub struct Sent {
     pub submission: Submission,
-    /// How often it was handed out to be sent.
+    /// The number of times that it was sent.
     pub tries: u32,
-    /// When it was handed out last, in milliseconds since 1970-01-01T00:00:00Z; 0 where it never was.
+    /// When it was last sent, in milliseconds since 1970-01-01T00:00:00Z; 0 where it was never sent.
     pub last: u64,
     pub mark: Mark,
 }
 
-/// How a submission stands, as its producer is told.
+/// The state of a submission, as reported to its producer.
 #[derive(Clone, Copy, Debug, PartialEq, Eq)]
 pub enum Standing {
-    /// It was sent so many times, and its receipt hasn't come.
+    /// It was sent `tries` times, and has no receipt yet.
     Pending { tries: u32 },
-    /// Its receipt came.
+    /// Its receipt was received.
     Receipted,
-    /// It was given up.
+    /// It expired.
     Failed,
-    /// The other end refused it.
+    /// The other endpoint refused it.
     Refused,
 }

@@ -1,9 +1,11 @@
+//! The kinds of events.
+
 use as4_values::{Load, Message, MessageId, Seq, Text};
 
-/// What happens at an end.
+/// What happens at an endpoint.
 #[derive(Drop)]
 pub enum What {
-    /// A message is handed in to be sent, by the processing mode of this name.
+    /// The producer submits a message, by the processing mode of this name.
     Submit {
         mode: Text,
         conversation: Option<Text>,
@@ -11,9 +13,9 @@ pub enum What {
     },
     /// The clock is set to the event's stamp.
     Tick,
-    /// The next message that is pushed is asked for.
+    /// Asks for the next message to push.
     Take,
-    /// A pull request for the channel of the mode of this name is asked for.
+    /// Asks for a pull request for the channel of the mode of this name.
     Ask {
         mode: Text,
     },
@@ -22,17 +24,17 @@ pub enum What {
         mode: Text,
         n: u64,
     },
-    /// A message of the other end comes.
+    /// A message of the other endpoint is received.
     Came(Message),
     /// The consumer reads the message of this number in the inbox, from 0.
     Read {
         n: u64,
     },
-    /// The consumer has taken over the messages up to this one.
+    /// The consumer confirms the messages up to and including this one.
     Confirm {
         upto: u64,
     },
-    /// The producer asks what became of a submission.
+    /// The producer queries the state of a submission.
     Status {
         id: MessageId,
     },

@@ -1,10 +1,10 @@
--- What the entries of an inbox hold: those that were taken over no payloads, the others those that came.
+-- The payloads of an inbox: confirmed entries have none, the others have those that were received.
 use Rattle.std.proofs.Common.{◌≡◌, ℕ, zero, suc, ◌+◌, ◌≤◌, ◌<◌, inl, inr, List, [], ◌∷◌, ◌++◌, true, false, length, map, take, drop, refl, sym, subst, arith}
 use Rattle.std.proofs.lemmas.Bool.Decides.{nat_tests}
 use Rattle.std.proofs.lemmas.List.{map_push, length-append}
 use Rattle.as4_values.specs.declared.header.UserHeader.{UserHeader}
 use Rattle.as4_values.specs.declared.payload.Payload.{Payload}
-use Rattle.as4_effects.specs.Pairing.{pair}
+use Rattle.as4_values.specs.Pairing.{pair}
 use Rattle.as4_effects.specs.Sound.{delivered_body, fits_an_effect, kept_body}
 use Rattle.as4_effects.specs.Bodies.{header_body, list_body, payload_body}
 use Rattle.exchange_model.specs.Apply.{emptied}
@@ -15,15 +15,15 @@ use Rattle.exchange_model.proofs.ListLemmas.{Has}
 use Rattle.exchange_laws.proofs.InboxLemmas.{id_of, ids, Apart, apart_push, unknown_new}
 use Rattle.exchange_laws.proofs.InboxSteps.{inbox_emptied}
 
--- what was taken over
+-- a confirmed entry
 abbrev pub IsTaken : InboxEntry → Type 0
 IsTaken entry = (entry.payloads ≡ []) × (fits_an_effect (kept_body entry.header) ≡ true)
 
--- what waits for its consumer
+-- an entry that waits for its consumer
 abbrev pub IsUntaken : InboxEntry → Type 0
 IsUntaken entry = (pair entry.header.parts entry.payloads ≡ true) × (fits_an_effect (delivered_body entry.header entry.payloads) ≡ true)
 
--- the first so many were taken over
+-- the first `confirmed` entries are confirmed
 abbrev pub AreHeld : List InboxEntry → ℕ → Type 0
 AreHeld [] confirmed = Unit {0}
 AreHeld (entry ∷ inbox) zero = IsUntaken entry × AreHeld inbox zero
@@ -44,7 +44,7 @@ has_untaken (x ∷ inbox) zero entry held (inl e) = subst IsUntaken e held.0
 has_untaken (x ∷ inbox) zero entry held (inr h) = has_untaken inbox zero entry held.1 h
 has_untaken (x ∷ inbox) (suc confirmed) entry held h = has_untaken inbox confirmed entry held.1 h
 
--- one more comes
+-- one more is received
 pub held_untaken : (inbox : List InboxEntry) (confirmed : ℕ) (entry : InboxEntry) → confirmed ≤ length inbox → IsUntaken entry
     → AreHeld inbox confirmed → AreHeld (inbox ++ entry ∷ []) confirmed
 held_untaken [] zero entry within is held = (is, tt)
@@ -52,7 +52,7 @@ held_untaken [] (suc confirmed) entry within is held = absurd (omega (arith, wit
 held_untaken (x ∷ inbox) zero entry within is held = (held.0, held_untaken inbox zero entry (omega arith) is held.1)
 held_untaken (x ∷ inbox) (suc confirmed) entry within is held = (held.0, held_untaken inbox confirmed entry (omega (arith, within)) is held.1)
 
--- one more that was taken over, where all were
+-- one more confirmed entry, where all are confirmed
 pub held_taken : (inbox : List InboxEntry) (confirmed more : ℕ) (entry : InboxEntry) → confirmed ≡ length inbox → more ≡ confirmed + 1
     → IsTaken entry → AreHeld inbox confirmed → AreHeld (inbox ++ entry ∷ []) more
 held_taken [] confirmed zero entry all next is held = absurd (omega (arith, all, next))
@@ -90,7 +90,7 @@ stripped_length inbox zero = refl
 stripped_length [] (suc count) = refl
 stripped_length (x ∷ inbox) (suc count) = let rest = stripped_length inbox count in omega (arith, rest)
 
--- what came to an end: the count of what was taken over, no two of one identifier, and what they hold
+-- an inbox: the count of confirmed entries, distinct identifiers, and the entries' payloads
 pub record IsInbox (inbox : List InboxEntry) (confirmed : ℕ) : Type 0 where
   pub came : confirmed ≤ length inbox
   pub apart : Apart (ids inbox)

@@ -1,4 +1,4 @@
--- An end is folded in one way.
+-- An endpoint has at most one compaction.
 use Rattle.std.proofs.Common.{◌≡◌, ℕ, zero, suc, List, [], ◌∷◌, ◌++◌, refl, sym, ap, ◌∙◌, take, drop}
 use Rattle.as4_effects.specs.declared.carried.Carried.{Carried}
 use Rattle.as4_effects.specs.declared.delivery.Delivery.{Delivery}
@@ -12,7 +12,7 @@ use Rattle.exchange_model.specs.Fold.{ItemByItem, CarriesOver, KeepsHeader, Deli
 use Rattle.exchange_model.specs.declared.inbox_entry.InboxEntry.{InboxEntry}
 use Rattle.exchange_model.specs.declared.sent.Sent.{Sent}
 
--- what carries over, keeps or delivers is such an effect
+-- an effect that carries over, keeps or delivers is of that kind
 pub carries : (s : Sent) (e : Effect) → CarriesOver s e → (c : Carried) × (e ≡ effect.Carried c) × (as_carried c ≡ s)
 carries s (effect.Carried c) h = (c, refl, h)
 carries s other h = absurd h
@@ -26,7 +26,7 @@ pub delivers : (entry : InboxEntry) (e : Effect) → DeliversAgain entry e
 delivers entry (effect.Delivered d) h = (d, refl, h.0, h.1)
 delivers entry other h = absurd h
 
--- and there is one
+-- and there is at most one
 one_carried : (s : Sent) (a b : Effect) → CarriesOver s a → CarriesOver s b → a ≡ b
 one_carried s a b h k =
     let x = carries s a h in
@@ -55,7 +55,7 @@ one_clock zero a b h k = h ∙ sym k
 one_clock (suc moment) a b h k =
     h.2 ∙ ap (λ t. effect.Ticked t ∷ []) (tick_told h.0 k.0 (h.1 ∙ sym k.1)) ∙ sym k.2
 
--- where an item has one, the list has
+-- where each item has at most one, the list has at most one
 one_each : {X Y : Type 0} (is : X → Y → Type 0) → ((x : X) (a b : Y) → is x a → is x b → a ≡ b) → (xs : List X) (ys zs : List Y)
     → ItemByItem is xs ys → ItemByItem is xs zs → ys ≡ zs
 one_each is one [] [] [] h k = refl

@@ -6,7 +6,7 @@ use Rattle.exchange_model.specs.End.{End, empty_end}
 use Rattle.exchange_model.specs.Fold.{resized}
 use Rattle.fold_laws.specs.Reached.{Turn, Leads, IsReached}
 
--- one way behind another
+-- one sequence of turns after another
 leads_then : (turns more : List Turn) (start mid end : End) → Leads turns start mid → Leads more mid end → Leads (turns ++ more) start end
 leads_then [] more start mid end first second = subst (λ (e : End). Leads more e end) (sym first) second
 leads_then (Turn.Makes effects ∷ turns) more start mid end first second =

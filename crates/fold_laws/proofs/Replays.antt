@@ -1,5 +1,5 @@
--- What an end is folded to gives it back, part by part: each part is made behind what is there already, `done`, and the
--- records make the journal longer.
+-- Replaying a compaction gives the endpoint again, part by part: each part is added to `done`, the items that are there
+-- already, and the records make the journal longer.
 use Rattle.std.proofs.Common.{◌≡◌, ℕ, zero, suc, ◌+◌, ◌<◌, ◌⊎◌, inl, inr, List, [], ◌∷◌, ◌++◌, Bool, true, false, Option, Some, None, length, map, append_assoc, refl, sym, ap, ◌∙◌, subst, arith}
 use Rattle.std.specs.Prelude.{not, nat_lt, if◌then◌else◌}
 use Rattle.std.specs.List.{sum_by}
@@ -27,18 +27,18 @@ use Rattle.exchange_laws.proofs.ListLemmas.{had_right, has_either}
 use Rattle.fold_laws.specs.Reached.{AreReplayed}
 use Rattle.fold_laws.proofs.OneFold.{carries, delivers, keeps}
 
--- one way behind another
+-- one sequence after another
 pub replayed_then : (effects more : List Effect) (start mid end : End) → AreReplayed effects start mid → AreReplayed more mid end
     → AreReplayed (effects ++ more) start end
 replayed_then [] more start mid end first second = subst (λ (e : End). AreReplayed more e end) (sym first) second
 replayed_then (e ∷ effects) more start mid end first second =
     (first.0, replayed_then effects more (applied (e ∷ []) start) mid end first.1 second)
 
--- how many bytes the records of effects take, each in its own
+-- the number of bytes of the effects' records, each effect in its own
 abbrev pub bytes_of : List Effect → ℕ
 bytes_of effects = sum_by (λ (e : Effect). record_len (e ∷ [])) effects
 
--- those of the first, and of those behind it
+-- those of the first effect and of the later ones
 bytes_first : (e x : Effect) (effects : List Effect) (size : ℕ) → e ≡ x
     → size + record_len (x ∷ []) + bytes_of effects ≡ size + bytes_of (e ∷ effects)
 bytes_first e x effects size same =
@@ -46,13 +46,13 @@ bytes_first e x effects size same =
     let bytes : record_len (e ∷ []) ≡ record_len (x ∷ []) = ap (λ (y : Effect). record_len (y ∷ [])) same in
     omega (arith, sum, bytes)
 
--- an effect, and those behind it
+-- an effect and the later ones
 replayed_first : (e x : Effect) (effects : List Effect) (start end other : End) → e ≡ x → is_fit x start ≡ true
     → AreReplayed effects (applied (x ∷ []) start) end → end ≡ other → AreReplayed (e ∷ effects) start other
 replayed_first e x effects start end other same fits behind is =
     subst (λ (y : Effect). AreReplayed (y ∷ effects) start other) (sym same) (fits, subst (AreReplayed effects (applied (x ∷ []) start)) is behind)
 
--- an end by its parts
+-- an endpoint, from its parts
 abbrev pub end_of : List Sent → List InboxEntry → ℕ → ℕ → ℕ → End
 end_of sent inbox confirmed moment size =
     record { sent = sent; inbox = inbox; confirmed = confirmed; moment = moment; size = size }
@@ -61,7 +61,7 @@ end_of sent inbox confirmed moment size =
 abbrev pub AreBelow : ℕ → List Sent → Type 0
 AreBelow n sent = (s : Sent) → Has sent s → s.submission.number < n
 
--- among those before its number none has its identifier
+-- no submission before its number has its identifier
 none_known : (sent : List Sent) (s : Submission) → AreBelow s.number sent → not (is_one (λ t. true) (sent_of s.header.id sent)) ≡ true
 none_known sent s below = by_found (sent_of s.header.id sent) refl
   where
@@ -86,7 +86,7 @@ below_push sent s number below t h = either (has_either sent (s ∷ []) t h)
     either (inr (inl e)) = let same : s.submission.number ≡ t.submission.number = ap (λ (u : Sent). u.submission.number) e in omega (arith, longer, number, same)
     either (inr (inr none)) = absurd none
 
--- the first submission behind those that are there
+-- the next submission after those that are there
 fits_carried : (c : Carried) (done : List Sent) (size : ℕ) → c.submission.number ≡ length done → AreBelow (length done) done
     → are_tries (as_carried c) ≡ true → is_fit (effect.Carried c) (end_of done [] 0 0 size) ≡ true
 unfolding is_fit
@@ -94,7 +94,7 @@ fits_carried c done size number below tries =
     and_from _ _ refl (and_from _ _ (and_from _ _ (eq-eqb c.submission.number (length done) number)
     (none_known done c.submission (subst (λ n. AreBelow n done) (sym number) below))) tries)
 
--- the submissions as they stand
+-- the submissions with their states
 pub replay_carried : (rest : List Sent) (effects : List Effect) (done : List Sent) (size : ℕ) → ItemByItem CarriesOver rest effects
     → AreNumberedFrom (length done) rest → AreBelow (length done) done → ((s : Sent) → Has rest s → are_tries s ≡ true)
     → AreReplayed effects (end_of done [] 0 0 size) (end_of (done ++ rest) [] 0 0 (size + bytes_of effects))
@@ -119,7 +119,7 @@ replay_carried (s ∷ rest) (e ∷ effects) done size is numbered below tries =
     (subst (λ n. AreNumberedFrom n rest) longer numbered.1) (below_push done x number below) (λ t k. tries t (inr k)))
     (λ i. end_of (there i) [] 0 0 (bytes i))
 
--- the first entry behind those that are there has another identifier
+-- the next entry has an identifier that none of the earlier ones has
 apart_new : (xs ys : List (List ℕ)) (x : List ℕ) → Apart (xs ++ x ∷ ys) → Has xs x → ⊥
 apart_new [] ys x apart h = h
 apart_new (z ∷ xs) ys x apart (inl e) = apart.0 (subst (Has (xs ++ x ∷ ys)) (sym e) (had_right xs (x ∷ ys) x (inl refl)))
@@ -134,7 +134,7 @@ is_new done rest entry apart = by_test (is_known entry.header.id done) refl
     by_test true e =
         absurd (apart_new (ids done) (ids rest) entry.header.id (subst Apart (map-append id_of done (entry ∷ rest)) apart) (known_has entry.header.id done e))
 
--- the headers of what was taken over
+-- the headers of confirmed entries
 pub replay_kept : (rest : List InboxEntry) (effects : List Effect) (sent : List Sent) (done : List InboxEntry) (confirmed size : ℕ)
     → ItemByItem KeepsHeader rest effects → confirmed ≡ length done → Apart (ids (done ++ rest))
     → ((entry : InboxEntry) → Has rest entry → entry.payloads ≡ [])
@@ -163,7 +163,7 @@ replay_kept (entry ∷ rest) (e ∷ effects) sent done confirmed size is whole a
     (subst (λ t. Apart (ids t)) (sym there) apart) (λ t k. empty t (inr k)))
     (λ i. end_of sent (there i) (count i) 0 (bytes i))
 
--- what waits to be taken over
+-- the entries that wait for their consumer
 pub replay_delivered : (rest : List InboxEntry) (effects : List Effect) (sent : List Sent) (done : List InboxEntry) (confirmed size : ℕ)
     → ItemByItem DeliversAgain rest effects → Apart (ids (done ++ rest))
     → AreReplayed effects (end_of sent done confirmed 0 size) (end_of sent (done ++ rest) confirmed 0 (size + bytes_of effects))
@@ -188,7 +188,7 @@ replay_delivered (entry ∷ rest) (e ∷ effects) sent done confirmed size is ap
     (subst (λ t. Apart (ids t)) (sym there) apart))
     (λ i. end_of sent (there i) confirmed 0 (bytes i))
 
--- where none is spent, the clock makes none fail
+-- where none is spent, the clock lets none expire
 none_fails : (moment : ℕ) (sent : List Sent) → ((s : Sent) → Has sent s → is_spent moment s ≡ false) → map (failed_if_spent moment) sent ≡ sent
 none_fails moment [] none = refl
 none_fails moment (s ∷ sent) none =

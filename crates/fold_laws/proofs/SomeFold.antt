@@ -1,4 +1,4 @@
--- What is reached can be written, and what can be written has a fold.
+-- A reached endpoint can be written, and an endpoint that can be written has a compaction.
 use Rattle.std.proofs.Common.{◌≡◌, ℕ, zero, suc, ◌^◌, ◌<◌, ◌≤◌, inl, inr, List, [], ◌∷◌, ◌++◌, true, take, drop, refl, arith}
 use Rattle.std.proofs.lemmas.Bool.Decides.{nat_tests}
 use Rattle.as4_effects.specs.declared.effect.Effect.{Effect}

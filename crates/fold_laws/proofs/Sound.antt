@@ -1,4 +1,4 @@
--- What holds of an end wherever fit effects have led: `IsSound` holds at the start, and each effect that is fit keeps it.
+-- An invariant of reached endpoints: `IsSound` holds at the start, and each effect that fits keeps it.
 use Rattle.std.proofs.Common.{◌≡◌, ℕ, ◌≤◌, List, [], ◌∷◌, Bool, true, false, Option, Some, None, length, refl, sym, subst, arith}
 use Rattle.std.specs.Prelude.{◌==◌, ◌&&◌, nat_le, nat_lt, not, suc, if◌then◌else◌, option_map}
 use Rattle.std.proofs.lemmas.Bool.{eqb-true, leb-true, ltb-true, not-true}
@@ -33,7 +33,7 @@ next_number s end next =
     eqb-true s.number (length end.sent)
     (and_left (s.number == length end.sent) (not (is_one (λ t. true) (sent_of s.header.id end.sent))) next)
 
--- each effect that is fit keeps it
+-- each effect that fits keeps it
 sound_after : (e : Effect) (end : End) → is_fit e end ≡ true → IsSound end → IsSound (after e end)
 unfolding after is_fit
 sound_after (effect.Submitted s) end fits sound = record {
@@ -85,7 +85,7 @@ sound_after (effect.Kept k) end fits sound =
       dated = sound.dated;
     }
 
--- where none is unfit, the first is fit, and so are those behind it
+-- where none is unfit, the first fits, and so do the later ones
 first_fits : (b : Bool) (o : Option ℕ) → (if b then option_map suc o else Some 0) ≡ None → (b ≡ true) × (o ≡ None)
 first_fits true None e = (refl, refl)
 first_fits true (Some n) e = absurd cc

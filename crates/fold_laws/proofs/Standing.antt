@@ -1,4 +1,4 @@
--- How the submissions of an end that fit effects lead to stand.
+-- The states of the submissions of a reached endpoint.
 use Rattle.std.proofs.Common.{◌≡◌, ℕ, ◌+◌, ◌≤◌, ◌⊎◌, inl, inr, List, [], ◌∷◌, ◌++◌, Bool, true, false, Option, Some, None, length, map, refl, sym, ◌∙◌, subst, arith}
 use Rattle.std.specs.Prelude.{◌==◌, ◌&&◌, nat_le, if◌then◌else◌}
 use Rattle.std.proofs.lemmas.Bool.{eqb-true}
@@ -17,7 +17,7 @@ use Rattle.exchange_model.proofs.NumberedLemmas.{numbered_push}
 use Rattle.exchange_laws.proofs.ListLemmas.{has_either, has_mapped}
 use Rattle.exchange_laws.proofs.SentLemmas.{and_left, and_right, numbered_map, one_of_number}
 
--- at this moment, what a submission was tried and what became of it agree
+-- at this moment, the tries of a submission and its state agree
 pub record IsStanding (moment : ℕ) (s : Sent) : Type 0 where
   pub tries : are_tries s ≡ true
   pub last : s.last ≤ 253402300799999
@@ -30,7 +30,7 @@ unsent_stands moment s = record {
   unspent = grind (arith, nat_tests);
 }
 
--- at first nothing that was sent is overdue, since a period is at least 1
+-- at first, no submission that was sent is overdue, because a period is at least 1
 pub carried_stands : (c : Carried) → are_tries (as_carried c) ≡ true → IsStanding 0 (as_carried c)
 carried_stands c tries = record {
   tries = tries;
@@ -83,7 +83,7 @@ ticked_stands old moment s stands = by_test (is_spent moment s) refl
     }
     by_test false e = record { tries = stands.tries; last = stands.last; unspent = e }
 
--- the submissions of an end stand at their numbers, and so
+-- the submissions of an endpoint are at the places of their numbers, and each agrees with its tries
 pub record AreStanding (moment : ℕ) (sent : List Sent) : Type 0 where
   pub numbered : AreNumberedFrom 0 sent
   pub each : (s : Sent) → Has sent s → IsStanding moment s
@@ -144,7 +144,7 @@ is_one_some : (test : Sent → Bool) (o : Option Sent) → is_one test o ≡ tru
 is_one_some test None e = absurd cc
 is_one_some test (Some s) e = (s, refl, e)
 
--- the one of this number waits
+-- the submission of this number waits
 pub standing_tried : (moment number : ℕ) (sent : List Sent) → moment ≤ 253402300799999 → is_one is_waiting (sent_at number sent) ≡ true
     → AreStanding moment sent → AreStanding moment (changed number (tried moment) sent)
 standing_tried moment number sent dated fits all =

@@ -1,2 +1,3 @@
+-- The specs of fold_laws.
 pub mod Reached
 pub mod Written

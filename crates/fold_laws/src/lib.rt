@@ -1,4 +1,4 @@
-//! An end that is written again, short, is the same end: laws about the effects that it is folded to.
+//! Compaction keeps the endpoint's state: laws about the effects of a compaction.
 #![tactic(auto)]
 
 mod laws;

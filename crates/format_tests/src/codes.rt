@@ -1,3 +1,4 @@
+//! The table of error codes, and error signals.
 use as4_codes::{Row, TABLE, error_signal, find};
 use as4_values::{ErrorItem, MessageId, NoMemory, Severity, Signal, SignalBody, Text};
 use std::alloc::Global;
@@ -27,7 +28,7 @@ const ROWS: [(u16, &str, Severity, &str); 10] = [
     (302, "InvalidReceipt", Severity::Failure, "Communication"),
 ];
 
-/// Whether the row that is found by the code says all of this.
+/// Whether the row of the code has these values.
 fn is_found(code: u16, short: &str, severity: Severity, category: &str) -> bool {
     match find(&TABLE, code) {
         Some(row) => {
@@ -64,7 +65,7 @@ const FIRST: Row = Row {
     category: "Content",
 };
 
-/// Two rows of one code.
+/// Two rows with the same code.
 const TWINS: [Row; 2] = [
     FIRST,
     Row {
@@ -73,7 +74,7 @@ const TWINS: [Row; 2] = [
     },
 ];
 
-/// The short description that is found by the code.
+/// The short description of the row of the code.
 fn short_of(table: &[Row], code: u16) -> Option<&'static str> {
     find(table, code).map(|row| row.short)
 }
@@ -97,7 +98,7 @@ fn is_about(id: &Option<MessageId>, wanted: Option<&[u8]>) -> bool {
     }
 }
 
-/// Whether the item is that of a package whose parts don't fit.
+/// Whether the item reports a package whose parts don't fit.
 fn is_mime_inconsistency(item: &ErrorItem, about: Option<&[u8]>) -> bool {
     item.code.bytes() == b"EBMS:0007".as_slice()
         && item.severity == Severity::Failure
@@ -109,7 +110,7 @@ fn is_mime_inconsistency(item: &ErrorItem, about: Option<&[u8]>) -> bool {
         && item.detail.is_none()
 }
 
-/// Whether the signal tells that error alone, with the stamp of the moment 0 and the identifier of the nonce 1.
+/// Whether the signal has only that error, the stamp of the moment 0, and the identifier of the nonce 1.
 fn is_signal(signal: &Signal, about: Option<&[u8]>) -> bool {
     signal.stamp.bytes() == b"1970-01-01T00:00:00.000Z".as_slice()
         && signal.id.bytes() == b"s.00000000-0000-0000-0000-000000000001@as4".as_slice()
@@ -129,7 +130,7 @@ fn signal_about(alloc: Global, id: Option<&MessageId>) -> Result<Signal, NoMemor
     error_signal(alloc, 7, id, 0, 1)
 }
 
-/// Whether that signal says of the message what it should.
+/// Whether that signal names the message that it should.
 fn tells_of(alloc: Global, id: Option<&MessageId>, about: Option<&[u8]>) -> Option<bool> {
     let signal = signal_about(alloc, id).ok()?;
     let tells = is_signal(&signal, about);
@@ -137,7 +138,7 @@ fn tells_of(alloc: Global, id: Option<&MessageId>, about: Option<&[u8]>) -> Opti
     Some(tells)
 }
 
-/// The same of a message with this identifier.
+/// The same for a message with this identifier.
 fn tells_of_id(alloc: Global, about: &[u8]) -> Option<bool> {
     let id = MessageId::read(alloc, about).ok()?;
     let tells = tells_of(alloc, Some(&id), Some(about));

@@ -1,3 +1,4 @@
+//! The canonical texts of envelopes.
 ghost use Rattle.std.specs.Prelude.{◌≡◌, ◌<◌, ◌≤◌, IfSome, IsTrue, length, vec_len};
 ghost use Rattle.as4_values.specs.SignalParts.{is_receipt, is_pull};
 
@@ -14,14 +15,14 @@ const START: &[u8] =
 
 const END: &[u8] = b"</eb:Messaging></S:Header><S:Body></S:Body></S:Envelope>";
 
-/// What is escaped, and characters of each length in UTF-8.
+/// Characters that are escaped, and characters of each length in UTF-8.
 const CONVERSATION: &str = "c&1 <é> \"ü\"\t\n\r中😀.";
 
-/// Each optional part is there.
+/// All optional parts are there.
 const FULL: &str =
     "<eb:UserMessage mpc=\"urn:mpc\"><eb:MessageInfo><eb:Timestamp>2025-01-02T03:04:05.006Z</eb:Timestamp><eb:MessageId>m1@a</eb:MessageId><eb:RefToMessageId>m0@a</eb:RefToMessageId></eb:MessageInfo><eb:PartyInfo><eb:From><eb:PartyId type=\"urn:kind\">acme</eb:PartyId><eb:PartyId>acme</eb:PartyId><eb:Role>seller</eb:Role></eb:From><eb:To><eb:PartyId type=\"urn:kind\">bolt</eb:PartyId><eb:PartyId>bolt</eb:PartyId><eb:Role>buyer</eb:Role></eb:To></eb:PartyInfo><eb:CollaborationInfo><eb:AgreementRef type=\"urn:kind\" pmode=\"urn:mode\">agreed</eb:AgreementRef><eb:Service type=\"urn:kind\">orders</eb:Service><eb:Action>invoice</eb:Action><eb:ConversationId>c&amp;1 &lt;é&gt; &quot;ü&quot;&#9;&#10;&#13;中😀.</eb:ConversationId></eb:CollaborationInfo><eb:MessageProperties><eb:Property name=\"one\" type=\"urn:kind\">value</eb:Property><eb:Property name=\"two\"></eb:Property></eb:MessageProperties><eb:PayloadInfo><eb:PartInfo href=\"cid:p1@a\"><eb:PartProperties><eb:Property name=\"one\" type=\"urn:kind\">value</eb:Property><eb:Property name=\"two\"></eb:Property></eb:PartProperties></eb:PartInfo><eb:PartInfo></eb:PartInfo></eb:PayloadInfo></eb:UserMessage>";
 
-/// None is there.
+/// No optional part is there.
 const BARE: &[u8] =
     b"<eb:UserMessage><eb:MessageInfo><eb:Timestamp>2025-01-02T03:04:05.006Z</eb:Timestamp><eb:MessageId>m1@a</eb:MessageId></eb:MessageInfo><eb:PartyInfo><eb:From><eb:PartyId>acme</eb:PartyId><eb:Role>seller</eb:Role></eb:From><eb:To><eb:PartyId>bolt</eb:PartyId><eb:Role>buyer</eb:Role></eb:To></eb:PartyInfo><eb:CollaborationInfo><eb:Service>orders</eb:Service><eb:Action>invoice</eb:Action><eb:ConversationId></eb:ConversationId></eb:CollaborationInfo></eb:UserMessage>";
 
@@ -30,7 +31,7 @@ const SIGNAL_START: &[u8] =
 
 const REFERENCE: &[u8] = b"<eb:RefToMessageId>m0@a</eb:RefToMessageId>";
 
-/// Whether the text is the pieces one after another.
+/// Whether the text consists of the pieces, one after another.
 fn is_joined(text: &[u8], pieces: &[&[u8]]) -> bool {
     let mut rest = text;
     for piece in pieces {
@@ -53,7 +54,7 @@ fn is_envelope(text: &[u8], pieces: &[&[u8]]) -> bool {
     }
 }
 
-/// Whether the unit's envelope is the pieces one after another, between an envelope's start and end.
+/// Whether the unit's envelope consists of the pieces, one after another, between an envelope's start and end.
 fn is_text_of(alloc: Global, unit: Option<Unit>, pieces: &[&[u8]]) -> Option<bool> {
     let unit = unit?;
     let text = write_envelope(alloc, &unit);
@@ -93,7 +94,7 @@ fn party(alloc: Global, full: bool, id: &[u8]) -> Option<Party> {
     Some(Party { id, kind })
 }
 
-/// Two parties where it is full, else one.
+/// Two parties if it is full, else one.
 fn parties(alloc: Global, full: bool, id: &[u8]) -> Option<Vec<Party>>
     ensures { IfSome result (λ parties. (0 < vec_len parties) × (vec_len parties ≤ 2)) }
 {
@@ -219,7 +220,7 @@ fn header(alloc: Global, full: bool) -> Option<UserHeader> {
     })
 }
 
-/// Whether the header, full or bare, is written so.
+/// Whether the header, full or bare, has this text.
 fn is_header(alloc: Global, full: bool, wanted: &[u8]) -> Option<bool> {
     is_text_of(alloc, header(alloc, full).map(Unit::User), &[wanted])
 }
@@ -313,7 +314,7 @@ fn a_pair_is_a_receipt_and_then_a_pull_request(rt: HostRuntime) {
     );
 }
 
-/// What an error says by attributes, or nothing of it.
+/// The optional attributes of an error, all or none.
 fn attributes(alloc: Global, full: bool) -> Option<(Option<Text>, Option<Text>, Option<Text>)> {
     let origin = optional(alloc, full, b"ebMS");
     let category = optional(alloc, full, b"Content");
@@ -322,7 +323,7 @@ fn attributes(alloc: Global, full: bool) -> Option<(Option<Text>, Option<Text>, 
     Some((origin, category, short))
 }
 
-/// What it says by elements, or nothing of it.
+/// The optional elements of an error, all or none.
 fn elements(alloc: Global, full: bool) -> Option<(Option<Text>, Option<Text>)> {
     let description = optional(alloc, full, b"described");
     description.zip(optional(alloc, full, b"detailed"))

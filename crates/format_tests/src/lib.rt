@@ -1,4 +1,4 @@
-//! Tests of `as4_codes`, `as4_envelope`, `header_writer`, `as4_message`, `event_code`, by what they make public.
+//! Tests of the public interfaces of `as4_codes`, `as4_envelope`, `header_writer`, `as4_message` and `event_code`.
 #![tactic(auto)]
 
 #[cfg(test)]

@@ -1,4 +1,4 @@
-//! What no clause says: that memory suffices, and the bytes of one message, which were written by hand.
+//! What the contracts don't cover: that memory suffices, and the bytes of one message, which were written by hand.
 
 use as4_codes::{receipt, receipt_with_pull};
 use as4_message::{MessageRefusal, Wire, read_message, write_message, write_message_file};
@@ -9,21 +9,21 @@ use std::test::Fail;
 const MEDIA: &[u8] =
     b"multipart/related; type=\"application/soap+xml\"; boundary=\"as4-0000000000000000\"; start=\"<root-0000000000000000@as4>\"";
 
-/// One message of the content `hello`.
+/// A message with the content `hello`.
 const BODY: &str =
     "--as4-0000000000000000\r\nContent-ID: <root-0000000000000000@as4>\r\nContent-Type: application/soap+xml; charset=UTF-8\r\nContent-Transfer-Encoding: binary\r\n\r\n<S:Envelope xmlns:S=\"http://www.w3.org/2003/05/soap-envelope\" xmlns:eb=\"http://docs.oasis-open.org/ebxml-msg/ebms/v3.0/ns/core/200704/\"><S:Header><eb:Messaging S:mustUnderstand=\"true\"><eb:UserMessage><eb:MessageInfo><eb:Timestamp>2025-01-02T03:04:05.006Z</eb:Timestamp><eb:MessageId>m1@a</eb:MessageId></eb:MessageInfo><eb:PartyInfo><eb:From><eb:PartyId>acme</eb:PartyId><eb:Role>seller</eb:Role></eb:From><eb:To><eb:PartyId>bolt</eb:PartyId><eb:Role>buyer</eb:Role></eb:To></eb:PartyInfo><eb:CollaborationInfo><eb:Service>orders</eb:Service><eb:Action>invoice</eb:Action><eb:ConversationId>c1</eb:ConversationId></eb:CollaborationInfo><eb:PayloadInfo><eb:PartInfo href=\"cid:p1@a\"></eb:PartInfo></eb:PayloadInfo></eb:UserMessage></eb:Messaging></S:Header><S:Body></S:Body></S:Envelope>\r\n--as4-0000000000000000\r\nContent-ID: <p1@a>\r\nContent-Type: text/plain\r\nContent-Transfer-Encoding: binary\r\n\r\nhello\r\n--as4-0000000000000000--\r\n";
 
-/// The body with `new` in the place of the first `old`.
+/// The body with the first `old` replaced by `new`.
 fn changed(alloc: Global, old: &str, new: &str) -> Option<String> {
     let (front, back) = BODY.split_once(old)?;
     format!(in alloc; "{front}{new}{back}").ok()
 }
 
-/// The receipt of that message, of the first moment and the nonce 1.
+/// The receipt of that message, with the first moment and the nonce 1.
 const RECEIPT: &str =
     "Content-Type: application/soap+xml; charset=UTF-8\r\n\r\n<S:Envelope xmlns:S=\"http://www.w3.org/2003/05/soap-envelope\" xmlns:eb=\"http://docs.oasis-open.org/ebxml-msg/ebms/v3.0/ns/core/200704/\"><S:Header><eb:Messaging S:mustUnderstand=\"true\"><eb:SignalMessage><eb:MessageInfo><eb:Timestamp>1970-01-01T00:00:00.000Z</eb:Timestamp><eb:MessageId>s.00000000-0000-0000-0000-000000000001@as4</eb:MessageId><eb:RefToMessageId>m1@a</eb:RefToMessageId></eb:MessageInfo><eb:Receipt><eb:UserMessage><eb:MessageInfo><eb:Timestamp>2025-01-02T03:04:05.006Z</eb:Timestamp><eb:MessageId>m1@a</eb:MessageId></eb:MessageInfo><eb:PartyInfo><eb:From><eb:PartyId>acme</eb:PartyId><eb:Role>seller</eb:Role></eb:From><eb:To><eb:PartyId>bolt</eb:PartyId><eb:Role>buyer</eb:Role></eb:To></eb:PartyInfo><eb:CollaborationInfo><eb:Service>orders</eb:Service><eb:Action>invoice</eb:Action><eb:ConversationId>c1</eb:ConversationId></eb:CollaborationInfo><eb:PayloadInfo><eb:PartInfo href=\"cid:p1@a\"></eb:PartInfo></eb:PayloadInfo></eb:UserMessage></eb:Receipt></eb:SignalMessage></eb:Messaging></S:Header><S:Body></S:Body></S:Envelope>";
 
-/// The same receipt, and behind it the pull request of the nonce 0.
+/// The same receipt, followed by the pull request of the nonce 0.
 const PAIR: &str =
     "Content-Type: application/soap+xml; charset=UTF-8\r\n\r\n<S:Envelope xmlns:S=\"http://www.w3.org/2003/05/soap-envelope\" xmlns:eb=\"http://docs.oasis-open.org/ebxml-msg/ebms/v3.0/ns/core/200704/\"><S:Header><eb:Messaging S:mustUnderstand=\"true\"><eb:SignalMessage><eb:MessageInfo><eb:Timestamp>1970-01-01T00:00:00.000Z</eb:Timestamp><eb:MessageId>s.00000000-0000-0000-0000-000000000001@as4</eb:MessageId><eb:RefToMessageId>m1@a</eb:RefToMessageId></eb:MessageInfo><eb:Receipt><eb:UserMessage><eb:MessageInfo><eb:Timestamp>2025-01-02T03:04:05.006Z</eb:Timestamp><eb:MessageId>m1@a</eb:MessageId></eb:MessageInfo><eb:PartyInfo><eb:From><eb:PartyId>acme</eb:PartyId><eb:Role>seller</eb:Role></eb:From><eb:To><eb:PartyId>bolt</eb:PartyId><eb:Role>buyer</eb:Role></eb:To></eb:PartyInfo><eb:CollaborationInfo><eb:Service>orders</eb:Service><eb:Action>invoice</eb:Action><eb:ConversationId>c1</eb:ConversationId></eb:CollaborationInfo><eb:PayloadInfo><eb:PartInfo href=\"cid:p1@a\"></eb:PartInfo></eb:PayloadInfo></eb:UserMessage></eb:Receipt></eb:SignalMessage><eb:SignalMessage><eb:MessageInfo><eb:Timestamp>1970-01-01T00:00:00.000Z</eb:Timestamp><eb:MessageId>s.00000000-0000-0000-0000-000000000000@as4</eb:MessageId></eb:MessageInfo><eb:PullRequest mpc=\"urn:mpc\"></eb:PullRequest></eb:SignalMessage></eb:Messaging></S:Header><S:Body></S:Body></S:Envelope>";
 
@@ -38,7 +38,7 @@ fn message(alloc: Global, body: &str) -> Option<Message> {
     }
 }
 
-/// What is written for the message that is read.
+/// The package that is written for the message.
 fn rewritten(alloc: Global) -> Option<Wire> {
     let message = message(alloc, BODY)?;
     let wire = write_message(alloc, &message);
@@ -46,7 +46,7 @@ fn rewritten(alloc: Global) -> Option<Wire> {
     wire.ok()
 }
 
-/// Whether its media text and its body are those that were read.
+/// Whether its media text and its body are the original ones.
 fn are_rewritten(alloc: Global) -> Option<(bool, bool)> {
     let wire = rewritten(alloc)?;
     let same = (
@@ -63,14 +63,14 @@ fn a_message_is_read_and_written_again(rt: HostRuntime) -> Result<(), Fail> {
     Ok(())
 }
 
-/// What stands in the message file behind the field, its media text and the empty line.
+/// The bytes of the message file after the field, its media text and the empty line.
 fn body_of(file: &[u8]) -> Option<&[u8]> {
     file.strip_prefix(b"Content-Type: ")?
         .strip_prefix(MEDIA)?
         .strip_prefix(b"\r\n\r\n")
 }
 
-/// Whether the message file of the message that is read has its media text and body.
+/// Whether the message file of the message has its media text and body.
 fn is_filed(alloc: Global) -> Option<bool> {
     let message = message(alloc, BODY)?;
     let file = write_message_file(alloc, &message);
@@ -116,7 +116,7 @@ fn is_file_of(alloc: Global, message: Option<Message>, wanted: &[u8]) -> Option<
     Some(is_file)
 }
 
-/// The receipt of the message that is read, of the first moment and the nonce 1.
+/// The receipt of the message, with the first moment and the nonce 1.
 fn receipt_message(alloc: Global) -> Option<Message> {
     let header = header(alloc, BODY)?;
     let signal = receipt(alloc, &header, 0, 1);
@@ -148,7 +148,7 @@ fn a_pair_is_written_as_its_file(rt: HostRuntime) {
     assert_eq!(rt; is_file_of(rt.alloc(), pair, PAIR.as_bytes()), Some(true));
 }
 
-/// Whether a copy is made and equals its source.
+/// Whether a copy succeeds and equals its source.
 fn copies(alloc: Global, message: &Message) -> Result<bool, NoMemory> {
     let copy = message.try_clone(alloc)?;
     let is_same = copy.same(message);
@@ -156,7 +156,7 @@ fn copies(alloc: Global, message: &Message) -> Result<bool, NoMemory> {
     Ok(is_same)
 }
 
-/// Whether the copy of the message that is read is the same.
+/// Whether a copy of the message is equal to it.
 fn copy_is_same(alloc: Global) -> Option<bool> {
     let message = message(alloc, BODY)?;
     let is_same = copies(alloc, &message);
@@ -164,7 +164,7 @@ fn copy_is_same(alloc: Global) -> Option<bool> {
     is_same.ok()
 }
 
-/// Whether the message that is read is the same as the one of another body.
+/// Whether the message is equal to that of another body.
 fn is_same(alloc: Global, one: &Message, body: &str) -> Option<bool> {
     let other = message(alloc, body)?;
     let is_same = one.same(&other);
@@ -172,7 +172,7 @@ fn is_same(alloc: Global, one: &Message, body: &str) -> Option<bool> {
     Some(is_same)
 }
 
-/// The same of the body with this change.
+/// The same for the body with this change.
 fn is_same_with(alloc: Global, old: &str, new: &str) -> Option<bool> {
     let body = changed(alloc, old, new)?;
     let message = message(alloc, BODY)?;
@@ -181,7 +181,7 @@ fn is_same_with(alloc: Global, old: &str, new: &str) -> Option<bool> {
     is_same
 }
 
-/// Changes of the body that make another message of it.
+/// Changes of the body that result in another message.
 const CHANGES: [(&str, &str); 3] = [("buyer", "seller"), ("c1", "c2"), ("hello", "hallo")];
 
 /// The first change that isn't read as another message.
@@ -201,7 +201,7 @@ fn a_copy_of_a_message_is_the_same_and_another_message_is_not(rt: HostRuntime) -
     Ok(())
 }
 
-/// Whether the identifier that is spelled so is read as this text.
+/// Whether the identifier in this spelling is read as this text.
 fn is_read_as(alloc: Global, spelled: &str, text: &[u8]) -> Option<bool> {
     let body = changed(alloc, "m1@a", spelled)?;
     let header = header(alloc, body.as_str())?;
@@ -210,14 +210,14 @@ fn is_read_as(alloc: Global, spelled: &str, text: &[u8]) -> Option<bool> {
     Some(is_read)
 }
 
-/// How an identifier is spelled, and what it is then.
+/// Spellings of an identifier, and its text.
 const SPELLINGS: [(&str, &[u8]); 3] = [
     ("m&amp;1@a", b"m&1@a"),
     ("&quot;m&quot;@a", b"\"m\"@a"),
     ("&amp;amp;", b"&amp;"),
 ];
 
-/// The first spelling that isn't read so.
+/// The first spelling that is read otherwise.
 fn first_misread(alloc: Global, spellings: &[(&str, &[u8])]) -> Option<usize> {
     for (at, (spelled, text)) in spellings.iter().enumerate() {
         if is_read_as(alloc, spelled, text) != Some(true) {
@@ -241,7 +241,7 @@ fn code_of(refusal: &MessageRefusal) -> Option<u16> {
     }
 }
 
-/// That code, and nothing where the message is read.
+/// That code; `None` if the message is read.
 fn refusal(alloc: Global, media: &[u8], body: &str) -> Option<u16> {
     match read_message(alloc, media, body.as_bytes()) {
         Ok(message) => {

@@ -1,14 +1,15 @@
+//! The bytes of effects, and how they are read.
 ghost use Rattle.std.specs.Prelude.{◌≡◌, ◌≤◌, IfSome, IsTrue, length};
-ghost use Rattle.as4_effects.specs.Pairing.{pair};
+ghost use Rattle.as4_values.specs.Pairing.{pair};
 ghost use Rattle.as4_effects.specs.Sound.{is_id_of, is_route, fits_an_effect, submitted_body, delivered_body};
 
 use as4_effects::{
     Carried, Delivery, Effect, Kept, Mark, Submission, Tick, delivery_fits, header_fits, is_id_of,
-    is_route, pairs, submission_fits,
+    is_route, submission_fits,
 };
 use as4_values::{
     Agreement, Code, MessageId, Octets, PartInfo, Party, Payload, PlainData, Property, Route, Seq,
-    Service, Side, Text, UserHeader, read_stamp,
+    Service, Side, Text, UserHeader, pairs, read_stamp,
 };
 use event_code::{BodyRefusal, body_len, confirm_body, push_body, read_body, tick_body};
 use std::alloc::Global;
@@ -70,7 +71,7 @@ fn agreement(rt: &(impl Abort + AllocGlobal), full: bool) -> Option<Agreement> {
     })
 }
 
-/// One property where it is full, and one without its value.
+/// One property if it is full, and one without its value.
 fn properties(rt: &(impl Abort + AllocGlobal), full: bool) -> Seq<Property>
     ensures { length result ≤ 1 }
 {
@@ -82,7 +83,7 @@ fn properties(rt: &(impl Abort + AllocGlobal), full: bool) -> Seq<Property>
     Seq::of(vec![in rt.alloc(); property].expect(rt, "memory"))
 }
 
-/// One part info where it is full.
+/// One part info if it is full.
 fn parts(rt: &(impl Abort + AllocGlobal), full: bool) -> Seq<PartInfo>
     ensures { length result ≤ 1 }
 {
@@ -140,7 +141,7 @@ fn payloads(rt: &(impl Abort + AllocGlobal), full: bool) -> Seq<Payload> {
     Seq::of(vec![in rt.alloc(); payload].expect(rt, "memory"))
 }
 
-/// Whether a submission of these is a submission.
+/// Whether these values form a submission.
 fn is_submission(
     alloc: Global,
     header: &UserHeader,
@@ -185,7 +186,7 @@ fn submission(rt: &(impl Abort + AllocGlobal), full: bool) -> Submission {
     }
 }
 
-/// A bare submission that was sent twice, the last time at 1,000.
+/// A bare submission after two tries, the last at 1,000.
 fn carried(rt: &(impl Abort + AllocGlobal), standing: Mark) -> Effect {
     Effect::Carried(Carried {
         submission: submission(rt, false),
@@ -237,7 +238,7 @@ fn joined(rt: &(impl Abort + AllocGlobal), pieces: &[&[u8]]) -> Vec<u8> {
     bytes
 }
 
-/// Whether the body of the effects is these bytes, and as long.
+/// Whether the body of the effects consists of these bytes, and `body_len` is its length.
 fn is_written(rt: &(impl Abort + AllocGlobal), effects: &Seq<Effect>, bytes: &[u8]) -> bool {
     let count = effects.items().len();
     assert!(rt; 0 < count && count <= 3);
@@ -248,7 +249,7 @@ fn is_written(rt: &(impl Abort + AllocGlobal), effects: &Seq<Effect>, bytes: &[u
     body.as_slice() == bytes && len == bytes.len() as u64
 }
 
-/// Whether the bytes are read as the effects, and written as they stood.
+/// Whether the bytes are read as the effects, which are written as the same bytes.
 fn is_read_back(rt: &(impl Abort + AllocGlobal), effects: &Seq<Effect>, bytes: &[u8]) -> bool {
     let read = read_body(rt.alloc(), bytes).expect(rt, "a body");
     let same = read.same(effects) && is_written(rt, &read, bytes);
@@ -256,7 +257,7 @@ fn is_read_back(rt: &(impl Abort + AllocGlobal), effects: &Seq<Effect>, bytes: &
     same
 }
 
-/// Whether the body of the effects is the pieces one after another, and as long, and is read back.
+/// Whether the body of the effects consists of the pieces, one after another, has the right length, and is read back.
 fn is_body(rt: &(impl Abort + AllocGlobal), effects: Vec<Effect>, pieces: &[&[u8]]) -> bool {
     let effects = Seq::of(effects);
     let wanted = joined(rt, pieces);
@@ -272,7 +273,7 @@ const DELIVERED: &[u8] = b"\0\x01\x04";
 
 const START: &[u8] = b"\0\0\0\x142025-01-02T03:04:05Z";
 
-/// Effects of no header.
+/// Effects without a header.
 fn are_small(rt: &(impl Abort + AllocGlobal)) -> bool {
     let effects = vec![in rt.alloc();
         Effect::Tried { number: 258 },
@@ -309,11 +310,11 @@ fn are_numbers(rt: &(impl Abort + AllocGlobal)) -> bool {
     )
 }
 
-/// What a bare header has behind its identifier.
+/// The bytes of a bare header after its identifier.
 const BARE: &[u8] =
     b"\0\0\0\0\x01\0\0\0\x01a\0\0\0\0\x01r\0\0\0\x01\0\0\0\x01b\0\0\0\0\x01r\0\0\0\0\x01s\0\0\0\0\x03act\0\0\0\0\x01\0\0\0\x01n\0\0\0\0\0\0";
 
-/// What a full header has behind its identifier.
+/// The bytes of a full header after its identifier.
 const FULL: &[u8] =
     b"\x01\0\0\0\x02m0\0\0\0\x01\0\0\0\x01a\x01\0\0\0\x01k\0\0\0\x01r\0\0\0\x01\0\0\0\x01b\x01\0\0\0\x01k\0\0\0\x01r\x01\0\0\0\x01v\0\x01\0\0\0\x02pm\0\0\0\x01s\x01\0\0\0\x01t\0\0\0\x03act\x01\0\0\0\x01c\0\0\0\x01\0\0\0\x01n\0\0\0\0\0\x01\x01\0\0\0\x05cid:p\0\0\0\x01\0\0\0\x01n\0\x01\0\0\0\x01w";
 
@@ -380,10 +381,10 @@ fn is_submitted(rt: &(impl Abort + AllocGlobal), full: bool) -> bool {
     }
 }
 
-/// How often it was sent, and when last.
+/// The number of tries, and the moment of the last.
 const TRIED: &[u8] = b"\0\0\0\x02\0\0\0\0\0\0\x03\xe8";
 
-/// The body of a bare submission as it stands, that is pending.
+/// The body of a bare submission that is carried over and pending.
 const CARRIED: [&[u8]; 11] = [
     b"\0\x01\x08",
     SEVEN,
@@ -398,7 +399,7 @@ const CARRIED: [&[u8]; 11] = [
     b"\0",
 ];
 
-/// Whether a submission that stands so ends in these bytes.
+/// Whether a submission with this standing ends in these bytes.
 fn is_carried(rt: &(impl Abort + AllocGlobal), standing: Mark, mark: &[u8]) -> bool {
     let effects = vec![in rt.alloc(); carried(rt, standing)].expect(rt, "memory");
     let mut pieces = CARRIED;
@@ -448,11 +449,11 @@ fn headers_are_kept_full_and_bare(rt: HostRuntime) {
 
 const TICK: &[u8] = b"\0\x01\x02\0\0\0\0\0\0\x03\xe8";
 
-/// What a bare header has behind its identifier, with a blank behind its action.
+/// The bytes of a bare header after its identifier, with a blank after its action.
 const BLANK: &[u8] =
     b"\0\0\0\0\x01\0\0\0\x01a\0\0\0\0\x01r\0\0\0\x01\0\0\0\x01b\0\0\0\0\x01r\0\0\0\0\x01s\0\0\0\0\x04act \0\0\0\0\x01\0\0\0\x01n\0\0\0\0\0\0";
 
-/// The moment of the one tick that is read of the bytes.
+/// The moment of the only tick that is read from the bytes.
 fn tick_of(rt: &(impl Abort + AllocGlobal), bytes: &[u8]) -> Option<u64> {
     let effects = read_body(rt.alloc(), bytes).expect(rt, "a body");
     let moment = match effects.items() {
@@ -468,7 +469,7 @@ fn a_tick_is_read(rt: HostRuntime) {
     assert_eq!(rt; tick_of(&rt, TICK), Some(1000));
 }
 
-/// Whether the bytes are refused as no body.
+/// Whether the bytes are refused: they are no body.
 fn is_no_body(rt: &(impl Abort + AllocGlobal), bytes: &[u8]) -> bool {
     match read_body(rt.alloc(), bytes) {
         Ok(effects) => {
@@ -479,7 +480,7 @@ fn is_no_body(rt: &(impl Abort + AllocGlobal), bytes: &[u8]) -> bool {
     }
 }
 
-/// The bodies of no effects.
+/// Bytes that are no body of effects.
 const OTHERS: [(&str, &[u8]); 9] = [
     ("no effects", b"\0\0"),
     ("1,025 effects", b"\x04\x01"),
@@ -502,11 +503,11 @@ fn other_bytes_are_no_body(rt: HostRuntime) {
     }
 }
 
-/// What a bare header has behind its identifier, where the first side has no party.
+/// The bytes of a bare header after its identifier, whose first side has no party.
 const ALONE: &[u8] =
     b"\0\0\0\0\0\0\0\0\x01r\0\0\0\x01\0\0\0\x01b\0\0\0\0\x01r\0\0\0\0\x01s\0\0\0\0\x03act\0\0\0\0\x01\0\0\0\x01n\0\0\0\0\0\0";
 
-/// What is wrong in the body of a delivery, and the place and the bytes of that piece.
+/// An error in the body of a delivery, and the index and the bytes of that piece.
 const OTHER_DELIVERIES: [(&str, usize, &[u8]); 9] = [
     ("a blank at the end of a text", 4, BLANK),
     ("a control character", 1, b"\x01\0\0\0\x01\x01"),
@@ -527,7 +528,7 @@ const OTHER_DELIVERIES: [(&str, usize, &[u8]); 9] = [
     ),
 ];
 
-/// Whether the pieces, with another one in this place, are refused as no body.
+/// Whether the pieces, with another one at this index, are refused: they are no body.
 fn are_no_body(
     rt: &(impl Abort + AllocGlobal),
     pieces: &[&[u8]],
@@ -542,7 +543,7 @@ fn are_no_body(
     is_no_body(rt, bytes.as_slice())
 }
 
-/// What is wrong in the first of the others that is a body all the same.
+/// The first of these errors with which the pieces are still a body.
 fn first_body(
     rt: &(impl Abort + AllocGlobal),
     pieces: &[&[u8]],
@@ -562,7 +563,7 @@ fn other_deliveries_are_no_body(rt: HostRuntime) {
     assert_eq!(rt; first_body(&rt, &DELIVERY, &OTHER_DELIVERIES), None);
 }
 
-/// What is wrong in the body of a submission, and the place and the bytes of that piece.
+/// An error in the body of a submission, and the index and the bytes of that piece.
 const OTHER_SUBMISSIONS: [(&str, usize, &[u8]); 4] = [
     (
         "another number than the identifier's",
@@ -584,7 +585,7 @@ fn other_submissions_are_no_body(rt: HostRuntime) {
     assert_eq!(rt; first_body(&rt, &SUBMISSION, &OTHER_SUBMISSIONS), None);
 }
 
-/// What is wrong in the body of a submission as it stands, and the place and the bytes of that piece.
+/// An error in the body of a submission that is carried over, and the index and the bytes of that piece.
 const OTHER_CARRIED: [(&str, usize, &[u8]); 6] = [
     (
         "1,001 retries",

@@ -1,3 +1,4 @@
+//! The texts of trees, and which trees can be written.
 use as4_envelope::{
     Attribute, Attributes, EBMS, Element, SOAP, TreeBytes, is_writable, write_tree,
 };
@@ -5,7 +6,7 @@ use as4_values::{NoMemory, Octets, Seq};
 use std::alloc::Global;
 use std::test::Fail;
 
-/// Both, where both are there.
+/// Both values, or an error.
 fn both<A: Drop, B: Drop>(
     one: Result<A, NoMemory>,
     other: Result<B, NoMemory>,
@@ -26,7 +27,7 @@ fn both<A: Drop, B: Drop>(
     }
 }
 
-/// A list of one item, where it is there.
+/// A list of the item, or its error.
 fn list_of<T: Drop>(alloc: Global, item: Result<T, NoMemory>) -> Result<Vec<T>, NoMemory> {
     let item = item?;
     let mut list = Vec::new(alloc);
@@ -78,7 +79,7 @@ fn element(
     }
 }
 
-/// An element without attributes that holds a text.
+/// An element without attributes whose content is a text.
 fn text_element(
     alloc: Global,
     space: &[u8],
@@ -104,7 +105,7 @@ fn leaf(alloc: Global, local: &[u8], text: &[u8]) -> Result<Element, NoMemory> {
     text_element(alloc, EBMS, local, text)
 }
 
-/// An ebMS element that holds these elements.
+/// An ebMS element with these children.
 fn nest(alloc: Global, local: &[u8], children: Vec<Element>) -> Result<Element, NoMemory> {
     element(alloc, EBMS, local, Vec::new(alloc), children)
 }
@@ -117,7 +118,7 @@ fn text_of(alloc: Global, tree: &Element) -> Result<Option<Octets>, NoMemory> {
     Ok(Some(write_tree(alloc, tree)?))
 }
 
-/// Whether the tree is written so.
+/// Whether the tree has this text.
 fn writes(alloc: Global, tree: Result<Element, NoMemory>, wanted: &[u8]) -> Result<bool, NoMemory> {
     let tree = tree?;
     let text = text_of(alloc, &tree);
@@ -181,7 +182,7 @@ fn attributes_have_the_prefix_of_their_namespace(rt: HostRuntime) -> Result<(), 
     Ok(())
 }
 
-/// A namespace and a text with which no element can be written.
+/// A namespace and a text that exclude an element from writing.
 const OTHER_KINDS: [(&str, &[u8], &[u8]); 4] = [
     ("another namespace", b"urn:x", b""),
     ("no namespace", b"", b""),
@@ -189,7 +190,7 @@ const OTHER_KINDS: [(&str, &[u8], &[u8]); 4] = [
     ("no UTF-8", EBMS, b"\xc3"),
 ];
 
-/// The first kind of which an element can be written.
+/// The first kind with which an element can be written.
 fn first_writable(
     alloc: Global,
     kinds: &[(&'static str, &[u8], &[u8])],
@@ -208,7 +209,7 @@ fn trees_of_other_kinds_are_not_written(rt: HostRuntime) -> Result<(), Fail> {
     Ok(())
 }
 
-/// An element with two attributes of one name.
+/// An element with two attributes of the same name.
 fn with_an_attribute_twice(alloc: Global) -> Result<Element, NoMemory> {
     let one = attribute(alloc, b"", b"x", b"1");
     let (one, two) = both(one, attribute(alloc, b"", b"x", b"2"))?;
@@ -225,7 +226,7 @@ fn an_attribute_stands_once(rt: HostRuntime) -> Result<(), Fail> {
     Ok(())
 }
 
-/// So many elements, each in the one before.
+/// This many elements, each inside the one before.
 fn levels(alloc: Global, count: usize) -> Result<Element, NoMemory> {
     let mut tree = leaf(alloc, b"A", b"")?;
     for _ in 1..count {
@@ -241,7 +242,7 @@ fn a_tree_has_32_levels_at_most(rt: HostRuntime) -> Result<(), Fail> {
     Ok(())
 }
 
-/// ebMS elements that hold these texts, one after another.
+/// ebMS elements with these texts, one after another.
 fn leaves(alloc: Global, texts: &[(&[u8], &[u8])]) -> Result<Vec<Element>, NoMemory> {
     let mut leaves = Vec::new(alloc);
     for (local, text) in texts {

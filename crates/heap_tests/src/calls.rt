@@ -1,4 +1,4 @@
-//! Calls in a fixed pseudo-random order, against a plain list of places.
+//! Calls in a fixed pseudo-random order, compared with a plain list of places.
 
 use crate::example::{least_two, put};
 use due_heap::Heaps;
@@ -10,14 +10,14 @@ const HEAPS: u64 = 3;
 
 type Places = [Option<(u64, u64)>; NUMBERS];
 
-/// The next one of a linear congruential generator.
+/// The next number of a linear congruential generator.
 fn next(random: u64) -> u64 {
     random
         .wrapping_mul(6_364_136_223_846_793_005)
         .wrapping_add(1_442_695_040_888_963_407)
 }
 
-/// Of those in this heap the number that is due first, with a number left out.
+/// The number of this heap that is due first, except the skipped one.
 fn least_of(places: &Places, heap: u64, skipped: Option<u64>) -> Option<(u64, u64)> {
     let mut least: Option<(u64, u64)> = None;
     for (number, place) in places.iter().enumerate() {
@@ -32,7 +32,7 @@ fn least_of(places: &Places, heap: u64, skipped: Option<u64>) -> Option<(u64, u6
     least
 }
 
-/// One call: a number that stands in no heap is put into one, another is moved or taken out.
+/// One call: a number that is in no heap is inserted, another one is moved or removed.
 fn call(heaps: &mut Heaps, places: &mut Places, random: u64) -> Option<()> {
     let number = (random >> 33) % NUMBERS as u64;
     let due = (random >> 20) % 40;
@@ -55,7 +55,7 @@ fn call(heaps: &mut Heaps, places: &mut Places, random: u64) -> Option<()> {
     Some(())
 }
 
-/// How many of this heap are due by a moment.
+/// How many numbers of this heap are due by a moment.
 fn due_by(places: &Places, heap: u64, moment: u64) -> u64 {
     let mut count = 0u64;
     for place in places {
@@ -66,7 +66,7 @@ fn due_by(places: &Places, heap: u64, moment: u64) -> u64 {
     count
 }
 
-/// Whether heaps and places agree, on each heap with and without this number, and on what is due by a moment.
+/// Whether heaps and places agree: on each heap with and without this number, and on the numbers due by a moment.
 fn agree(heaps: &Heaps, places: &Places, number: u64) -> bool {
     for heap in 0..HEAPS {
         let moment = number % 40;
@@ -84,7 +84,7 @@ fn agree(heaps: &Heaps, places: &Places, number: u64) -> bool {
     true
 }
 
-/// How many of the calls left heaps and places that agree: without a number, and without the least of the first heap.
+/// The number of calls that left heaps and places in agreement, leaving out some number and the first heap's least.
 fn agreeing(heaps: &mut Heaps, calls: u64) -> Option<u64> {
     for _ in 0..HEAPS {
         heaps.add().ok()?;

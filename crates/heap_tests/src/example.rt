@@ -1,10 +1,10 @@
-//! Two heaps, of which the one holds the pairs (5, 1) and (5, 0) and the other (3, 2).
+//! Two heaps: one holds the pairs (5, 1) and (5, 0), the other (3, 2).
 
 ghost use Rattle.std.specs.Prelude.{◌<◌};
 
 use due_heap::Heaps;
 
-/// Puts a number that stands in no heap into this one.
+/// Inserts a number that is in no heap into this one.
 pub fn put(heaps: &mut Heaps, heap: u64, due: u64, number: u64) -> Option<()>
     requires { number < 1048576 }
 {
@@ -24,7 +24,8 @@ pub fn least_two(heaps: &Heaps, heap: u64, number: u64) -> [Option<(u64, u64)>; 
     [heaps.least(heap), heaps.least_without(heap, number)]
 }
 
-/// The least pairs of the two heaps, without the number 0 too: at first, once 0 is due at 9, and once 1 is taken out.
+/// The least pairs of the two heaps, also without the number 0: at first, after 0 is moved to 9, and after 1 is
+/// removed.
 fn least_pairs(heaps: &mut Heaps) -> Option<[[Option<(u64, u64)>; 2]; 5]> {
     let first = heaps.add().ok()?;
     let second = heaps.add().ok()?;

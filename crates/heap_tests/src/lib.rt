@@ -1,4 +1,4 @@
-//! Tests of `due_heap`, by what it makes public.
+//! Tests of the public interface of `due_heap`.
 #![tactic(auto)]
 
 #[cfg(test)]

@@ -5,7 +5,7 @@ use Rattle.as4_values.specs.declared.payload.Payload.{Payload}
 use Rattle.exchange_model.specs.Apply.{emptied}
 use Rattle.exchange_model.specs.declared.inbox_entry.InboxEntry.{InboxEntry}
 
--- one that comes stays as it is
+-- a new entry isn't changed
 pub emptied_push : (n : ℕ) (xs : List InboxEntry) (x : InboxEntry) → n ≤ length xs
     → emptied n (xs ++ x ∷ []) ≡ emptied n xs ++ x ∷ []
 unfolding emptied
@@ -14,12 +14,12 @@ emptied_push (suc n) [] x h = absurd (omega arith)
 emptied_push (suc n) (y ∷ xs) x h =
     ap (λ ys. record y { payloads = [] } ∷ ys) (emptied_push n xs x (omega arith))
 
--- those that are empty stay so
+-- the empty ones remain
 pub kept_push : (n : ℕ) (xs : List InboxEntry) (x : InboxEntry) → n ≤ length xs → emptied n xs ≡ xs
     → emptied n (xs ++ x ∷ []) ≡ xs ++ x ∷ []
 kept_push n xs x h e = rw (emptied_push n xs x h) (ap (λ ys. ys ++ x ∷ []) e)
 
--- where the one behind them is emptied too, it is one more
+-- where the next one is emptied too, there is one more
 emptied_suc : (at : ℕ) (xs : List InboxEntry) (x : InboxEntry) → at < length xs
     → x ≡ get_or (emptied at xs) at x
     → set (emptied at xs) at (record x { payloads = [] }) ≡ emptied (suc at) xs
@@ -36,7 +36,7 @@ emptied_next at xs ys x payloads h are e none =
     let same : x ≡ get_or (emptied at xs) at x = rw are at e in
     rw (are, none, add-one) (emptied_suc at xs x h same)
 
--- once is enough
+-- emptying twice is emptying once
 emptied_twice : (n : ℕ) (xs : List InboxEntry) → emptied n (emptied n xs) ≡ emptied n xs
 unfolding emptied
 emptied_twice zero xs = refl
@@ -46,7 +46,7 @@ emptied_twice (suc n) (y ∷ xs) = ap (λ ys. record y { payloads = [] } ∷ ys)
 pub kept_emptied : (n : ℕ) (xs ys : List InboxEntry) → ys ≡ emptied n xs → emptied n ys ≡ ys
 kept_emptied n xs ys e = rw e (emptied_twice n xs)
 
--- where all are empty, an empty one more leaves them so
+-- where all are empty, one more empty entry keeps them so
 kept_suc : (n : ℕ) (xs : List InboxEntry) (x : InboxEntry) → n ≡ length xs → emptied n xs ≡ xs → x.payloads ≡ []
     → emptied (suc n) (xs ++ x ∷ []) ≡ xs ++ x ∷ []
 unfolding emptied

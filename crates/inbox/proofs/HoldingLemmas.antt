@@ -1,4 +1,4 @@
--- Whether an identifier is held, behind a change of the map at one key.
+-- Whether an identifier is held, after a change of the map at one key.
 use Rattle.std.proofs.Common.{zero, suc, [], ◌∷◌, ◌++◌, ◌≡◌, ℕ, ◌||◌, List, Bool, true, false, cond, is_some, Option, Some, None, refl, sym, ap, ◌∙◌}
 use Rattle.std.specs.Prelude.{IsSome}
 use Rattle.std.specs.BTreeMap.{BTreeMap, get, Updates}
@@ -20,7 +20,7 @@ use Rattle.inbox.specs.declared.identifiers.Hold.TheVariants as hold
 abbrev at_id : BTreeMap (List ℕ) Hold → List ℕ → Option Hold
 at_id map id = get (slice_cmp nat_cmp) map id
 
--- what was written tells the same as what was at its key
+-- the written value says the same as the previous value of its key
 chosen : (b : Bool) (key id : List ℕ) (old : BTreeMap (List ℕ) Hold) (w : Option Hold) → (b ≡ true → key ≡ id)
     → has_come w ≡ has_come (at_id old key) → has_come (cond b w (at_id old id)) ≡ has_come (at_id old id)
 chosen true key id old w is same = same ∙ ap (λ k. has_come (at_id old k)) (is refl)
@@ -37,7 +37,7 @@ or_false : (b : Bool) → (b || false) ≡ b
 or_false true = refl
 or_false false = refl
 
--- a message of the key came
+-- a message with the key was received
 either : (b : Bool) (was : Option Hold) → has_come (cond b (Some hold.Came) was) ≡ (has_come was || b)
 either true was = elim (has_come was) as (λ (held : Bool). true ≡ (held || true)) [
   | true ↦ refl
@@ -51,7 +51,7 @@ one_more_held old new key updates id =
     ap has_come (updates.0 id ∙ ap (λ b. cond b (Some hold.Came) (at_id old id)) (is_eq-slice_cmp key id))
     ∙ either (bytes_eq key id) (at_id old id)
 
--- what isn't in the map hasn't come
+-- an identifier that isn't in the map wasn't received
 pub not_there : (o : Option Hold) → is_some o ≡ false → has_come None ≡ has_come o
 not_there None out = refl
 not_there (Some h) out = absurd (true≢false out)
@@ -61,7 +61,7 @@ pub none_held : (ids : Identifiers) → ((id : List ℕ) → is_held id ids ≡ 
 unfolding is_known
 none_held ids none place = record { held = none; place = place }
 
--- one message more
+-- one more message
 pub held_push : (old new : Identifiers) (entries : List InboxEntry) (entry : InboxEntry) → AreOf old entries
     → ((id : List ℕ) → is_held id new ≡ (is_held id old || bytes_eq entry.header.id id)) → HasPlace new → AreOf new (entries ++ entry ∷ [])
 unfolding is_known
@@ -83,7 +83,7 @@ known_emptied id (suc count) (entry ∷ entries) = ap (λ rest. bytes_eq entry.h
 pub held_emptied : (ids : Identifiers) (count : ℕ) (entries : List InboxEntry) → AreOf ids entries → AreOf ids (emptied count entries)
 held_emptied ids count entries are = record { held = λ id. are.held id ∙ sym (known_emptied id count entries); place = are.place }
 
--- where there is no room there is none for anything
+-- no room contradicts some room
 pub no_room : (room : Option (List ℕ)) → room ≡ None → IsSome room → ⊥
 no_room None none some = cc
 no_room (Some id) none some = cc

@@ -1,8 +1,8 @@
--- What an inbox holds.
+-- The contents of an inbox.
 use Rattle.std.specs.Prelude.{ℕ, List, Option}
 use Rattle.exchange_model.specs.declared.inbox_entry.InboxEntry.{InboxEntry}
 
--- the messages that came, how many of them were taken over, and for which identifier there is room
+-- the received messages, the number of confirmed ones, and the identifier that room is reserved for
 pub record Deliveries : Type 0 where
   pub entries : List InboxEntry
   pub confirmed : ℕ

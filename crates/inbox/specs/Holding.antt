@@ -1,4 +1,4 @@
--- Which identifiers an inbox holds, by a map that also has the one for which there is room.
+-- The identifiers of an inbox, in a map that also has the reserved one.
 use Rattle.std.specs.Prelude.{◌≡◌, ℕ, List, Bool, true, false, Option, Some, IsSome}
 use Rattle.std.specs.BTreeMap.{get}
 use Rattle.std.specs.Ordering.{nat_cmp}
@@ -9,7 +9,7 @@ use Rattle.inbox.specs.declared.identifiers.Hold.{Hold}
 use Rattle.inbox.specs.declared.identifiers.Hold.TheVariants as hold
 use Rattle.inbox.specs.declared.identifiers.Identifiers.{Identifiers}
 
--- why an identifier stands in the map, if it does
+-- why an identifier is in the map, if it is
 abbrev pub hold_of : List ℕ → Identifiers → Option Hold
 hold_of id ids = get (slice_cmp nat_cmp) ids.holds id
 
@@ -17,11 +17,11 @@ abbrev pub has_come : Option Hold → Bool
 has_come (Some hold.Came) = true
 has_come other = false
 
--- a message of this identifier came
+-- a message with this identifier was received
 abbrev pub is_held : List ℕ → Identifiers → Bool
 is_held id ids = has_come (hold_of id ids)
 
--- the identifier for which there is room stands in the map
+-- the reserved identifier is in the map
 abbrev pub HasPlace : Identifiers → Type 0
 HasPlace ids = (id : List ℕ) → ids.room ≡ Some id → IsSome (hold_of id ids)
 

@@ -1,3 +1,4 @@
+-- The specs of inbox.
 pub mod Deliveries
 pub mod Holding
 pub mod Reading

@@ -1,11 +1,10 @@
--- What an inbox says of a number.
+-- What an inbox has for a number.
 use Rattle.std.specs.Prelude.{◌≡◌, ℕ, ◌<◌, ◌≤◌, Some, length, slice_get}
 use Rattle.inbox.specs.Deliveries.{Deliveries}
 use Rattle.inbox.specs.declared.held.Held.{Held}
 use Rattle.inbox.specs.declared.held.Held.TheVariants as held
 
--- of the first so many it says that they were taken over, of those behind the last that none has come, and of the
--- others what came
+-- the first `confirmed` ones are confirmed, nothing was received past the last, and the others are read as received
 abbrev pub IsHeld : Deliveries → ℕ → Held → Type 0
 IsHeld deliveries n held.Gone = n < deliveries.confirmed
 IsHeld deliveries n held.NoEntry = length deliveries.entries ≤ n

@@ -1,15 +1,17 @@
+//! The result of reading an inbox.
+
 use as4_values::{Payload, Seq, UserHeader};
 
-/// What an inbox says of a number.
+/// What an inbox has for a number.
 #[derive(Drop)]
 pub enum Held<'a> {
-    /// The message that came as this one.
+    /// The message that was received with this number.
     Entry {
         header: &'a UserHeader,
         payloads: &'a Seq<Payload>,
     },
-    /// It was taken over.
+    /// It was confirmed.
     Gone,
-    /// No message of this number has come.
+    /// No message of this number has been received.
     NoEntry,
 }

@@ -1,5 +1,5 @@
-//! The identifiers of the messages that came, in an ordered map: they are chosen by others, and whichever these are, a
-//! look-up takes the logarithm of their number.
+//! The identifiers of the received messages, in an ordered map. Others choose them, and whatever they choose, a look-up
+//! takes logarithmic time.
 
 ghost use Rattle.std.specs.Prelude.{◌≡◌, ℕ, ◌||◌, List, Some, None, false, IsSome, OnOk};
 ghost use Rattle.std.specs.Str.{bytes_eq};
@@ -9,16 +9,16 @@ use as4_values::{MessageId, NoMemory, PlainData};
 use std::alloc::Global;
 use std::collections::BTreeMap;
 
-/// Why an identifier stands in the map.
+/// Why an identifier is in the map.
 #[derive(Clone, Copy)]
 pub enum Hold {
-    /// A message of it came.
+    /// A message with it was received.
     Came,
-    /// There is room for a message of it.
+    /// Room for a message with it is reserved.
     Room,
 }
 
-/// The identifiers of the messages that came, and the one for which there is room.
+/// The identifiers of the received messages, and the one that room is reserved for.
 #[derive(Drop)]
 pub struct Identifiers {
     alloc: Global,
@@ -39,7 +39,7 @@ impl Identifiers {
         }
     }
 
-    /// Makes room for this identifier. Room for another ends.
+    /// Reserves room for this identifier. An earlier reservation ends.
     pub fn reserve(&mut self, id: &MessageId) -> Result<(), NoMemory>
         requires { HasPlace self.old }
         ensures ok { OnOk result (self.new.room ≡ Some id.now) }
@@ -53,7 +53,7 @@ impl Identifiers {
         Ok(())
     }
 
-    /// The one for which there was room isn't in the map any more, unless a message of it came.
+    /// Ends the reservation: removes its identifier from the map, unless a message with it was received.
     fn end_room(&mut self)
         ensures held { (id : List ℕ) → is_held id self.new ≡ is_held id self.old }
         ensures room { self.new.room ≡ None }
@@ -82,7 +82,7 @@ impl Identifiers {
         Ok(())
     }
 
-    /// A message of the identifier for which there was room came. Takes no memory.
+    /// A message with the reserved identifier was received. Takes no memory.
     pub fn hold(&mut self)
         requires { HasPlace self.old }
         ensures held { (room id : List ℕ) → self.old.room ≡ Some room
@@ -99,7 +99,7 @@ impl Identifiers {
         drop(id);
     }
 
-    /// Whether a message of this identifier came.
+    /// Whether a message with this identifier was received.
     pub fn contains(&self, id: &MessageId) -> bool
         ensures { result ≡ is_held id.now self.now }
     {

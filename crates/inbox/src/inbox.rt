@@ -1,6 +1,6 @@
-//! The entries of an inbox, by number, in the order in which they came:
+//! The entries of an inbox, by number, in the order in which they were received:
 //!
-//!     0 .. confirmed    taken over: the header stays, so that the identifier is held for good
+//!     0 .. confirmed    confirmed: the header stays, so that the identifier is known for good
 //!     confirmed .. len  header and payloads
 
 ghost use Rattle.std.specs.Prelude.{◌≡◌, ◌+◌, ◌<◌, ◌≤◌, ◌++◌, ◌∷◌, [], List, false, length, option_copied, option_map, slice_get, OnOk, IsSome, vec_len};
@@ -17,14 +17,14 @@ use exchange_model::InboxEntry;
 use std::alloc::Global;
 use std::marker::Model;
 
-/// The messages that came.
+/// The received messages.
 #[derive(Drop)]
 pub struct Inbox {
     alloc: Global,
     entries: Vec<InboxEntry>,
-    /// How many entries were taken over.
+    /// The number of confirmed entries.
     confirmed: usize,
-    /// The identifiers of the entries, and the one for which there is room for one more entry.
+    /// The identifiers of the entries, and the reservation for one more entry.
     identifiers: Identifiers,
 }
 
@@ -58,7 +58,7 @@ impl Inbox {
         }
     }
 
-    /// Makes room for one entry of this identifier. Room for another identifier ends.
+    /// Reserves room for one entry with this identifier. An earlier reservation ends.
     pub fn reserve(&mut self, id: &MessageId) -> Result<(), NoMemory>
         ensures ok { OnOk result (self.new.room ≡ Some id.now) }
         ensures entries { self.new.entries ≡ self.old.entries }
@@ -78,7 +78,7 @@ impl Inbox {
         self.push(InboxEntry { header, payloads });
     }
 
-    /// Adds a message that came and was taken over; takes no memory.
+    /// Adds the header of a message that was received and confirmed; takes no memory.
     #[tactic(auto, using(crate::proofs::EmptiedLemmas::kept_all))]
     pub fn keep(&mut self, header: UserHeader)
         requires room { self.old.room ≡ Some header.id }
@@ -92,7 +92,7 @@ impl Inbox {
         self.confirmed += 1;
     }
 
-    /// Adds an entry, and its room is used up.
+    /// Adds an entry, and uses up the reservation.
     #[tactic(auto, using(crate::proofs::EmptiedLemmas::kept_push, crate::proofs::HoldingLemmas::held_push))]
     fn push(&mut self, entry: InboxEntry)
         requires { self.old.room ≡ Some entry.header.id }
@@ -104,21 +104,21 @@ impl Inbox {
         self.entries.push_reserved(entry);
     }
 
-    /// Whether a message of this identifier came, taken over or not.
+    /// Whether a message with this identifier was received, confirmed or not.
     pub fn holds(&self, id: &MessageId) -> bool
         ensures { result ≡ is_known id.now self.now.entries }
     {
         self.identifiers.contains(id)
     }
 
-    /// How many messages came.
+    /// The number of received messages.
     pub fn len(&self) -> u64
         ensures { result ≡ length self.now.entries }
     {
         self.entries.len() as u64
     }
 
-    /// How many of them were taken over: these are the first.
+    /// The number of confirmed messages: these are the first.
     pub fn confirmed(&self) -> u64
         ensures value { result ≡ self.now.confirmed }
         ensures within { self.now.confirmed ≤ length self.now.entries }
@@ -142,7 +142,7 @@ impl Inbox {
         }
     }
 
-    /// The header of the message of this number, from 0, taken over or not.
+    /// The header of the message of this number, from 0, confirmed or not.
     pub fn header(&self, n: u64) -> Option<&UserHeader>
         ensures { option_copied result ≡ option_map (λ entry. entry.header) (slice_get self.now.entries n) }
     {
@@ -150,7 +150,7 @@ impl Inbox {
         Some(&entry.header)
     }
 
-    /// The messages up to this one were taken over: their payloads go. Takes no memory.
+    /// Confirms the messages up to and including this one: drops their payloads. Takes no memory.
     pub fn confirm(&mut self, upto: u64)
         requires open { self.old.confirmed ≤ upto }
         requires there { upto < length self.old.entries }

@@ -1,4 +1,4 @@
-//! The messages that came, each identifier once and for good.
+//! The received messages, each identifier once and for good.
 #![tactic(auto)]
 
 mod held;

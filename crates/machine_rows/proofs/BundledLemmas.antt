@@ -1,4 +1,4 @@
--- The rows of a pair, and that their effects can stand.
+-- The rows of a pair, and that their effects can be applied.
 use Rattle.std.proofs.Common.{◌≡◌, ℕ, List, [], ◌∷◌, ◌++◌, Bool, true, false, Option, Some, None, option_map, refl, ap, sym, subst, ◌∙◌, arith}
 use Rattle.std.specs.Prelude.{if◌then◌else◌, is_some}
 use Rattle.std.specs.Bool.{MatchBool}
@@ -8,10 +8,10 @@ use Rattle.as4_effects.specs.declared.effect.Effect.TheVariants as effect
 use Rattle.as4_effects.specs.declared.mark.Mark.TheVariants as mark
 use Rattle.as4_effects.specs.declared.queue.Queue.{Queue}
 use Rattle.as4_effects.specs.declared.queue.Queue.TheVariants as queue
-use Rattle.as4_values.specs.ModeMatch.{channel_mode}
+use Rattle.mode_values.specs.ModeMatch.{channel_mode}
 use Rattle.as4_values.specs.declared.header.UserHeader.{UserHeader}
 use Rattle.as4_values.specs.declared.message.Message.TheVariants as message
-use Rattle.as4_values.specs.declared.mode.Mode.{Mode}
+use Rattle.mode_values.specs.declared.mode.Mode.{Mode}
 use Rattle.as4_values.specs.declared.signal.Signal.{Signal}
 use Rattle.as4_values.specs.declared.signal_body.SignalBody.{SignalBody}
 use Rattle.as4_values.specs.declared.signal_body.SignalBody.TheVariants as body
@@ -35,7 +35,7 @@ use Rattle.machine_rows.specs.Naming.{IsFor, IsRefusedBy}
 use Rattle.machine_rows.proofs.ComingRows.{refused_comes, settled_comes}
 use Rattle.machine_rows.proofs.HeadLemmas.{head_fits}
 
--- by the outcome of its receipt, and that of its pull request behind it
+-- by the outcome of its receipt, and that of the pull request after it
 pair_by : (modes : List Mode) (end : End) (event : Event) (receipt pull : Signal) (copy : Option UserHeader) (mpc : List ℕ) (s : Sent)
     (settled pulled outcome : Outcome) → receipt.body ≡ body.Receipt copy → pull.body ≡ body.Pull mpc
     → IsFor receipt.ref_to copy end.sent s → Settles s settled → settled.reply ≡ reply.Quiet
@@ -68,7 +68,7 @@ refused_pair modes end event receipt pull copy code outcome is_receipt refused e
       (sym (ap (λ (o : Outcome). o.reply) errs.2)) refl,
 )
 
--- what a receipt of a submission leaves
+-- the outcome of a receipt for a submission
 settled_of : (s : Sent) → (settled : Outcome) × Settles s settled × (settled.reply ≡ reply.Quiet)
 settled_of s = by_pending (is_pending s)
   where
@@ -107,7 +107,7 @@ both : (named : Bool) (effects : List Effect) (pulled outcome : Outcome) → nam
 both true effects pulled outcome e is = is
 both false effects pulled outcome e is = absurd cc
 
--- its receipt comes late
+-- its receipt is for a settled submission
 pub late_pair : (modes : List Mode) (end : End) (event : Event) (receipt pull : Signal) (copy : Option UserHeader) (mpc : List ℕ) (s : Sent)
     (outcome : Outcome) → receipt.body ≡ body.Receipt copy → pull.body ≡ body.Pull mpc
     → IsFor receipt.ref_to copy end.sent s → is_some (channel_mode modes mpc) ≡ true → is_pending s ≡ false
@@ -147,7 +147,7 @@ behind_pair modes end event receipt pull copy mpc s outcome is_receipt is_pull i
     by_mode None m e = absurd cc
     by_mode (Some mode) m e = by_head mode m (head_of (queue.Channel mpc) mid) refl row
 
--- a receipt and then a try of the head that a queue has behind it
+-- a receipt, and then a try of the head that the queue has after it
 pub both_stand : (q : Queue) (n k : ℕ) (end : End) → AreNumberedFrom 0 end.sent → is_fit (effect.Receipted n) end ≡ true
     → Some k ≡ option_map (λ (s : Sent). s.submission.number) (head_of q (after (effect.Receipted n) end))
     → CanStand end (effect.Receipted n ∷ effect.Tried k ∷ [])

@@ -1,4 +1,4 @@
--- The rows of a message that comes.
+-- The rows of received messages.
 use Rattle.std.proofs.Common.{◌≡◌, ℕ, ◌⊎◌, inl, inr, List, [], ◌∷◌, true, false, Option, Some, None, option_map, refl, ap, sym, subst, ◌∙◌}
 use Rattle.std.specs.Prelude.{IsSome, MatchOption}
 use Rattle.std.specs.Option.{IfSome}
@@ -48,7 +48,7 @@ pub code_302_is_known : IsSome (error_row 302)
 unfolding error_row error_table
 code_302_is_known = refl
 
--- those by which a receipt is refused
+-- the codes of refused receipts
 pub refused_is_known : (ref_to : Option (List ℕ)) (copy : Option UserHeader) (sent : List Sent) (code : ℕ) → IsRefusedBy ref_to copy sent code
     → IsSome (error_row code)
 refused_is_known ref_to copy sent code refused = by_named (referred ref_to sent) refused
@@ -57,7 +57,7 @@ refused_is_known ref_to copy sent code refused = by_named (referred ref_to sent)
     by_named None e = subst (λ n. IsSome (error_row n)) (sym e) code_3_is_known
     by_named (Some s) other = subst (λ n. IsSome (error_row n)) (sym other.1) code_302_is_known
 
--- a receipt whose reference names a submission, with no copy of another header
+-- a receipt whose reference names a submission, without a copy of another header
 pub is_for : (ref_to : Option (List ℕ)) (copy : Option UserHeader) (sent : List Sent) (number : ℕ) (submission : Submission)
     → sent_at number sent ≡ referred ref_to sent → Some submission ≡ option_map (λ (s : Sent). s.submission) (sent_at number sent)
     → (IsOther copy submission.header → ⊥) → (s : Sent) × (sent_at number sent ≡ Some s) × IsFor ref_to copy sent s
@@ -87,13 +87,13 @@ refused_comes end event id ref_to copy code outcome refused errs = by_named (ref
     by_named None e = subst (λ n. Errs n id event outcome) e errs
     by_named (Some s) other = inl (other.0, subst (λ n. Errs n id event outcome) other.1 errs)
 
--- a receipt that is for a submission
+-- a receipt for a submission
 pub settled_comes : (end : End) (event : Event) (id : List ℕ) (ref_to : Option (List ℕ)) (copy : Option UserHeader) (s : Sent) (outcome : Outcome)
     → IsFor ref_to copy end.sent s → Settles s outcome → ReceiptComes end event id ref_to copy outcome
 unfolding ReceiptComes
 settled_comes end event id ref_to copy s outcome is_for settles = rw is_for.names (inr (is_for.own, settles))
 
--- a message that came for the first time is delivered
+-- a message that is received for the first time is delivered
 pub delivers : (event : Event) (header : UserHeader) (payloads : List Payload) (d : Delivery) (signal : Signal) (outcome : Outcome)
     → Gives (effect.Delivered d) (reply.Answer (message.Signal signal)) outcome
     → d.header ≡ header → d.payloads ≡ payloads → IsReceiptOf header event.stamp event.nonce signal
@@ -106,7 +106,7 @@ delivers_stands end event header payloads outcome new row =
     gives_stands (effect.Delivered row.0) (reply.Answer (message.Signal row.3.0)) outcome end row.3.2
     (delivery_fits row.0 end (ap (λ (h : UserHeader). is_known h.id end.inbox) row.1 ∙ new))
 
--- the submission of this number is the answer
+-- the answer is the submission of this number
 abbrev pub Sends : ℕ → Outcome → Option Sent → Type 0
 Sends number outcome found =
     IfSome found (λ s. Gives (effect.Tried number) (reply.Answer (message_of s.submission)) outcome)
@@ -128,7 +128,7 @@ head_stands q end number outcome e f sends =
     sends_stands end number (sent_at number end.sent) outcome (head_is_there (head_of q end) (sent_at number end.sent) number e f) sends
     (head_fits q end number e f)
 
--- the receipt of a pending one came
+-- the receipt for a pending one was received
 pub settles : (number : ℕ) (sent : List Sent) (outcome : Outcome) → is_one is_pending (sent_at number sent) ≡ true
     → Gives (effect.Receipted number) reply.Quiet outcome → IfSome (sent_at number sent) (λ s. Settles s outcome)
 settles number sent outcome pending g = by (sent_at number sent) refl pending

@@ -1,4 +1,4 @@
--- Refusals of pending submissions, of numbers that differ, fit one after another.
+-- Refusals of pending submissions with different numbers fit one after another.
 use Rattle.std.proofs.Common.{◌≡◌, ℕ, ◌≤◌, List, [], ◌∷◌, Bool, true, false, cond, eqb, Option, Some, None, option_map, length, map, refl, ap, sym, ◌∙◌, arith, inl, inr, suc}
 use Rattle.std.specs.Prelude.{not}
 use Rattle.std.specs.List.{cons_option, filter, filter_map}
@@ -36,7 +36,7 @@ abbrev pub AreOthers : ℕ → List Rejection → Type 0
 AreOthers number [] = Unit {0}
 AreOthers number (r ∷ refusals) = (eqb r.number number ≡ false) × AreOthers number refusals
 
--- no two have one number
+-- no two have the same number
 abbrev pub Differ : List Rejection → Type 0
 Differ [] = Unit {0}
 Differ (r ∷ refusals) = AreOthers r.number refusals × Differ refusals
@@ -44,7 +44,7 @@ Differ (r ∷ refusals) = AreOthers r.number refusals × Differ refusals
 differs : (n m k : ℕ) → eqb m n ≡ false → eqb k n ≡ true → eqb k m ≡ false
 differs n m k d e = ne_eqb k m (λ same. let f : true ≡ false = sym e ∙ ap (λ x. eqb x n) same ∙ d in cc)
 
--- a submission of another number stays as it is
+-- a submission of another number doesn't change
 other_at : (n m : ℕ) (to : Mark) (sent : List Sent) → eqb m n ≡ false → sent_at m (changed n (marked to) sent) ≡ sent_at m sent
 unfolding changed
 other_at n m to [] d = refl
@@ -54,7 +54,7 @@ other_at n m to (s ∷ sent) d =
       | inr e ↦ rw e (ap (λ (o : Option Sent). cond (eqb s.submission.number m) (Some s) o) (other_at n m to sent d))
     ]
 
--- those of other numbers stay pending
+-- those of other numbers remain pending
 still_pending : (n : ℕ) (to : Mark) (sent : List Sent) (refusals : List Rejection) → AreOthers n refusals → ArePending sent refusals
     → ArePending (changed n (marked to) sent) refusals
 still_pending n to sent [] others pending = tt
@@ -69,7 +69,7 @@ fits_all (r ∷ refusals) end differ pending =
     (fits_all refusals (after (effect_of r) end) differ.1
     (still_pending r.number (mark.Refused r.code) end.sent refusals differ.0 pending.1)))
 
--- what is left of them
+-- the remaining ones
 pending_left : (p : Rejection → Bool) (sent : List Sent) (refusals : List Rejection) → ArePending sent refusals → ArePending sent (filter p refusals)
 pending_left p sent [] pending = tt
 pending_left p sent (r ∷ refusals) pending =
@@ -94,7 +94,7 @@ few_left p (r ∷ refusals) =
     elim (p r) as (λ b. length (cond b (r ∷ filter p refusals) (filter p refusals)) ≤ suc (length refusals))
     [ true ↦ omega (arith, few_left p refusals) | false ↦ omega (arith, few_left p refusals) ]
 
--- those that are left are of other numbers
+-- the remaining ones have other numbers
 others_of : (n : ℕ) (refusals : List Rejection) → AreOthers n (filter (is_other n) refusals)
 others_of n [] = tt
 others_of n (r ∷ refusals) =
@@ -147,7 +147,7 @@ one_room [] = tt
 one_room (r ∷ []) = tt
 one_room (r ∷ q ∷ refusals) = (tt, one_room (q ∷ refusals))
 
--- what an error signal changes can stand
+-- the effects of an error signal can be applied
 pub all_stand : (ref_to : Option (List ℕ)) (end : End) (items : List ErrorItem) → AreNumberedFrom 0 end.sent → length items ≤ 256
     → CanStand end (refusals_of ref_to end.sent items)
 unfolding refusals_of

@@ -1,15 +1,15 @@
--- No row of a message that comes is free: its reply is a message, or quiet.
+-- No row of a received message is free: its reply is a message, or quiet.
 use Rattle.std.proofs.Common.{◌≡◌, ℕ, inl, inr, List, [], true, false, Option, Some, subst}
 use Rattle.std.specs.Prelude.{MatchOption}
 use Rattle.std.specs.Bool.{MatchBool}
 use Rattle.std.specs.Option.{option_and_then}
 use Rattle.as4_effects.specs.declared.effect.Effect.{Effect}
 use Rattle.as4_effects.specs.declared.queue.Queue.TheVariants as queue
-use Rattle.as4_values.specs.ModeMatch.{mode_of, channel_mode}
+use Rattle.mode_values.specs.ModeMatch.{mode_of, channel_mode}
 use Rattle.as4_values.specs.declared.header.UserHeader.{UserHeader}
 use Rattle.as4_values.specs.declared.message.Message.{Message}
 use Rattle.as4_values.specs.declared.message.Message.TheVariants as message
-use Rattle.as4_values.specs.declared.mode.Mode.{Mode}
+use Rattle.mode_values.specs.declared.mode.Mode.{Mode}
 use Rattle.as4_values.specs.declared.payload.Payload.{Payload}
 use Rattle.as4_values.specs.declared.signal.Signal.{Signal}
 use Rattle.as4_values.specs.declared.signal_body.SignalBody.{SignalBody}

@@ -1,4 +1,4 @@
--- A new submission has a number and an identifier that none before it has.
+-- A new submission has a number and an identifier that no earlier one has.
 use Rattle.std.proofs.Common.{◌≡◌, ℕ, suc, ◌+◌, ◌<◌, ◌≤◌, List, [], ◌∷◌, Bool, true, false, not, None, length, refl, ap, ◌∙◌, arith}
 use Rattle.std.specs.Str.{bytes_eq}
 use Rattle.std.proofs.lemmas.Bool.{and_from, cond-false, eq-eqb}

@@ -1,4 +1,4 @@
--- The head of a queue is a submission that waits.
+-- The head of a queue is a waiting submission.
 use Rattle.std.proofs.Common.{◌≡◌, ℕ, true, Option, Some, None, option_map, refl, ap, ◌∙◌}
 use Rattle.as4_effects.specs.declared.effect.Effect.TheVariants as effect
 use Rattle.as4_effects.specs.declared.queue.Queue.{Queue}

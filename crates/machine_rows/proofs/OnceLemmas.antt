@@ -1,4 +1,4 @@
--- One error item more: one refusal more at the end, or none.
+-- One more error item: one more refusal at the end, or none.
 use Rattle.std.proofs.Common.{◌≡◌, ℕ, ◌+◌, ◌<◌, List, [], ◌∷◌, ◌++◌, Bool, true, false, cond, eqb, Option, Some, None, option_map, length, get_or, take, map, refl, ap, sym, ◌∙◌, inl, inr}
 use Rattle.std.specs.Prelude.{◌||◌}
 use Rattle.std.specs.List.{filter, filter_map, list_any}
@@ -26,7 +26,7 @@ turned : (a b : ℕ) (v : Bool) → eqb a b ≡ v → eqb b a ≡ v
 turned a b true e = eq-eqb b a (sym (eqb-true a b e))
 turned a b false e = ne_eqb b a (λ same. let f : true ≡ false = sym (eq-eqb a b (sym same)) ∙ e in cc)
 
--- a number stays among those that are left where others go
+-- a number remains when others are removed
 has_left : (n m : ℕ) (refusals : List Rejection) → eqb m n ≡ false → has n (filter (is_other m) refusals) ≡ has n refusals
 has_left n m [] d = refl
 has_left n m (r ∷ refusals) d =
@@ -37,7 +37,7 @@ has_left n m (r ∷ refusals) d =
       | inr e ↦ rw e (ap (λ b. eqb r.number n || b) (has_left n m refusals d))
     ]
 
--- one more behind those, where its number isn't there
+-- one more at the end, if its number isn't there
 abbrev with_one : Rejection → List Rejection → List Rejection
 with_one r refusals = cond (has r.number refusals) refusals (refusals ++ r ∷ [])
 
@@ -80,7 +80,7 @@ once_more [] r = refl
 once_more (q ∷ refusals) r =
     ap (λ (xs : List Rejection). q ∷ filter (is_other q.number) xs) (once_more refusals r) ∙ one_behind q r (once refusals)
 
--- the effects say which numbers are there
+-- the numbers in the effects are those in the refusals
 has_effect : (n : ℕ) (refusals : List Rejection) → list_any (has_number n) (map effect_of refusals) ≡ has n refusals
 has_effect n [] = refl
 has_effect n (r ∷ refusals) = ap (λ b. eqb r.number n || b) (has_effect n refusals)
@@ -110,7 +110,7 @@ one_first : (ref_to : Option (List ℕ)) (sent : List Sent) (i : ℕ) (items : L
 one_first ref_to sent i items d r l e =
     ap once (first_more ref_to sent i items d l ∙ rw e refl) ∙ once_more (first ref_to sent i items) r
 
--- an item that refuses what is refused already
+-- an item that refuses an already refused submission
 had_more : (ref_to : Option (List ℕ)) (sent : List Sent) (i : ℕ) (items : List ErrorItem) (d : ErrorItem) (r : Rejection) → i < length items
     → refusal_of ref_to sent (get_or items i d) ≡ Some r
     → list_any (has_number r.number) (refusals_of ref_to sent (take i items)) ≡ true
@@ -175,7 +175,7 @@ item_refusal : (ref_to : Option (List ℕ)) (sent : List Sent) (items : List Err
 item_refusal ref_to sent items i item effects n next e =
     ap (refusal_of ref_to sent) (sym next.is) ∙ code_by item.severity item.code (option_or item.about ref_to) sent n e
 
--- an item that refuses what is refused already
+-- an item that refuses an already refused submission
 pub refuses_again : (ref_to : Option (List ℕ)) (sent : List Sent) (items : List ErrorItem) (i : ℕ) (item : ErrorItem) (effects : List Effect) (n : ℕ)
     → IsNext ref_to sent items i item effects → Some n ≡ number_of (refusal_of ref_to sent item)
     → list_any (has_number n) effects ≡ true

@@ -1,4 +1,4 @@
--- The rows of what this end's producer, consumer and transport ask.
+-- The rows of the events of this endpoint's producer, consumer and transport.
 use Rattle.std.proofs.Common.{◌≡◌, ℕ, ◌<◌, ◌≤◌, List, [], ◌∷◌, length, Option, Some, None, option_map, refl, ap, sym, ◌∙◌, subst}
 use Rattle.std.specs.Prelude.{MatchOption, slice_get}
 use Rattle.std.specs.List.{count_by}
@@ -10,7 +10,7 @@ use Rattle.as4_effects.specs.declared.queue.Queue.TheVariants as queue
 use Rattle.as4_effects.specs.declared.submission.Submission.{Submission}
 use Rattle.as4_effects.specs.declared.effect.Tick.{Tick}
 use Rattle.as4_values.specs.Identifiers.{submission_id}
-use Rattle.as4_values.specs.declared.mode.Mode.{Mode}
+use Rattle.mode_values.specs.declared.mode.Mode.{Mode}
 use Rattle.as4_values.specs.declared.payload.Load.{Load}
 use Rattle.as4_values.specs.declared.header.UserHeader.{UserHeader}
 use Rattle.as4_values.specs.declared.message.Pair.{Pair}
@@ -46,7 +46,7 @@ a_head P Q (Some s) found number submission e f g q =
     q s (same_Some number s.submission.number e)
     (same_Some submission s.submission (g ∙ ap (option_map (λ (t : Sent). t.submission)) f))
 
--- the one that is asked for has the parts of the submission
+-- the submission that is asked for has these parts
 pushed : (number : ℕ) (submission other : Submission) (address : List ℕ) (what : Message) (outcome : Outcome)
     → Gives (effect.Tried number) (reply.Push address what) outcome
     → address ≡ address_of submission.route → what ≡ message_of submission
@@ -68,7 +68,7 @@ takes_head end number submission address what outcome e f got g a m =
     a_head _ _ (head_of queue.Push end) (sent_at number end.sent) number submission e f got
     (λ s k same. pushed number submission s.submission address what outcome g a m k same)
 
--- Status: what is said of a submission that stands so, but of a refused one
+-- Status: the reply about a submission in this state, unless it is refused
 abbrev pub told : Standing → Reply
 told (standing.Pending tries) = reply.Pending tries
 told standing.Receipted = reply.Receipted
@@ -110,7 +110,7 @@ no_code code_of None e h has = cc
 no_code code_of (Some s) e h has =
     refused_mark ⊥ s.tries s.mark (same_Some (standing_of s.tries s.mark) standing.Refused e) (λ code m. has s code m (sym h))
 
--- what is said of a refused one isn't free: it has the code
+-- the reply about a refused one isn't free: it has the code
 pub refused_speaks : (o found : Option Sent) → Some standing.Refused ≡ option_map (λ (s : Sent). standing_of s.tries s.mark) found
     → found ≡ o → IsBare (standing_reply o) → ⊥
 refused_speaks None found e f bare =

@@ -1,4 +1,4 @@
--- The one effect of a row can stand where it fits.
+-- The one effect of a row can be applied where it fits.
 use Rattle.std.proofs.Common.{◌≡◌, ℕ, suc, ◌≤◌, List, [], ◌∷◌, true, false, not, length, refl, ap, sym, subst, arith}
 use Rattle.std.proofs.lemmas.Bool.{and_from, le-leb, lt-ltb}
 use Rattle.as4_effects.specs.declared.delivery.Delivery.{Delivery}
@@ -26,12 +26,12 @@ pub tick_fits : (tick : Tick) (end : End) → suc end.moment ≤ tick.moment →
 unfolding is_fit
 tick_fits tick end later = lt-ltb end.moment tick.moment (omega arith)
 
--- a message that didn't come before
+-- a message that wasn't received before
 pub delivery_fits : (d : Delivery) (end : End) → is_known d.header.id end.inbox ≡ false → is_fit (effect.Delivered d) end ≡ true
 unfolding is_fit
 delivery_fits d end new = ap not new
 
--- a message of the inbox that wasn't taken over
+-- a message of the inbox that isn't confirmed
 pub confirmation_fits : (upto : ℕ) (end : End) → end.confirmed ≤ upto → suc upto ≤ length end.inbox
     → is_fit (effect.Confirmed upto) end ≡ true
 unfolding is_fit

@@ -1,4 +1,4 @@
--- What a pull request gives behind the receipt with which it is bundled.
+-- The outcome of a pull request after the receipt that it is bundled with.
 use Rattle.std.specs.Prelude.{◌≡◌, ℕ, List, [], ◌∷◌, Option, Some, None}
 use Rattle.as4_codes.specs.Signals.{IsErrorSignalOf}
 use Rattle.as4_effects.specs.declared.effect.Effect.TheVariants as effect
@@ -14,13 +14,13 @@ use Rattle.exchange_model.specs.declared.outcome.Outcome.{Outcome}
 use Rattle.exchange_model.specs.declared.reply.Reply.TheVariants as reply
 use Rattle.exchange_model.specs.declared.sent.Sent.{Sent}
 
--- the submission of this number is receipted, and the channel is empty then
+-- the submission of this number is receipted, and then the channel is empty
 abbrev pub IsEmptyBehind : Event → List ℕ → ℕ → Outcome → Type 0
 IsEmptyBehind event id number outcome =
     (signal : Signal) × IsErrorSignalOf 6 (Some id) event.stamp event.nonce signal
     × Gives (effect.Receipted number) (reply.Answer (message.Signal signal)) outcome
 
--- it is receipted, and the head that the channel has then is sent
+-- it is receipted, and then the head of the channel is sent
 abbrev pub IsServedBehind : Event → List ℕ → ℕ → Option Sent → Outcome → Type 0
 IsServedBehind event id number None outcome = IsEmptyBehind event id number outcome
 IsServedBehind event id number (Some s) outcome =

@@ -1,10 +1,10 @@
--- Outcomes that need no memory: nothing changes, and the reply has no text and no message in it.
+-- Outcomes that need no memory: nothing changes, and the reply has no text and no message.
 use Rattle.std.specs.Prelude.{◌≡◌, []}
 use Rattle.exchange_model.specs.declared.outcome.Outcome.{Outcome}
 use Rattle.exchange_model.specs.declared.reply.Reply.{Reply}
 use Rattle.exchange_model.specs.declared.reply.Reply.TheVariants as reply
 
--- what was asked for can't be had, or its answer is a number
+-- the reply is a refusal, a state or a number; not `Quiet`, `Confirmed`, `Full` or `Stopped`
 abbrev pub IsBare : Reply → Type 0
 IsBare reply.NoMode = Unit {0}
 IsBare reply.OutboxFull = Unit {0}

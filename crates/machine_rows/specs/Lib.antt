@@ -1,3 +1,4 @@
+-- The specs of machine_rows.
 pub mod Bundled
 pub mod Free
 pub mod Naming

@@ -1,4 +1,4 @@
-//! What an end has to send is asked for (One-Way/Push and One-Way/Pull, ebMS 3.0 Core, section 2.2).
+//! The events that ask an endpoint for something to send (One-Way/Push and One-Way/Pull, ebMS 3.0 Core, section 2.2).
 ghost use Rattle.std.specs.Prelude.{◌≡◌, [], IfOk, IsOk};
 ghost use Rattle.as4_codes.specs.Signals.{IsPairOf};
 ghost use Rattle.as4_values.specs.declared.message.Pair.{Pair as PairValue};
@@ -59,7 +59,7 @@ fn push_of(alloc: Global, submission: &Submission) -> Result<Reply, NoMemory>
     }
 }
 
-/// Where messages of the route are sent to.
+/// The address that messages of the route are sent to.
 fn address_of(route: &Route) -> &Text
     ensures { result.now ≡ address_of route.now }
 {
@@ -152,7 +152,7 @@ fn ask_with_by(
     }
 }
 
-/// The request for a channel's next message, with the receipt of this header.
+/// The request for a channel's next message, with the receipt for this header.
 fn request_with(
     alloc: Global,
     header: &UserHeader,

@@ -1,15 +1,16 @@
-//! A receipt comes, bundled with the next pull request (ebMS 3.0 Core, section 5.2.1, on several units in one message):
+//! A receipt is received, bundled with the next pull request (ebMS 3.0 Core, section 5.2.1, on several units in one
+//! message):
 //!
 //!     the receipt gives an error       that error
 //!     no mode names the channel        an error; the receipt settles nothing
 //!     the submission is settled        the pull request's row
-//!     the submission is pending        it is receipted, and the head that the channel has then is sent, or an error
-//!                                      says that there is none
+//!     the submission is pending        it is receipted, and then the head of the channel is sent, or an error if the
+//!                                      channel is empty
 //!
-//! `EndTables::submitted` is called where a proof needs what it says besides: that each submission stands at its number.
+//! The calls of `EndTables::submitted` are for its contract: each submission is at the place of its number.
 ghost use Rattle.std.specs.Prelude.{◌≡◌, ◌∷◌, [], IfOk, IfSome, IsSome, IsTrue, is_some};
 ghost use Rattle.as4_effects.specs.declared.effect.Effect.TheVariants.{Receipted, Tried};
-ghost use Rattle.as4_values.specs.ModeMatch.{channel_mode};
+ghost use Rattle.mode_values.specs.ModeMatch.{channel_mode};
 ghost use Rattle.end_tables.specs.Standing.{CanStand};
 ghost use Rattle.exchange_model.specs.Apply.{is_fit};
 ghost use Rattle.exchange_model.specs.Questions.{sent_at};
@@ -27,7 +28,7 @@ use exchange_model::{Event, Outcome, Reply};
 use pmodes::Modes;
 use std::alloc::Global;
 
-/// The rows of a pair that comes.
+/// The rows of a pair that is received.
 pub fn pair(
     alloc: Global,
     modes: &Modes,
@@ -63,7 +64,7 @@ fn is_named(modes: &Modes, mpc: &Text) -> bool
     modes.channel(mpc).is_some()
 }
 
-/// The submission of this number is receipted, and the pull request is served behind that.
+/// The submission of this number is receipted, and then the pull request is served.
 fn behind(
     alloc: Global,
     tables: &EndTables,
@@ -84,7 +85,7 @@ fn behind(
     }
 }
 
-/// It is receipted, and the channel is empty then.
+/// It is receipted, and then the channel is empty.
 fn empty_behind(
     alloc: Global,
     event: &Event,
@@ -110,7 +111,7 @@ fn empty_behind(
     }
 }
 
-/// It is receipted, and the head of the channel is the answer.
+/// It is receipted, and the answer is the head of the channel.
 fn send_behind(
     alloc: Global,
     tables: &EndTables,

@@ -1,4 +1,4 @@
-//! A message of the other end comes.
+//! The messages of the other endpoint.
 ghost use Rattle.std.specs.Prelude.{◌≡◌, ◌↔◌, Some, IfOk, IfErr, IfSome, IsSome, IsTrue, option_map};
 ghost use Rattle.exchange_model.specs.Coming.{is_deliverable};
 ghost use Rattle.exchange_model.specs.Table.{UserComes, Delivers, Gives, PullComes, ReceiptComes, Settles, SignalComes, IsOther, message_of};
@@ -21,7 +21,7 @@ use exchange_model::{Event, Outcome, Reply};
 use pmodes::Modes;
 use std::alloc::Global;
 
-/// The row of a user message that comes.
+/// The row of a user message that is received.
 #[tactic(auto, unfolding(exchange_model::specs::Table::UserComes))]
 pub fn user(
     alloc: Global,
@@ -44,7 +44,7 @@ pub fn user(
     deliver(alloc, event, header, payloads)
 }
 
-/// A message that came for the first time is delivered.
+/// Delivers a message that is received for the first time.
 #[tactic(auto, unfolding(exchange_model::specs::Coming::is_deliverable))]
 fn deliver(
     alloc: Global,
@@ -77,7 +77,7 @@ fn deliver(
     }
 }
 
-/// The rows of a signal that comes.
+/// The rows of a signal that is received.
 pub fn signal(
     alloc: Global,
     modes: &Modes,
@@ -103,7 +103,7 @@ pub fn signal(
     }
 }
 
-/// The row of a pull request that comes.
+/// The row of a pull request that is received.
 #[tactic(auto, unfolding(exchange_model::specs::Table::PullComes))]
 pub fn pull(
     alloc: Global,
@@ -125,7 +125,7 @@ pub fn pull(
     }
 }
 
-/// The number of the first that waits in the channel.
+/// The number of the head of the channel.
 fn head(alloc: Global, tables: &EndTables, mpc: &Text) -> Result<Option<u64>, NoMemory>
     ensures value { IfOk result (λ head. head ≡ option_map (λ s. s.submission.number) (head_of (Queue.Channel mpc.now) tables.now.end)) }
     ensures found { IfOk result (λ head. IfSome head (λ number.
@@ -135,7 +135,7 @@ fn head(alloc: Global, tables: &EndTables, mpc: &Text) -> Result<Option<u64>, No
     Ok(tables.head(&queue))
 }
 
-/// The submission of this number is the answer.
+/// Answers with the message of the submission of this number.
 fn send(alloc: Global, tables: &EndTables, number: u64) -> Result<Outcome, NoMemory>
     requires { IsSome (sent_at number tables.now.end.sent) }
     ensures { IfOk result (λ outcome. IfSome (sent_at number tables.now.end.sent) (λ s.
@@ -149,7 +149,7 @@ fn send(alloc: Global, tables: &EndTables, number: u64) -> Result<Outcome, NoMem
     Ok(gives(room, Effect::Tried { number }, Reply::Answer(message)))
 }
 
-/// The row of a receipt that comes.
+/// The row of a receipt that is received.
 #[tactic(auto, using(crate::proofs::ComingRows::refused_comes, crate::proofs::ComingRows::settled_comes, crate::proofs::ComingRows::refused_is_known))]
 fn receipt_of(
     alloc: Global,
@@ -201,7 +201,7 @@ fn named(tables: &EndTables, ref_to: &Option<MessageId>) -> Option<u64>
     }
 }
 
-/// Whether a copy is there that isn't this header.
+/// Whether there is a copy, and it isn't this header.
 fn is_other(copy: &Option<UserHeader>, header: &UserHeader) -> bool
     ensures { IsTrue result ↔ IsOther copy.now header.now }
 {
@@ -211,7 +211,7 @@ fn is_other(copy: &Option<UserHeader>, header: &UserHeader) -> bool
     }
 }
 
-/// The receipt of a submission came.
+/// The receipt for a submission was received.
 fn settle(alloc: Global, tables: &EndTables, number: u64) -> Result<Outcome, NoMemory>
     requires { IsSome (sent_at number tables.now.end.sent) }
     ensures row { IfOk result (λ outcome. IfSome (sent_at number tables.now.end.sent) (λ s. Settles s outcome)) }

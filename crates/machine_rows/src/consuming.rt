@@ -1,4 +1,4 @@
-//! The consumer and the producer at this end ask.
+//! The events of this endpoint's consumer, and `Status`, an event of its producer.
 ghost use Rattle.std.specs.Prelude.{◌≡◌, [], IfOk, IsOk, Some, option_map};
 ghost use Rattle.exchange_model.specs.Questions.{sent_at, sent_of, standing_of};
 ghost use Rattle.exchange_model.specs.Table.{Confirms, Rests, read_reply, standing_reply};
@@ -82,7 +82,7 @@ fn standing_reply(alloc: Global, tables: &EndTables, id: &MessageId) -> Result<R
     }
 }
 
-/// The error that the other end refused the submission with.
+/// The error with which the other endpoint refused the submission.
 fn refused(alloc: Global, tables: &EndTables, number: u64) -> Result<Reply, NoMemory>
     requires { option_map (λ s. standing_of s.tries s.mark) (sent_at number tables.now.end.sent) ≡ Some Standing.Refused }
     ensures { IfOk result (λ reply. reply ≡ standing_reply (sent_at number tables.now.end.sent)) }

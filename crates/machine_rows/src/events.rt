@@ -1,4 +1,4 @@
-//! Each event has its rows.
+//! The row of each event.
 ghost use Rattle.std.specs.Prelude.{◌≡◌, IfOk, IsOk, IsTrue};
 ghost use Rattle.end_tables.specs.Standing.{CanStand};
 ghost use Rattle.exchange_model.specs.Coming.{may_come};
@@ -13,8 +13,8 @@ use exchange_model::{Event, Outcome, What};
 use pmodes::Modes;
 use std::alloc::Global;
 
-/// The row of an event at an end with these modes and tables, the journal's limit left aside. Its effects can be carried
-/// out there.
+/// The row of an event at an endpoint with these modes and tables, without regard to the journal's limit. Its effects
+/// can be applied there.
 pub fn row_of(
     alloc: Global,
     modes: &Modes,
@@ -24,7 +24,7 @@ pub fn row_of(
     ensures row { IfOk result (RowOf modes.now tables.now.end event.now event.now.what) }
     ensures stands { IfOk result (λ outcome. CanStand tables.now.end outcome.effects) }
 
-    // Where the row needs no memory, want of memory isn't told in its place.
+    // If the row needs no memory, the result isn't out of memory.
     ensures free { (row : OutcomeValue) → RowOf modes.now tables.now.end event.now event.now.what row → IsFree row → IsOk result }
 {
     match &event.what {
@@ -44,7 +44,7 @@ pub fn row_of(
     }
 }
 
-/// The row of a message that comes.
+/// The row of a message that is received.
 #[tactic(auto, unfolding(exchange_model::specs::Coming::may_come))]
 fn row_of_message(
     alloc: Global,

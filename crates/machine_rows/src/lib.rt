@@ -1,4 +1,4 @@
-//! What one end does with each event, row by row of the machine's table: what it changes, and what it says.
+//! What one endpoint does with each event, row by row of the machine's table: its effects and its reply.
 #![tactic(auto)]
 
 mod asking;

@@ -1,10 +1,10 @@
-//! An error signal comes: which submissions it refuses (ebMS 3.0 Core, section 6.2).
+//! Which submissions an error signal refuses (ebMS 3.0 Core, section 6.2).
 //!
-//!     a failure  that names a pending submission, by its own reference, else by the signal's, refuses it,
-//!                unless an item before it does
+//!     a failure  names a message by its own reference, else by the signal's; it refuses the pending submission with
+//!                this message, unless an earlier item does
 //!     a warning  refuses none
 //!
-//! `EndTables::submitted` is called where a proof needs what it says besides: that each submission stands at its number.
+//! The calls of `EndTables::submitted` are for its contract: each submission is at the place of its number.
 
 ghost use Rattle.std.specs.Prelude.{◌≡◌, ◌≤◌, IfOk, length, option_copied, option_map};
 ghost use Rattle.std.specs.List.{list_any};
@@ -18,8 +18,8 @@ use as4_values::{ErrorItem, MessageId, NoMemory, PlainData, Seq, Severity};
 use end_tables::EndTables;
 use std::alloc::Global;
 
-/// What the items of an error signal that refers to this message change: a refusal of each pending
-/// submission that a failure names, with the code of the first that does, in the order of these items.
+/// The effects of the items of an error signal that refers to this message: a refusal of each pending submission that a
+/// failure names, with the code of the first such failure, in the order of the items.
 pub fn refusals_of(
     alloc: Global,
     tables: &EndTables,

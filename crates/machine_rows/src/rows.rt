@@ -50,7 +50,7 @@ pub fn errs(alloc: Global, code: u16, about: &MessageId, event: &Event) -> Resul
     Ok(rests(alloc, Reply::Answer(Message::Signal(signal))))
 }
 
-/// A receipt of a message that came before, and no effect.
+/// A receipt for a message that was received before, and no effect.
 pub fn receipts(alloc: Global, header: &UserHeader, event: &Event) -> Result<Outcome, NoMemory>
     ensures { IfOk result (Receipts header.now [] event.now) }
 {

@@ -1,4 +1,4 @@
-//! A message is handed in to be sent, and the clock is set.
+//! The events `Submit` and `Tick`.
 ghost use Rattle.std.specs.Prelude.{◌≡◌, ◌<◌, IfOk, IsOk, false, length};
 ghost use Rattle.exchange_model.specs.Submitting.{are_too_large};
 ghost use Rattle.exchange_model.specs.Table.{Submits, TakesIn, Ticks};
@@ -8,14 +8,15 @@ ghost use Rattle.machine_rows.specs.Free.{IsFree};
 
 use crate::rows::{gives, rests, room_for_one};
 use as4_effects::{Effect, Tick};
-use as4_values::{Load, MessageId, Mode, NoMemory, Seq, Text};
+use as4_values::{Load, MessageId, NoMemory, Seq, Text};
 use end_tables::EndTables;
 use exchange_model::{Event, Outcome, Reply};
+use mode_values::Mode;
 use pmodes::Modes;
 use std::alloc::Global;
 use submissions::{Intake, are_too_large, submission};
 
-/// How many submissions an end has at most.
+/// The most submissions of an endpoint.
 const MAX_SUBMISSIONS: u64 = 1_048_576;
 
 /// The row of `Submit`.
@@ -46,7 +47,7 @@ pub fn submit(
     take_in(alloc, mode, tables, event, conversation, loads)
 }
 
-/// The message is taken in.
+/// Accepts the message.
 fn take_in(
     alloc: Global,
     mode: &Mode,

@@ -1,4 +1,4 @@
-//! Pairs of a receipt and a pull request: as they come, and as they are asked for.
+//! Pairs of a receipt and a pull request: as received, and as requested.
 ghost use Rattle.std.specs.Prelude.{IfSome, IsTrue};
 ghost use Rattle.as4_values.specs.SignalParts.{is_receipt, is_pull};
 
@@ -52,22 +52,22 @@ enum Given {
     Tried(u64),
 }
 
-/// The answer to a pair.
+/// The reply to a pair.
 #[derive(Clone, Copy)]
 enum Answered {
     /// The message of this submission.
     User(u64),
-    /// An error of this code, about the receipt.
+    /// An error with this code, about the receipt.
     AboutReceipt(&'static [u8]),
     /// The same, about the pull request.
     AboutPull(&'static [u8]),
 }
 
-/// A pair that comes at an end, and what it gives.
+/// A pair that an endpoint receives, and its outcome.
 #[derive(Clone, Copy)]
 struct Case {
     before: &'static [Change],
-    /// The submission whose receipt comes; where there is none, it refers to `none@x`.
+    /// The submission whose receipt arrives; if there is none, the receipt refers to `none@x`.
     receipted: Option<u64>,
     copied: Copied,
     channel: &'static [u8],
@@ -83,7 +83,7 @@ const ONE_SENT: &[Change] = &[
     Change::Tried(0),
 ];
 
-/// The same, and both were.
+/// The same, and both were sent.
 const BOTH_SENT: &[Change] = &[
     Change::Waits(0),
     Change::Waits(1),
@@ -102,7 +102,7 @@ const CASES: [Case; 13] = [
         effects: &[Given::Receipted(0), Given::Tried(1)],
         answer: Answered::User(1),
     },
-    // A receipt without a copy counts.
+    // A receipt without a copy is valid.
     Case {
         before: ONE_SENT,
         receipted: Some(0),
@@ -120,7 +120,7 @@ const CASES: [Case; 13] = [
         effects: &[Given::Receipted(0)],
         answer: Answered::AboutPull(b"EBMS:0006"),
     },
-    // The one that is receipted was the head: the next one is sent.
+    // The receipted one was the head: the next one is sent.
     Case {
         before: &[Change::Waits(0), Change::Waits(1), Change::Ticked(1000)],
         receipted: Some(0),
@@ -129,7 +129,7 @@ const CASES: [Case; 13] = [
         effects: &[Given::Receipted(0), Given::Tried(1)],
         answer: Answered::User(1),
     },
-    // It was the head, and the only one.
+    // The receipted one was the head, and the only one.
     Case {
         before: &[Change::Waits(0), Change::Ticked(1000)],
         receipted: Some(0),
@@ -138,7 +138,7 @@ const CASES: [Case; 13] = [
         effects: &[Given::Receipted(0)],
         answer: Answered::AboutPull(b"EBMS:0006"),
     },
-    // The receipt of one that was pushed comes.
+    // The receipt is for one that was pushed.
     Case {
         before: &[Change::Submitted(0), Change::Waits(1), Change::Ticked(1000)],
         receipted: Some(0),
@@ -197,7 +197,7 @@ const CASES: [Case; 13] = [
         effects: &[],
         answer: Answered::AboutPull(b"EBMS:0001"),
     },
-    // The receipt's error goes first.
+    // The receipt's error takes precedence.
     Case {
         before: ONE_SENT,
         receipted: None,
@@ -206,7 +206,7 @@ const CASES: [Case; 13] = [
         effects: &[],
         answer: Answered::AboutReceipt(b"EBMS:0003"),
     },
-    // A late receipt, and a channel that no mode names.
+    // The receipt is late, and no mode names the channel.
     Case {
         before: &[Change::Waits(0), Change::Ticked(1000), Change::Receipted(0)],
         receipted: Some(0),
@@ -217,7 +217,7 @@ const CASES: [Case; 13] = [
     },
 ];
 
-/// Makes the changes in the tables.
+/// Applies the changes to the tables.
 fn acts(alloc: Global, tables: &mut EndTables, changes: &[Change]) -> Option<()> {
     let effects = effects_of(alloc, changes)?;
     for effect in effects.into_vec() {
@@ -233,7 +233,7 @@ fn id_of(alloc: Global, number: Option<u64>) -> Option<MessageId> {
     }
 }
 
-/// The copy, where there is one.
+/// The copy, if there is one.
 fn copy_of(alloc: Global, case: &Case) -> Option<Option<UserHeader>> {
     match (case.copied, case.receipted) {
         (Copied::TheHeader, Some(number)) => Some(Some(header_of(alloc, number)?)),
@@ -309,7 +309,7 @@ fn pair_of(alloc: Global, case: &Case) -> Option<Pair> {
     }
 }
 
-/// What the end with these tables gives to an event.
+/// The outcome of an event at the endpoint with these tables.
 fn outcome_of(alloc: Global, tables: &EndTables, event: &Event) -> Option<Outcome> {
     match Modes::read(alloc, MODES) {
         Ok(modes) => {
@@ -324,7 +324,7 @@ fn outcome_of(alloc: Global, tables: &EndTables, event: &Event) -> Option<Outcom
     }
 }
 
-/// What the end gives to the pair of the case.
+/// The outcome of the case's pair at the endpoint.
 #[tactic(auto, unfolding(exchange_model::specs::Coming::may_come))]
 fn outcome_of_case(alloc: Global, tables: &EndTables, case: &Case) -> Option<Outcome> {
     let event = Event {
@@ -357,7 +357,7 @@ fn are_given(effects: &[Effect], given: &[Given]) -> bool {
     true
 }
 
-/// Whether it is an error signal of one item, of this code, that is about this message.
+/// Whether it is an error signal with one item, which has this code and is about this message.
 fn is_error(signal: &Signal, code: &[u8], about: &[u8]) -> bool {
     let SignalBody::Errors { items } = &signal.body else {
         return false;
@@ -373,7 +373,7 @@ fn is_item(item: &ErrorItem, code: &[u8], about: &[u8]) -> bool {
     item.code.bytes() == code && matches!(&item.about, Some(id) if id.bytes() == about)
 }
 
-/// Whether the header is that of the submission of this number.
+/// Whether the header is that of the submission with this number.
 fn is_of(alloc: Global, header: &UserHeader, number: u64) -> Option<bool> {
     let id = MessageId::of_submission(alloc, number, 1).ok()?;
     Some(header.id.same(&id))
@@ -394,7 +394,7 @@ fn is_answered(alloc: Global, reply: &Reply, answer: Answered) -> Option<bool> {
     }
 }
 
-/// Whether the case has its effects and its answer at an end with these tables.
+/// Whether the case has its effects and its reply at an endpoint with these tables.
 fn is_right_at(alloc: Global, tables: &EndTables, case: &Case) -> Option<bool> {
     let outcome = outcome_of_case(alloc, tables, case)?;
     let given = are_given(outcome.effects.items(), case.effects);
@@ -413,7 +413,7 @@ fn is_right(alloc: Global, case: &Case) -> Option<bool> {
     right
 }
 
-/// The place of the first pair that gives something else.
+/// The index of the first pair with another outcome.
 fn first_other(alloc: Global) -> Option<usize> {
     for (at, case) in CASES.iter().enumerate() {
         if is_right(alloc, case) != Some(true) {
@@ -428,27 +428,27 @@ fn each_pair_has_its_effects_and_its_answer(rt: HostRuntime) {
     assert_eq!(rt; first_other(rt.alloc()), None);
 }
 
-/// What is said where a pair is asked for.
+/// The reply to a request for a pair.
 #[derive(Clone, Copy, PartialEq, Eq)]
 enum Asked {
     NoMode,
     Gone,
     NoEntry,
     /// The request goes to `http://h/` and asks for the channel `c`; its receipt refers to the message of the first
-    /// submission and has a copy of its header; and whether the pull request is named by the nonce and the receipt by
-    /// the next one.
+    /// submission, and has a copy of its header. The flag says whether the nonce names the pull request, and the next
+    /// one the receipt.
     Pair(bool),
     Other,
 }
 
-/// A message that came, one that was taken over, and both.
+/// A delivered message, a confirmed one, and both.
 const CAME: &[Change] = &[Change::Delivered];
 
 const TAKEN_OVER: &[Change] = &[Change::Delivered, Change::Confirmed(0)];
 
 const KEPT_AND_CAME: &[Change] = &[Change::Kept(7), Change::Delivered];
 
-/// What happened, the mode and the number of the message, and what is said.
+/// What happened, the mode and the number of the message, and the reply.
 const REQUESTS: [(&[Change], &[u8], u64, Asked); 8] = [
     (CAME, b"pulled", 0, Asked::Pair(true)),
     (CAME, b"pulled", 1, Asked::NoEntry),
@@ -460,7 +460,7 @@ const REQUESTS: [(&[Change], &[u8], u64, Asked); 8] = [
     (KEPT_AND_CAME, b"pulled", 1, Asked::Pair(true)),
 ];
 
-/// A nonce, and the identifiers that are made of it and of the next one.
+/// A nonce, and the identifiers for it and for the next one.
 type Named = (u128, &'static [u8], &'static [u8]);
 
 const NAMED: [Named; 2] = [
@@ -517,7 +517,7 @@ fn told_of(alloc: Global, outcome: &Outcome, named: Named) -> Option<Asked> {
     }
 }
 
-/// What is said at an end with these tables.
+/// The reply at an endpoint with these tables.
 #[tactic(auto, unfolding(exchange_model::specs::Coming::may_come))]
 fn asks_at(alloc: Global, tables: &EndTables, mode: &[u8], n: u64, named: Named) -> Option<Asked> {
     let event = Event {
@@ -550,7 +550,7 @@ fn asks(alloc: Global, before: &[Change], mode: &[u8], n: u64, named: Named) -> 
     asked
 }
 
-/// The place of the first request that is answered in another way with this nonce.
+/// The index of the first request with another reply for this nonce.
 fn first_other_request(alloc: Global, named: Named) -> Option<usize> {
     for (at, (before, mode, n, wanted)) in REQUESTS.iter().enumerate() {
         if asks(alloc, before, mode, *n, named) != Some(*wanted) {

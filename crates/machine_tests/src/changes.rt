@@ -1,4 +1,4 @@
-//! Effects without their texts.
+//! Effects in a short form, without their texts.
 
 use as4_effects::{Effect, Mark, Submission, Tick};
 use as4_values::{MAX_MOMENT, Seq};
@@ -8,18 +8,19 @@ use std::alloc::Global;
 /// One effect.
 #[derive(Clone, Copy)]
 pub enum Change {
-    /// The submission of this number is pushed, and sent again three times.
+    /// The submission of this number, to be pushed with three retries.
     Submitted(u64),
-    /// The same, which waits in the channel `c`.
+    /// The same, to be pulled from the channel `c`.
     Waits(u64),
-    /// The clock was set.
+    /// The clock is set.
     Ticked(u64),
     Tried(u64),
-    /// The message of the first submission came.
+    /// The message of the first submission is delivered.
     Delivered,
     Receipted(u64),
     Confirmed(u64),
-    /// The submission of this number is carried over that was sent so often, the last time at this moment, and is pending.
+    /// The submission of this number is carried over after this number of tries, the last at this moment, and is
+    /// pending.
     Carried(u64, u32, u64),
     /// The same, receipted.
     CarriedReceipted(u64, u32, u64),

@@ -1,4 +1,4 @@
-//! Tests of `machine_rows` and `msh_core`, by what they make public.
+//! Tests of the public interfaces of `machine_rows` and `msh_core`.
 #![tactic(auto)]
 
 #[cfg(test)]

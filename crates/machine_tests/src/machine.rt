@@ -1,3 +1,4 @@
+//! Exchanges between two endpoints, step by step.
 mod arrivals;
 mod filling;
 mod folded;
@@ -12,12 +13,12 @@ use rig::right_steps;
 use std::alloc::{AllocError, Global};
 use steps::{End, Said, Step};
 
-/// What happens at one of two ends, and what it says.
+/// A step at one of two endpoints, and its reply.
 type Happens = (End, Step, Said);
 
 type Steps = &'static [Happens];
 
-/// A message that comes again is answered again, and delivered once.
+/// A repeated message gets another receipt, and is delivered once.
 const A_REPEAT: Steps = &[
     (End::A, Step::Submit("invoice"), Said::Submitted(0)),
     (End::A, Step::Take, Said::Push),
@@ -30,7 +31,7 @@ const A_REPEAT: Steps = &[
     (End::B, Step::Size, Said::Count(306)),
 ];
 
-/// A message is taken over once, and not before it came; its repeat isn't delivered anew.
+/// A message is confirmed once, and only after its delivery; its repeat isn't delivered again.
 const TAKEN_OVER: Steps = &[
     (End::A, Step::Submit("invoice"), Said::Submitted(0)),
     (End::A, Step::Take, Said::Push),
@@ -46,7 +47,7 @@ const TAKEN_OVER: Steps = &[
     (End::B, Step::Read(0), Said::Gone),
 ];
 
-/// Ticks and confirmations do without memory what they do with it.
+/// Ticks and confirmations have the same effect with and without memory.
 const LIGHTLY: Steps = &[
     (End::A, Step::Submit("once"), Said::Submitted(0)),
     (End::A, Step::Take, Said::Push),
@@ -61,7 +62,7 @@ const LIGHTLY: Steps = &[
     (End::A, Step::Tick(1000), Said::Ticked(0)),
 ];
 
-/// What no mode takes, and what is too large, is said at once and changes nothing.
+/// A submission that fits no mode or is too large is refused at once, and changes nothing.
 const NOT_TAKEN: Steps = &[
     (End::A, Step::Submit("none"), Said::NoMode),
     (End::A, Step::Ask("none"), Said::NoMode),
@@ -71,7 +72,7 @@ const NOT_TAKEN: Steps = &[
     (End::A, Step::Size, Said::Count(9)),
 ];
 
-/// A message for which there is no mode is refused, and not delivered.
+/// A message without a mode is refused, and isn't delivered.
 const NO_MODE: Steps = &[
     (End::A, Step::Submit("invoice"), Said::Submitted(0)),
     (End::A, Step::Take, Said::Push),
@@ -88,7 +89,7 @@ const NO_CHANNEL: Steps = &[
     (End::A, Step::Size, Said::Count(9)),
 ];
 
-/// What waits in a channel is pulled in order, and again once it is due.
+/// The messages of a channel are pulled in order, and again once they are due.
 const PULLS: Steps = &[
     (End::A, Step::Ask("pulled"), Said::Request),
     (End::A, Step::Ask("once"), Said::NoMode),
@@ -102,7 +103,7 @@ const PULLS: Steps = &[
     (End::A, Step::Receipts, Said::Count(0)),
 ];
 
-/// What gets no receipt in time is given up, and a late receipt changes nothing.
+/// A submission without a receipt in time expires, and a late receipt changes nothing.
 const A_LOST_RECEIPT: Steps = &[
     (End::A, Step::Submit("once"), Said::Submitted(0)),
     (End::A, Step::Take, Said::Push),
@@ -115,7 +116,7 @@ const A_LOST_RECEIPT: Steps = &[
     (End::A, Step::Status, Said::Failed),
 ];
 
-/// A receipt counts where it names the submission and has no copy of another header.
+/// A receipt is valid if it names the submission and has no copy of another header.
 const RECEIPTS: Steps = &[
     (End::A, Step::Submit("invoice"), Said::Submitted(0)),
     (End::A, Step::Take, Said::Push),
@@ -127,7 +128,7 @@ const RECEIPTS: Steps = &[
     (End::A, Step::Status, Said::Receipted),
 ];
 
-/// A failure refuses the submission that it is about, and a warning none.
+/// A failure refuses the submission that it names, and a warning doesn't.
 const ERRORS: Steps = &[
     (End::A, Step::Submit("invoice"), Said::Submitted(0)),
     (End::A, Step::Take, Said::Push),
@@ -137,8 +138,8 @@ const ERRORS: Steps = &[
     (End::A, Step::Status, Said::Refused),
 ];
 
-/// A receipt goes with the next pull request: of what came in first. Both of its effects stand in one record; where it
-/// comes again, it settles nothing and gives what is due.
+/// The next pull request carries the receipt of the message that was delivered first. One record holds both effects. A
+/// repeated pair settles nothing, and gets the message that is due.
 const PAIRS: Steps = &[
     (End::A, Step::Submit("pulled"), Said::Submitted(0)),
     (End::A, Step::Submit("pulled"), Said::Submitted(1)),
@@ -181,7 +182,7 @@ const EXCHANGES: [Steps; 11] = [
     ERRORS,
 ];
 
-/// The place of the first exchange with a step that has another reply.
+/// The index of the first exchange with another reply.
 fn first_other(alloc: Global) -> Option<usize> {
     for (at, steps) in EXCHANGES.iter().enumerate() {
         if right_steps(alloc, steps) != steps.len() {
@@ -191,16 +192,16 @@ fn first_other(alloc: Global) -> Option<usize> {
     None
 }
 
-/// Each end says to each step what it should.
+/// Each step has the expected reply.
 #[test]
 fn each_step_has_its_reply(rt: HostRuntime) {
     assert_eq!(rt; first_other(rt.alloc()), None);
 }
 
-/// A submission that is sent again each millisecond.
+/// A submission with a retry each millisecond.
 const BEFORE_ALL_TRIES: Steps = &[(End::A, Step::Submit("often"), Said::Submitted(0))];
 
-/// Its last try was its 1,001st, and a receipt comes.
+/// Its last try was its 1,001st, and then a receipt arrives.
 const AFTER_ALL_TRIES: Steps = &[
     (End::A, Step::Status, Said::Pending(1001)),
     (End::A, Step::Receipt, Said::Quiet),
@@ -208,7 +209,7 @@ const AFTER_ALL_TRIES: Steps = &[
     (End::A, Step::Tick(1001), Said::Ticked(0)),
 ];
 
-/// It is tried at this moment, and not twice.
+/// The submission is tried at this moment, and only once.
 fn try_at(moment: u64) -> [Happens; 3] {
     [
         (End::A, Step::Tick(moment), Said::Ticked(0)),
@@ -217,7 +218,7 @@ fn try_at(moment: u64) -> [Happens; 3] {
     ]
 }
 
-/// Adds 1,001 tries, with what comes before and after them.
+/// Adds 1,001 tries, and the steps before and after them.
 fn add_all_tries(steps: &mut Vec<Happens>) -> Result<(), AllocError> {
     steps.extend_from_slice(BEFORE_ALL_TRIES)?;
     for moment in 0..=1000 {
@@ -226,7 +227,7 @@ fn add_all_tries(steps: &mut Vec<Happens>) -> Result<(), AllocError> {
     steps.extend_from_slice(AFTER_ALL_TRIES)
 }
 
-/// How many of these steps have their replies.
+/// The number of leading steps with the right reply.
 fn right_tries(alloc: Global) -> Option<usize> {
     let mut steps = Vec::new(alloc);
     let right = match add_all_tries(&mut steps) {
@@ -237,13 +238,13 @@ fn right_tries(alloc: Global) -> Option<usize> {
     right
 }
 
-/// It is sent 1,001 times, and its receipt still counts.
+/// The submission is sent 1,001 times, and its receipt is still valid.
 #[test]
 fn all_tries_are_spent(rt: HostRuntime) {
     assert_eq!(rt; right_tries(rt.alloc()), Some(3008));
 }
 
-/// In a full journal nothing has room but what just fits, and all that needs no record is as before.
+/// A full journal takes only a record that just fits. Steps that need no record behave as before.
 const A_FULL_JOURNAL: Steps = &[
     (End::B, Step::Submit("once"), Said::Submitted(0)),
     (End::B, Step::Take, Said::Push),
@@ -276,7 +277,7 @@ fn a_full_journal_changes_nothing(rt: HostRuntime) {
     );
 }
 
-/// Each event costs the logarithm of what stands: over lists that are searched this would take an hour.
+/// An event takes logarithmic time; if it searched lists, this would take an hour.
 #[test]
 fn two_hundred_thousand_are_exchanged(rt: HostRuntime) {
     assert_eq!(rt; exchanged(rt.alloc(), 200_000), Some((200_000, 200_000)));

@@ -1,3 +1,4 @@
+//! Error signals, and the submissions that they refuse.
 use as4_effects::Effect;
 use as4_values::{Code, ErrorItem, MessageId, Seq, Severity};
 use end_tables::EndTables;
@@ -5,7 +6,7 @@ use machine_rows::refusals_of;
 use made_messages::{act, submission};
 use std::alloc::Global;
 
-/// Takes in the submission of this number.
+/// Adds the submission of this number.
 fn takes_in(alloc: Global, tables: &mut EndTables, number: u64) -> Option<()> {
     match submission(alloc, number, 1) {
         Some(submission) => act(tables, Effect::Submitted(submission)),
@@ -13,7 +14,7 @@ fn takes_in(alloc: Global, tables: &mut EndTables, number: u64) -> Option<()> {
     }
 }
 
-/// Takes in two submissions, of which the first is receipted where that is asked for.
+/// Adds two submissions, the first of which may be receipted.
 fn takes_in_two(alloc: Global, tables: &mut EndTables, receipted: bool) -> Option<()> {
     takes_in(alloc, tables, 0)?;
     takes_in(alloc, tables, 1)?;
@@ -24,7 +25,7 @@ fn takes_in_two(alloc: Global, tables: &mut EndTables, receipted: bool) -> Optio
     }
 }
 
-/// An item of an error signal: how bad it is, its code, and the number of the submission that it names.
+/// An item of an error signal: its severity, its code, and the number of the submission that it names.
 #[derive(Clone, Copy)]
 struct Row {
     severity: Severity,
@@ -95,7 +96,7 @@ fn is_refusal(effect: &Effect, number: u64, code: &[u8]) -> bool {
     }
 }
 
-/// Whether the effects refuse these, in order, with these codes.
+/// Whether the effects refuse these submissions, in order, with these codes.
 fn are_refusals(effects: &[Effect], wanted: &[(u64, &[u8])]) -> bool {
     if effects.len() != wanted.len() {
         return false;
@@ -109,7 +110,7 @@ fn are_refusals(effects: &[Effect], wanted: &[(u64, &[u8])]) -> bool {
     true
 }
 
-/// Whether a signal that refers to this message, with these items, refuses these.
+/// Whether a signal that refers to this message, with these items, refuses these submissions.
 fn refuses_by(
     alloc: Global,
     tables: &EndTables,
@@ -133,7 +134,7 @@ fn refuses_by(
     }
 }
 
-/// An error signal of the other end that finds two submissions.
+/// An error signal from the other endpoint, given two submissions.
 #[derive(Clone, Copy)]
 struct Case {
     /// Whether the first is receipted; the others are pending.
@@ -145,7 +146,7 @@ struct Case {
     wanted: &'static [(u64, &'static [u8])],
 }
 
-/// Whether the signal refuses in these tables what it should.
+/// Whether the signal refuses the right submissions in these tables.
 fn refuses_in(alloc: Global, tables: &EndTables, case: &Case) -> Option<bool> {
     match (id_of(alloc, case.ref_to), items(alloc, case.rows)) {
         (Some(ref_to), Some(items)) => {
@@ -162,7 +163,7 @@ fn refuses_in(alloc: Global, tables: &EndTables, case: &Case) -> Option<bool> {
     }
 }
 
-/// Whether the signal refuses what it should.
+/// Whether the signal refuses the right submissions.
 fn refuses(alloc: Global, case: &Case) -> Option<bool> {
     let mut tables = EndTables::new(alloc);
     let refuses = match takes_in_two(alloc, &mut tables, case.receipted) {
@@ -173,7 +174,7 @@ fn refuses(alloc: Global, case: &Case) -> Option<bool> {
     refuses
 }
 
-/// Signals that come, and what each refuses.
+/// Error signals, and the refusals of each.
 const CASES: [Case; 6] = [
     // A failure refuses the submission that it names.
     Case {
@@ -197,7 +198,7 @@ const CASES: [Case; 6] = [
         }],
         wanted: &[],
     },
-    // Of two failures the first refuses.
+    // Of two failures for one submission, the first refuses it.
     Case {
         receipted: false,
         ref_to: None,
@@ -220,7 +221,7 @@ const CASES: [Case; 6] = [
         ],
         wanted: &[(1, b"EBMS:0102"), (0, b"EBMS:0004")],
     },
-    // A failure that names none refuses what its signal refers to.
+    // A failure that names no submission refuses the one that its signal refers to.
     Case {
         receipted: false,
         ref_to: Some(1),
@@ -231,7 +232,7 @@ const CASES: [Case; 6] = [
         }],
         wanted: &[(1, b"EBMS:0004")],
     },
-    // A failure that names none, in a signal that refers to none.
+    // A failure that names no submission, in a signal that refers to none, refuses nothing.
     Case {
         receipted: false,
         ref_to: None,
@@ -242,7 +243,7 @@ const CASES: [Case; 6] = [
         }],
         wanted: &[],
     },
-    // What is unknown or settled is not refused.
+    // Unknown and settled submissions aren't refused.
     Case {
         receipted: true,
         ref_to: Some(1),
@@ -262,7 +263,7 @@ const CASES: [Case; 6] = [
     },
 ];
 
-/// The place of the first signal that does not refuse what it should.
+/// The index of the first signal that doesn't refuse the right submissions.
 fn first_other(alloc: Global, cases: &[Case]) -> Option<usize> {
     for (at, case) in cases.iter().enumerate() {
         if refuses(alloc, case) != Some(true) {

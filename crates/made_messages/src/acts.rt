@@ -1,3 +1,4 @@
+//! Applies effects to tables.
 ghost use Rattle.std.specs.Prelude.{◌≡◌, IsTrue, IfSome};
 ghost use Rattle.end_tables.specs.Rooms.{HasRoom, queue_for};
 ghost use Rattle.exchange_model.specs.Apply.{is_fit};
@@ -5,7 +6,7 @@ ghost use Rattle.exchange_model.specs.Apply.{is_fit};
 use as4_effects::{Effect, Queue};
 use end_tables::EndTables;
 
-/// Makes the effect's change in the tables, where it fits and there is memory.
+/// Applies the effect to the tables, if it fits and there is memory.
 pub fn act(tables: &mut EndTables, effect: Effect) -> Option<()> {
     match ready(tables, &effect) {
         Some(queue) => {
@@ -20,7 +21,7 @@ pub fn act(tables: &mut EndTables, effect: Effect) -> Option<()> {
     }
 }
 
-// Makes room for the effect, where it fits.
+// Reserves room for the effect, if it fits.
 fn ready(tables: &mut EndTables, effect: &Effect) -> Option<Queue>
     ensures fit { IfSome result (λ queue. IsTrue (is_fit effect.now tables.new.end)) }
     ensures room { IfSome result (λ queue. HasRoom tables.new.rooms tables.new.end.sent effect.now) }

@@ -1,17 +1,18 @@
+//! Submissions, deliveries and the effects that a compaction keeps.
 ghost use Rattle.std.specs.Prelude.{ℕ, ◌<◌, ◌≤◌, IsTrue, IfSome};
-ghost use Rattle.as4_effects.specs.Pairing.{pair};
+ghost use Rattle.as4_values.specs.Pairing.{pair};
 ghost use Rattle.as4_effects.specs.Sound.{is_id_of, is_route, delivered_body, fits_an_effect, submitted_body};
 
 use crate::headers::{header_of, text};
 use as4_effects::{
     Carried, Delivery, Kept, Mark, Submission, delivery_fits, header_fits, is_id_of, is_route,
-    pairs, submission_fits,
+    submission_fits,
 };
-use as4_values::{MAX_MOMENT, Payload, Route, Seq, UserHeader};
+use as4_values::{MAX_MOMENT, Payload, Route, Seq, UserHeader, pairs};
 use std::alloc::Global;
 
-/// The submission of this number that is pushed to `http://h/` and sent again so often, each minute, handed in at
-/// 1,000 ms, without payloads.
+/// The submission of this number to be pushed to `http://h/`, with this many retries and a period of one minute,
+/// submitted at 1,000 ms, without payloads.
 pub fn submission(alloc: Global, number: u64, retries: u32) -> Option<Submission> {
     if number >= 1_048_576 || retries > 1000 {
         return None;
@@ -26,7 +27,7 @@ pub fn submission(alloc: Global, number: u64, retries: u32) -> Option<Submission
     )
 }
 
-/// The same, which waits in the channel `c`.
+/// The same, to be pulled from the channel `c`.
 pub fn pulled(alloc: Global, number: u64, retries: u32) -> Option<Submission> {
     if number >= 1_048_576 || retries > 1000 {
         return None;
@@ -50,7 +51,7 @@ pub fn pulled(alloc: Global, number: u64, retries: u32) -> Option<Submission> {
     }
 }
 
-// The submission of these, where they make one.
+// The submission with these values, if they form one.
 fn submission_of(
     alloc: Global,
     number: u64,
@@ -81,7 +82,7 @@ fn submission_of(
     }
 }
 
-// Whether a submission of these is a submission.
+// Whether these values form a submission.
 fn is_submission(
     alloc: Global,
     number: u64,
@@ -98,12 +99,12 @@ fn is_submission(
     Some(paired && named && is_route(route) && submission_fits(header, payloads, route))
 }
 
-/// The message of the first submission, without payloads, as it came.
+/// The message of the first submission, without payloads, as received.
 pub fn delivery(alloc: Global) -> Option<Delivery> {
     delivery_of(alloc, header_of(alloc, 0)?)
 }
 
-// The message of this header without payloads, where it is one.
+// The delivery of a message with this header and without payloads, if they form one.
 fn delivery_of(alloc: Global, header: UserHeader) -> Option<Delivery> {
     let payloads = Seq::of(Vec::new(alloc));
     match is_delivery(alloc, &header, &payloads) {
@@ -116,7 +117,7 @@ fn delivery_of(alloc: Global, header: UserHeader) -> Option<Delivery> {
     }
 }
 
-// Whether a delivery of these is a delivery.
+// Whether these values form a delivery.
 fn is_delivery(alloc: Global, header: &UserHeader, payloads: &Seq<Payload>) -> Option<bool>
     ensures { IfSome result (λ whole. IsTrue whole
         → IsTrue (pair header.now.parts payloads.now) × IsTrue (fits_an_effect (delivered_body header.now payloads.now))) }
@@ -125,7 +126,7 @@ fn is_delivery(alloc: Global, header: &UserHeader, payloads: &Seq<Payload>) -> O
     Some(paired && delivery_fits(header, payloads))
 }
 
-/// The submission as it stands after so many tries, the last at this moment.
+/// The submission after this number of tries, the last at this moment.
 pub fn carried(submission: Submission, tries: u32, last: u64, standing: Mark) -> Option<Carried> {
     if last > MAX_MOMENT {
         drop(submission);
@@ -140,7 +141,7 @@ pub fn carried(submission: Submission, tries: u32, last: u64, standing: Mark) ->
     })
 }
 
-/// The header of the message of the submission of this number, as it is kept once the message was taken over.
+/// The header of the message of the submission of this number, as kept after the message was confirmed.
 pub fn kept(alloc: Global, number: u64) -> Option<Kept> {
     let header = header_of(alloc, number)?;
     if header_fits(&header) {

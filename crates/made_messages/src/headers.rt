@@ -1,3 +1,4 @@
+//! Bytes, texts and headers of messages.
 ghost use Rattle.std.specs.Prelude.{◌≡◌, IfSome};
 
 use as4_values::{
@@ -12,12 +13,12 @@ pub fn octets(alloc: Global, bytes: &[u8]) -> Option<Octets>
     Some(Octets::of(Vec::from_slice(alloc, bytes).ok()?))
 }
 
-/// The text of these bytes, where they are one.
+/// The text of these bytes, if they form one.
 pub fn text(alloc: Global, bytes: &[u8]) -> Option<Text> {
     Text::read(alloc, bytes).ok()
 }
 
-// One party that plays the role `r`.
+// A side of one party that plays the role `r`.
 fn side(alloc: Global, id: &[u8]) -> Option<Side> {
     let role = text(alloc, b"r")?;
     let party = Party {
@@ -41,7 +42,7 @@ fn sides(alloc: Global) -> Option<(Side, Side)> {
     }
 }
 
-// What service a message is for, and its action.
+// The service and the action of a message.
 fn service(alloc: Global) -> Option<(Service, Text)> {
     let action = text(alloc, b"act")?;
     let value = text(alloc, b"s")?;
@@ -52,7 +53,7 @@ fn stamp(alloc: Global) -> Option<StampText> {
     read_stamp(alloc, b"2025-01-02T03:04:05Z").ok()
 }
 
-/// The header of a message of this identifier, from `a` to `b`, without parts.
+/// The header of a message with this identifier, from `a` to `b`, without parts.
 pub fn header(alloc: Global, id: MessageId) -> Option<UserHeader> {
     match (stamp(alloc), service(alloc), sides(alloc)) {
         (Some(stamp), Some((service, action)), Some((from, to))) => Some(UserHeader {

@@ -1,4 +1,4 @@
-//! Messages and submissions made by hand, and how effects come into the tables, for the tests of other crates.
+//! Sample messages and submissions, and the application of effects to tables, for the tests of other crates.
 #![tactic(auto)]
 
 mod acts;

@@ -1,4 +1,4 @@
--- An end's fold by places: what is found for a place of its parts stands in a fold of it there.
+-- The compaction of an endpoint by places: an effect found for a place is at this place of some compaction.
 use Rattle.std.proofs.Common.{◌≡◌, ℕ, zero, suc, ◌+◌, ◌-◌, ◌<◌, ◌≤◌, min, List, [], ◌∷◌, ◌++◌, ◌⊎◌, inl, inr, Option, Some, None, true, option_map, length, take, drop, refl, sym, ap, subst, ◌∙◌, arith}
 use Rattle.std.specs.List.{Contains, slice_get}
 use Rattle.std.proofs.lemmas.Option.{get_or_from_slice_get, same_Some, slice_get_within}
@@ -6,7 +6,7 @@ use Rattle.std.proofs.lemmas.List.{length-append, length-drop, length-take}
 use Rattle.as4_values.specs.declared.header.UserHeader.{UserHeader}
 use Rattle.as4_values.specs.declared.payload.Payload.{Payload}
 use Rattle.as4_values.specs.declared.moment.TheConstants.{MAX_MOMENT}
-use Rattle.as4_effects.specs.Pairing.{pair}
+use Rattle.as4_values.specs.Pairing.{pair}
 use Rattle.as4_effects.specs.Sound.{delivered_body, fits_an_effect, kept_body}
 use Rattle.as4_effects.specs.declared.effect.Effect.{Effect}
 use Rattle.as4_effects.specs.declared.effect.Effect.TheVariants as effect
@@ -22,14 +22,14 @@ use Rattle.fold_laws.specs.Written.{CanBeWritten}
 use Rattle.fold_laws.proofs.SomeFold.{reached_written, some_fold}
 use Rattle.msh_core.specs.Folding.{OneFor}
 
--- as many items as there are things
+-- there are as many effects as items
 pub length_each : {X Y : Type 0} (is : X → Y → Type 0) (xs : List X) (ys : List Y) → ItemByItem is xs ys → length xs ≡ length ys
 length_each is [] [] each = refl
 length_each is [] (y ∷ ys) each = absurd each
 length_each is (x ∷ xs) [] each = absurd each
 length_each is (x ∷ xs) (y ∷ ys) each = ap suc (length_each is xs ys each.1)
 
--- another item of the same thing may stand at its place
+-- another effect for the same item may take its place
 pub with_at : {X Y : Type 0} (is : X → Y → Type 0) (xs : List X) (ys : List Y) (n : ℕ) (found : Option Y) → ItemByItem is xs ys
     → OneFor is (slice_get xs n) found → (zs : List Y) × ItemByItem is xs zs × (found ≡ slice_get zs n)
 with_at is [] [] n None each one = ([], each, refl)
@@ -41,7 +41,7 @@ with_at is (x ∷ xs) (y ∷ ys) zero (Some z) each one = (z ∷ ys, (one, each.
 with_at is (x ∷ xs) (y ∷ ys) (suc n) found each one =
     let rest = with_at is xs ys n found each.1 one in (y ∷ rest.0, (each.0, rest.1), rest.2)
 
--- an item of two lists, one behind the other
+-- an item of two concatenated lists
 pub slice_get_left : {X : Type 0} (a b : List X) (n : ℕ) → n < length a → slice_get (a ++ b) n ≡ slice_get a n
 slice_get_left [] b n within = absurd (omega (arith, within))
 slice_get_left (x ∷ a) b zero within = refl
@@ -65,7 +65,7 @@ slice_get_dropped [] (suc count) n = refl
 slice_get_dropped (x ∷ xs) (suc count) n =
     slice_get_dropped xs count n ∙ ap (slice_get (x ∷ xs)) (let e : suc (count + n) ≡ suc count + n = omega arith in e)
 
--- found at a place of an end's fold
+-- found at a place of the endpoint's compaction
 abbrev pub IsFoundAt : End → ℕ → Option Effect → Type 0
 IsFoundAt end part found = (effects : List Effect) × IsFolded end effects × (found ≡ slice_get effects part)
 
@@ -196,7 +196,7 @@ found_clock end part at found reached is came clock =
           ∙ sym (ap (slice_get (h.carried ++ h.kept ++ h.delivered ++ clock.0)) at_end ∙ slice_get_right (h.carried ++ h.kept ++ h.delivered) clock.0 at),
     )
 
--- a clock that never was set has no record, and no clock has a second one
+-- a clock that was never set has no record, and no clock has a second one
 pub clock_none : (moment at : ℕ) → moment ≤ MAX_MOMENT → (moment ≡ 0) ⊎ (0 < at)
     → (clock : List Effect) × SetsClock moment clock × (None ≡ slice_get clock at)
 clock_none zero at dated none = ([], refl, refl)
@@ -211,11 +211,11 @@ clock_some zero at tick is set first = absurd (omega (arith, set))
 clock_some (suc moment) zero tick is set first = (effect.Ticked tick ∷ [], (tick, is, refl), refl)
 clock_some (suc moment) (suc at) tick is set first = absurd (omega (arith, first))
 
--- what is found at a place is one of the list
+-- an item found at a place is in the list
 found_contained : {X : Type 0} (xs : List X) (n : ℕ) (x : X) → slice_get xs n ≡ Some x → Contains xs x
 found_contained xs n x e = (n, slice_get_within xs n x e, get_or_from_slice_get xs n x x e)
 
--- the header of an entry that was taken over can be kept
+-- the header of a confirmed entry can be kept
 pub kept_fits : (end : End) (at : ℕ) (header copy : UserHeader) → CanBeWritten end → at < end.confirmed
     → Some header ≡ option_map (λ (entry : InboxEntry). entry.header) (slice_get end.inbox at) → copy ≡ header
     → fits_an_effect (kept_body copy) ≡ true
@@ -229,7 +229,7 @@ kept_fits end at header copy can within is same = by_entry (slice_get end.inbox 
         subst (λ (h : UserHeader). fits_an_effect (kept_body h) ≡ true) one
         (can.kept entry (found_contained (take end.confirmed end.inbox) at entry (slice_get_taken end.inbox end.confirmed at within ∙ there)))
 
--- what waits can be delivered again
+-- a waiting entry can be delivered again
 pub delivered_fits : (end : End) (at : ℕ) (header copy : UserHeader) (payloads copies : List Payload) → CanBeWritten end → end.confirmed ≤ at
     → slice_get end.inbox at ≡ Some (record { header = header; payloads = payloads }) → copy ≡ header → copies ≡ payloads
     → (pair copy.parts copies ≡ true) × (fits_an_effect (delivered_body copy copies) ≡ true)

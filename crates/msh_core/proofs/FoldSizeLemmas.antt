@@ -1,4 +1,4 @@
--- How many bytes a fold has, part by part.
+-- The size of a compaction, part by part.
 use Rattle.std.proofs.Common.{◌≡◌, ℕ, zero, suc, ◌+◌, ◌-◌, ◌≤◌, ◌^◌, min, List, [], ◌∷◌, ◌++◌, Option, Some, None, option_map, length, take, drop, refl, sym, ap, ◌∙◌, arith}
 use Rattle.std.specs.List.{slice_get, sum_by}
 use Rattle.std.proofs.lemmas.List.{length-append}
@@ -32,7 +32,7 @@ use Rattle.fold_laws.proofs.SomeFold.{reached_written, some_fold}
 use Rattle.msh_core.proofs.FoldLemmas.{slice_get_dropped}
 use Rattle.msh_core.specs.Folding.{capped, carried_len, clock_len, delivered_len, kept_len, len_at}
 
--- a sum over the first so many, and one more
+-- a sum over the first `n` items and one more
 sum_after : {X : Type 0} (f : X → ℕ) (xs : List X) (n : ℕ) → sum_by f (take (suc n) xs) ≡ sum_by f (take n xs) + len_at f (slice_get xs n)
 sum_after f [] zero = refl
 sum_after f [] (suc n) = refl
@@ -49,7 +49,7 @@ next_sum f xs n start total next so_far more =
     let one : sum_by f (take (n + 1) xs) ≡ sum_by f (take n xs) + len_at f (slice_get xs n) =
     ap (λ m. sum_by f (take m xs)) (let e : n + 1 ≡ suc n = omega arith in e) ∙ sum_after f xs n in omega (arith, so_far, more, one)
 
--- item by item as many bytes
+-- the same sum, where each effect has the length of its item
 each_sum : {X Y : Type 0} (is : X → Y → Type 0) (f : X → ℕ) (g : Y → ℕ) → ((x : X) (y : Y) → is x y → g y ≡ f x) → (xs : List X) (ys : List Y)
     → ItemByItem is xs ys → sum_by g ys ≡ sum_by f xs
 each_sum is f g same [] [] each = refl
@@ -94,7 +94,7 @@ clock_record : (moment : ℕ) (clock : List Effect) → SetsClock moment clock �
 clock_record zero clock set = rw set refl
 clock_record (suc moment) clock set = ap bytes_of set.2 ∙ tick_record set.0
 
--- the fold of an end has so many
+-- the size of an endpoint's compaction
 pub whole_size : (end : End) (effects : List Effect) → IsFolded end effects
     → folded_size effects ≡ 9 + sum_by carried_len end.sent + sum_by kept_len (take end.confirmed end.inbox)
     + sum_by delivered_len (drop end.confirmed end.inbox) + clock_len end.moment
@@ -115,11 +115,11 @@ whole_size end effects h =
     let whole : bytes_of effects ≡ bytes_of (h.carried ++ h.kept ++ h.delivered ++ h.clock) = ap bytes_of h.is in
     omega (arith, a, b, d, t, first, next, all, whole)
 
--- the size of the end's fold, or the greatest number where it is more
+-- the size of the endpoint's compaction, capped
 abbrev pub IsSizeOf : End → ℕ → Type 0
 IsSizeOf end n = (size : ℕ) × IsFoldedSize end size × (n ≡ capped size)
 
--- what the sums lead to is the size of a reached end's fold
+-- the sums give the size of a reached endpoint's compaction
 pub size_found : (end : End) (first next more result : ℕ) → IsReached end → first ≡ capped (9 + sum_by carried_len end.sent)
     → next ≡ capped (first + sum_by kept_len (take end.confirmed end.inbox))
     → more ≡ capped (next + sum_by delivered_len (drop end.confirmed end.inbox)) → result ≡ capped (more + clock_len end.moment)
@@ -128,7 +128,7 @@ size_found end first next more result reached a b d t =
     let fold = some_fold end (reached_written end reached) in
     let whole = whole_size end fold.0 fold.1 in (folded_size fold.0, (fold.0, fold.1, refl), omega (arith, a, b, d, t, whole))
 
--- an end's fold has one size
+-- an endpoint's compaction has one size
 pub one_size : (end : End) (a b : ℕ) → IsFoldedSize end a → IsFoldedSize end b → a ≡ b
 one_size end a b h k = h.2 ∙ ap folded_size (one_fold end h.0 k.0 h.1 k.1) ∙ sym k.2
 
@@ -137,7 +137,7 @@ pub size_begun : (end : End) (size : ℕ) → IsFoldedSize end size → 9 ≤ si
 unfolding folded_size
 size_begun end size h = let is = h.2 in omega (arith, is)
 
--- one length after another, none of them past the greatest number
+-- one length after another, each sum capped
 pub carried_sum : (sum first mid next result : ℕ) (submission : Submission) (m : Mark) (o : Option Sent)
     → Some submission ≡ option_map (λ (s : Sent). s.submission) o → Some m ≡ option_map (λ (s : Sent). s.mark) o
     → first ≡ grown sum (submission_body submission) → mid ≡ min (first + 12) (2 ^ 64 - 1) → next ≡ grown mid (mark_body m)
@@ -181,7 +181,7 @@ next_sent sent number start total next numbered so_far more =
     next_sum carried_len sent number start total next so_far
     (more ∙ ap (λ o. capped (total + len_at carried_len o)) (place number sent numbered))
 
--- a message that wasn't taken over by its place
+-- a message that isn't confirmed, by its place
 pub next_waiting : (inbox : List InboxEntry) (confirmed count start total next : ℕ)
     → total ≡ capped (start + sum_by delivered_len (take count (drop confirmed inbox)))
     → next ≡ capped (total + len_at delivered_len (slice_get inbox (confirmed + count)))
@@ -190,11 +190,11 @@ next_waiting inbox confirmed count start total next so_far more =
     next_sum delivered_len (drop confirmed inbox) count start total next so_far
     (more ∙ ap (λ o. capped (total + len_at delivered_len o)) (sym (slice_get_dropped inbox confirmed count)))
 
--- an end has one size
+-- an endpoint has one capped size
 pub size_only : (end : End) (n size : ℕ) → IsSizeOf end n → IsFoldedSize end size → n ≡ capped size
 size_only end n size found is = found.2 ∙ ap capped (one_size end found.0 size found.1 is)
 
--- where the fold has room in a journal, its size is the one that is found
+-- where a journal has room for the compaction, the result is its exact size
 pub size_is : (end : End) (n size : ℕ) → IsSizeOf end n → ((s : ℕ) → IsFoldedSize end s → s ≤ 4294967296) → IsFoldedSize end size → n ≡ size
 size_is end n size found limited is =
     let one : found.0 ≡ size = one_size end found.0 size found.1 is in

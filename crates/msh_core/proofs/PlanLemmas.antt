@@ -13,14 +13,14 @@ use Rattle.exchange_model.specs.End.{End}
 use Rattle.exchange_model.specs.declared.sent.Sent.{Sent}
 use Rattle.msh_core.specs.Machine.{HaveRoom}
 
--- what is left of a plan can be carried out
+-- the rest of a plan can be carried out
 pub record CanGo (end : End) (rooms : Rooms) (rest : List Effect) (queues : List Queue) : Type 0 where
   pub fit : first_unfit rest end ≡ None
   pub placed : queues ≡ map (queue_for end.sent) rest
   pub room : HaveRoom rooms end.sent rest
   pub one_room : TakeOneRoom rest
 
--- where none is unfit, the first is fit, and none of the others is unfit behind it
+-- where none is unfit, the first fits, and none of the others is unfit after it
 first_of : (b : Bool) (x : Option ℕ) → (if b then option_map suc x else Some 0) ≡ None → (b ≡ true) × (x ≡ None)
 first_of true None e = (refl, refl)
 first_of true (Some n) e = absurd cc
@@ -37,7 +37,7 @@ kept_queues e [] end h = refl
 kept_queues e (f ∷ rest) end h =
     rw (kept_queue e f end h, kept_queues e rest end h) refl
 
--- and have room wherever they are
+-- and have room at every endpoint
 no_room : (e : Effect) (rooms : Rooms) (sent : List Sent) → TakesNoRoom e → HasRoom rooms sent e
 unfolding TakesNoRoom HasRoom
 no_room (effect.Submitted submission) rooms sent h = absurd h
@@ -50,20 +50,20 @@ no_room (effect.Confirmed upto) rooms sent h = tt
 no_room (effect.Carried carried) rooms sent h = absurd h
 no_room (effect.Kept kept) rooms sent h = absurd h
 
--- the room of others stays behind such an effect
+-- the others keep their room after such an effect
 rooms_stay : (e : Effect) (end : End) (rooms : Rooms) (rest : List Effect) → TakesNoRoom e → HaveRoom rooms end.sent rest
     → HaveRoom rooms (after e end).sent rest
 rooms_stay e end rooms [] h room = tt
 rooms_stay e end rooms (f ∷ rest) h room = (room_stays e f end rooms h room.0, rooms_stay e end rooms rest h room.1)
 
--- the last of more is the last of the rest
+-- the last of two or more is the last of the rest
 last_of_rest : (e f : Effect) (rest : List Effect) (d : Effect)
     → get_or (e ∷ f ∷ rest) (length (e ∷ f ∷ rest) - 1) d ≡ get_or (f ∷ rest) (length (f ∷ rest) - 1) d
 last_of_rest e f rest d =
     let whole : length (e ∷ f ∷ rest) - 1 ≡ suc (length rest) = omega arith in
     let part : length (f ∷ rest) - 1 ≡ length rest = omega arith in rw (whole, part) refl
 
--- the last of some effects was there before them
+-- the submission of the last effect existed before all of them
 pub last_there : (effects : List Effect) (end : End) (d : Effect) → first_unfit effects end ≡ None → TakeOneRoom effects → 0 < length effects
     → IsThere end.sent (get_or effects (length effects - 1) d)
 last_there [] end d fit one some = absurd (omega arith)
@@ -91,7 +91,7 @@ one_room_of : (e : Effect) (rest : List Effect) → TakeOneRoom (e ∷ rest) →
 one_room_of e [] one = tt
 one_room_of e (f ∷ rest) one = one.1
 
--- behind an effect the rest can go on
+-- after an effect the rest can be carried out
 rest_goes : (end : End) (rooms later : Rooms) (e : Effect) (rest : List Effect) (queues : List Queue) → first_unfit rest (after e end) ≡ None
     → TakeOneRoom (e ∷ rest) → queues ≡ map (queue_for end.sent) rest → HaveRoom rooms end.sent rest → (TakesNoRoom e → later ≡ rooms)
     → CanGo (after e end) later rest queues
@@ -103,7 +103,7 @@ rest_goes end rooms later e (f ∷ rest) queues fit one placed room stays = reco
   one_room = one.1;
 }
 
--- the first of what is left can be made, with the queue at its place; behind it the rest can go on, where it keeps the room of the others
+-- the first of the rest can be applied, with the queue at its place; after it the others can, if it keeps their room
 pub record GoesOn (end : End) (rooms later : Rooms) (e : Effect) (rest : List Effect) (at : ℕ) (queues : List Queue) : Type 0 where
   pub fit : is_fit e end ≡ true
   pub room : HasRoom rooms end.sent e
@@ -111,7 +111,7 @@ pub record GoesOn (end : End) (rooms later : Rooms) (e : Effect) (rest : List Ef
   pub queue : (d : Queue) → get_or queues at d ≡ queue_for end.sent e
   pub on : CanGo (after e end) later rest (drop (at + 1) queues)
 
--- where something is left from a place on, the place is one of the list
+-- where the rest from a place on isn't empty, the place is in the list
 place_below : {X : Type 0} (xs : List X) (at : ℕ) (x : X) (rest : List X) → drop at xs ≡ x ∷ rest → at < length xs
 place_below [] at x rest e = absurd (nothing_left at e)
 place_below (y ∷ xs) zero x rest e = omega arith

@@ -1,10 +1,10 @@
--- What is prepared: a plan that is ready, or none for want of memory where some is asked for.
+-- The results of preparing: a plan that is ready, or out of memory, if memory is needed.
 use Rattle.std.proofs.Common.{◌≡◌, List, [], ◌∷◌, Bool, true, false, ◌==◌, length, sym, subst, arith}
 use Rattle.std.proofs.lemmas.Bool.{eqb-true}
 use Rattle.std.specs.Bool.{MatchBool}
 use Rattle.as4_effects.specs.declared.effect.Effect.{Effect}
 use Rattle.as4_effects.specs.declared.queue.Queue.{Queue}
-use Rattle.as4_values.specs.declared.mode.Mode.{Mode}
+use Rattle.mode_values.specs.declared.mode.Mode.{Mode}
 use Rattle.end_tables.specs.Standing.{CanStand}
 use Rattle.exchange_model.specs.End.{End}
 use Rattle.exchange_model.specs.Apply.{record_len}
@@ -27,7 +27,7 @@ pub free_row : (modes : List Mode) (end : End) (event : Event) (outcome : Outcom
 free_row modes end event outcome step free =
     subst (λ o. RowOf modes end event event.what o) (sym (row_is _ end step.row outcome step.limited free)) step.decided
 
--- a row, where the journal has room for it, is a step
+-- a row that the journal has room for is a step
 pub limited_step : (modes : List Mode) (end : End) (event : Event) (row outcome : Outcome) → RowOf modes end event event.what row
     → IsLimited end row outcome → Step modes end event outcome
 limited_step modes end event row outcome decided limited = record { row = row; decided = decided; limited = limited }
@@ -42,6 +42,6 @@ nothing_ready machine event [] r queues none empty step stands room =
 nothing_ready machine event (e ∷ effects) r queues none empty step stands room =
     let zero : length (e ∷ effects) ≡ 0 = eqb-true (length (e ∷ effects)) 0 none in absurd (omega arith)
 
--- where there are effects, none are planned by an outcome without
+-- an outcome without effects plans none
 pub not_free : (effects : List Effect) → (length effects == 0) ≡ false → effects ≡ [] → ⊥
 not_free effects some none = absurd cc

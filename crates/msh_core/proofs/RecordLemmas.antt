@@ -1,4 +1,4 @@
--- The journal grows by the record of the effects, and by nothing where there are none.
+-- The journal grows by the record of the effects; without effects there is no record.
 use Rattle.std.proofs.Common.{◌≡◌, ◌+◌, ◌≤◌, List, [], ◌∷◌, Bool, true, false, ◌==◌, length, refl, ap, ◌∙◌, arith}
 use Rattle.std.specs.Prelude.{◌||◌}
 use Rattle.std.proofs.lemmas.Bool.{eqb-true, leb-true, ne_eqb}
@@ -8,7 +8,7 @@ use Rattle.exchange_model.specs.Apply.{after, after_all, applied, record_len}
 use Rattle.exchange_model.specs.End.{End}
 use Rattle.exchange_model.specs.Table.{has_room}
 
--- an effect leaves the journal's size
+-- an effect doesn't change the journal's size
 pub size_after : (e : Effect) (end : End) → (after e end).size ≡ end.size
 unfolding after
 size_after (effect.Submitted submission) end = refl
@@ -29,7 +29,7 @@ right_of : (a b : Bool) → a ≡ false → (a || b) ≡ true → b ≡ true
 right_of false b e h = h
 right_of true b e h = absurd cc
 
--- where its record has room, the journal can grow
+-- where there is room for the record, the journal can grow
 pub room_to_grow : (effects : List Effect) (end later : End) → (length effects == 0) ≡ false → has_room end effects ≡ true
     → later ≡ after_all effects end → later.size + record_len effects ≤ 4294967296
 unfolding has_room
@@ -37,7 +37,7 @@ room_to_grow effects end later some room same =
     let kept : later.size ≡ end.size = ap (λ (x : End). x.size) same ∙ size_kept effects end in
     let fits : end.size + record_len effects ≤ 4294967296 = leb-true _ _ (right_of (length effects == 0) _ some room) in omega arith
 
--- and is then the end after the record
+-- and then it is the endpoint after the record
 pub grown : (effects : List Effect) (end later new : End) → (length effects == 0) ≡ false → later ≡ after_all effects end
     → new ≡ record later { size = later.size + record_len effects } → new ≡ applied effects end
 unfolding applied
@@ -45,18 +45,18 @@ grown [] end later new some same grows = absurd cc
 grown (e ∷ effects) end later new some same grows =
     grows ∙ ap (λ (x : End). record x { size = x.size + record_len (e ∷ effects) }) same
 
--- where there are no effects there is no record
+-- without effects there is no record
 pub rests : (effects : List Effect) (end : End) → (length effects == 0) ≡ true → end ≡ applied effects end
 unfolding applied
 rests [] end none = refl
 rests (e ∷ effects) end none =
     let zero : length (e ∷ effects) ≡ 0 = eqb-true (length (e ∷ effects)) 0 none in absurd (omega arith)
 
--- some effects
+-- there are effects
 pub are_some : (effects : List Effect) → 1 ≤ length effects → (length effects == 0) ≡ false
 are_some effects some = ne_eqb (length effects) 0 (λ none. omega arith)
 
--- of whose record it is said that it has room
+-- the journal has room for their record
 pub room_for_record : (effects : List Effect) (end later : End) → end.size + record_len effects ≤ 4294967296
     → later ≡ after_all effects end → later.size + record_len effects ≤ 4294967296
 room_for_record effects end later fits same =

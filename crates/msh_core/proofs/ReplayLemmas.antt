@@ -1,4 +1,4 @@
--- Effects are made again one after another, until one doesn't fit.
+-- Effects are replayed one after another, until one doesn't fit.
 use Rattle.std.proofs.Common.{◌≡◌, ℕ, suc, ◌+◌, ◌<◌, ◌≤◌, List, [], ◌∷◌, Bool, true, false, Option, Some, None, option_map, length, refl, sym, ap, subst, ◌∙◌, arith}
 use Rattle.std.specs.Prelude.{if◌then◌else◌}
 use Rattle.std.proofs.lemmas.Bool.Decides.{nat_tests}
@@ -12,7 +12,7 @@ use Rattle.fold_laws.proofs.ReachedLemmas.{reached_applied, reached_resized}
 use Rattle.msh_core.specs.Folding.{CanBeReplayed}
 use Rattle.msh_core.proofs.RecordLemmas.{size_after}
 
--- from an end on these effects lead to the same end, and the first unfit one of all stands so many places before
+-- these effects lead from an endpoint to the same endpoint as all do, and the first unfit one is `at` places earlier
 pub record IsBehind (effects : List Effect) (start : End) (at : ℕ) (rest : List Effect) (end : End) : Type 0 where
   pub leads : after_all rest end ≡ after_all effects start
   pub place : first_unfit effects start ≡ option_map (λ n. at + n) (first_unfit rest end)
@@ -26,14 +26,14 @@ chosen : (b : Bool) (x : Option ℕ) → b ≡ true → (if b then option_map su
 chosen true x e = refl
 chosen false x e = absurd cc
 
--- behind an effect that fits an end stays reached, whatever its journal's size
+-- after an effect that fits, an endpoint stays reached, whatever its journal's size
 pub reached_after : (e : Effect) (end : End) → is_fit e end ≡ true → IsReached end → IsReached (after e end)
 unfolding applied
 reached_after e end fits reached =
     reached_resized (applied (e ∷ []) end) (after e end).size
     (reached_applied end (e ∷ []) reached (chosen (is_fit e end) None fits))
 
--- so it does behind a tick and behind a confirmation, whose records have 20 bytes
+-- the same after a tick and after a confirmation, whose records have 20 bytes
 pub tick_reached : (end mid new : End) (tick : Tick) → end.moment < tick.moment → mid ≡ after (effect.Ticked tick) end
     → new ≡ record mid { size = mid.size + 20 } → IsReached end → IsReached new
 unfolding is_fit
@@ -48,7 +48,7 @@ confirm_reached end mid new upto left within makes grows reached =
     subst IsReached (sym grows) (reached_resized mid (mid.size + 20)
     (subst IsReached (sym makes) (reached_after (effect.Confirmed upto) end (grind (arith, nat_tests)) reached)))
 
--- one more is made
+-- one more is applied
 pub one_made : (effects : List Effect) (start : End) (at : ℕ) (e : Effect) (rest : List Effect) (end : End)
     → IsBehind effects start at (e ∷ rest) end → is_fit e end ≡ true → IsBehind effects start (at + 1) rest (after e end)
 one_made effects start at e rest end behind fits = record {
@@ -69,7 +69,7 @@ replayed_grows (e ∷ effects) start end way =
     let one : (applied (e ∷ []) start).size ≡ start.size + record_len (e ∷ []) = one_size e start in
     let rest : (applied (e ∷ []) start).size ≤ end.size = replayed_grows effects (applied (e ∷ []) start) end way.1 in omega (arith, one, rest)
 
--- where the journal has room in the end, each record on the way has room
+-- where the journal has room for all records, it has room for each on the way
 pub can_be_replayed : (effects : List Effect) (start end : End) → AreReplayed effects start end → end.size ≤ 4294967296 → CanBeReplayed effects start end
 can_be_replayed [] start end way room = way
 can_be_replayed (e ∷ effects) start end way room =

@@ -1,4 +1,4 @@
--- The record of one event is short: of its effects the last alone may be long.
+-- The record of one event is short: only the last of its effects may be long.
 use Rattle.std.proofs.Common.{◌≡◌, ap, length-append, ◌+◌, ◌*◌, ◌≤◌, ◌^◌, List, [], ◌∷◌, length, arith}
 use Rattle.std.specs.List.{sum_by}
 use Rattle.std.proofs.lemmas.List.Sums.{sum_by-cons}

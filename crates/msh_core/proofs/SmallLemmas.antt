@@ -8,7 +8,7 @@ use Rattle.as4_effects.proofs.LengthLemmas.{number_length}
 use Rattle.as4_effects.specs.declared.effect.Effect.{Effect}
 use Rattle.as4_effects.specs.declared.effect.Effect.TheVariants as effect
 use Rattle.as4_effects.specs.declared.effect.Tick.{Tick}
-use Rattle.as4_values.specs.declared.mode.Mode.{Mode}
+use Rattle.mode_values.specs.declared.mode.Mode.{Mode}
 use Rattle.as4_values.specs.declared.moment.TheConstants.{MAX_MOMENT}
 use Rattle.exchange_model.specs.Apply.{after, applied, failed_if_spent, record_len}
 use Rattle.exchange_model.specs.Coming.{may_come}
@@ -34,7 +34,7 @@ at_false : (P Q : Type 0) (b : Bool) → b ≡ false → Q → MatchBool b P Q
 at_false P Q true e q = absurd cc
 at_false P Q false e q = q
 
--- the row of what happens
+-- the row of the event
 row_at : (modes : List Mode) (end : End) (event : Event) (w : What) (outcome : Outcome) → event.what ≡ w
     → RowOf modes end event w outcome → RowOf modes end event event.what outcome
 row_at modes end event w outcome is row = subst (λ v. RowOf modes end event v outcome) (sym is) row
@@ -69,7 +69,7 @@ unfolding has_room
 full_limited end e r len full = let lacks : has_room end (e ∷ []) ≡ false = rw (len, full) refl in
     at_false _ _ _ lacks (ap (λ n. record { effects = []; reply = reply.Full end.size n }) (sym len))
 
--- a tick is late, finds the journal full, or is made
+-- a tick is late, finds the journal full, or is carried out
 pub tick_late : (machine : Machine) (event : Event) → event.what ≡ what.Tick → event.stamp ≤ machine.end.moment
     → PlansFor machine event (plan.Rest (reply.Ticked 0))
 unfolding Ticks
@@ -116,7 +116,7 @@ tick_made machine event is later room =
       },
     )
 
--- what is confirmed was taken over before, has not come, finds the journal full, or is taken over
+-- a message was confirmed before, wasn't received, finds the journal full, or is confirmed
 pub confirm_gone : (machine : Machine) (event : Event) (upto : ℕ) → event.what ≡ what.Confirm upto → upto < machine.end.confirmed
     → PlansFor machine event (plan.Rest reply.Gone)
 unfolding Confirms
@@ -170,12 +170,12 @@ confirm_made machine event upto is left within room = (
   },
 )
 
--- ticks to one moment change an end alike
+-- ticks to the same moment have the same effect
 pub ticks_alike : (tick other : Tick) (end : End) → tick.moment ≡ other.moment → after (effect.Ticked tick) end ≡ after (effect.Ticked other) end
 unfolding after
 ticks_alike tick other end same = ap (λ m. record end { sent = map (failed_if_spent m) end.sent; moment = m }) same
 
--- with its record, a tick leads where the outcome says
+-- with its record, a tick leads to the endpoint of the outcome
 pub tick_done : (end new : End) (moment failed : ℕ) (made : Tick) (outcome : Outcome) → made.moment ≡ moment
     → new ≡ record (after (effect.Ticked made) end) { size = (after (effect.Ticked made) end).size + 20 }
     → failed ≡ count_by (is_spent moment) end.sent → StandsFor end (plan.Tick moment) outcome
@@ -209,7 +209,7 @@ unfolding applied
 rest_done end r outcome stands =
     (ap (λ (o : Outcome). applied o.effects end) (sym stands), ap (λ (o : Outcome). o.reply) (sym stands))
 
--- what is planned for every tick to a moment, and can go, is ready
+-- a plan for every tick to a moment is ready, if it can be carried out
 pub tick_ready : (machine : Machine) (stamp : ℕ) (p : SmallPlan) → stamp ≤ MAX_MOMENT
     → ((event : Event) → event.what ≡ what.Tick → event.stamp ≡ stamp → PlansFor machine event p) → CanGo machine.end p
     → IsSmallReady machine p
@@ -218,7 +218,7 @@ tick_ready machine stamp p dated planned goes =
     let event : Event = record { stamp = stamp; nonce = 0; what = what.Tick; dated = dated; deliverable = refl } in
     record { planned = (event, planned event refl refl); goes = goes }
 
--- and so is what is planned for every confirmation up to a message
+-- the same for every confirmation up to a message
 pub confirm_ready : (machine : Machine) (upto : ℕ) (p : SmallPlan)
     → ((event : Event) → event.what ≡ what.Confirm upto → PlansFor machine event p) → CanGo machine.end p → IsSmallReady machine p
 unfolding may_come

@@ -1,4 +1,4 @@
--- An end's fold by places, and how many bytes it has.
+-- The compaction of an endpoint by places, and its size.
 use Rattle.std.specs.Prelude.{◌≡◌, ℕ, zero, suc, ◌+◌, ◌-◌, ◌^◌, ◌≤◌, List, [], ◌∷◌, Option, Some, None, length, min}
 use Rattle.as4_effects.specs.Effects.{submission_body}
 use Rattle.as4_effects.specs.Marks.{mark_body}
@@ -10,17 +10,17 @@ use Rattle.exchange_model.specs.Table.{journal_limit}
 use Rattle.exchange_model.specs.declared.inbox_entry.InboxEntry.{InboxEntry}
 use Rattle.exchange_model.specs.declared.sent.Sent.{Sent}
 
--- something is found exactly where there is a thing, and is so
+-- one is found exactly where the other exists, and they are related
 abbrev pub OneFor : {X Y : Type 0} → (X → Y → Type 0) → Option X → Option Y → Type 0
 OneFor is None None = Unit {0}
 OneFor is (Some x) (Some y) = is x y
 OneFor is x y = ⊥
 
--- a number, or the greatest of 64 bits where it is more
+-- a number, at most the greatest of 64 bits
 abbrev pub capped : ℕ → ℕ
 capped size = min size (2 ^ 64 - 1)
 
--- how many bytes the record has of a submission that is carried over, with its tries, its last moment and its mark
+-- the size of the record of a carried submission, with its tries, its last moment and its mark
 unfoldable pub carried_len : Sent → ℕ
 carried_len s = length (submission_body s.submission) + 12 + length (mark_body s.mark) + 11
 
@@ -32,17 +32,17 @@ kept_len entry = length (kept_body entry.header) + 11
 unfoldable pub delivered_len : InboxEntry → ℕ
 delivered_len entry = length (delivered_body entry.header entry.payloads) + 11
 
--- and of the clock, unless it never was set
+-- and of the clock, unless it was never set
 abbrev pub clock_len : ℕ → ℕ
 clock_len zero = 0
 clock_len (suc moment) = 20
 
--- the length of a thing, if there is one
+-- the length of an item, if there is one
 abbrev pub len_at : {X : Type 0} → (X → ℕ) → Option X → ℕ
 len_at len None = 0
 len_at len (Some x) = len x
 
--- `replay` may be called with each effect alone, one after another, and makes it: it fits, and its record has room
+-- `replay` may be called with each effect alone, one after another, and succeeds: each fits, and its record has room
 abbrev pub CanBeReplayed : List Effect → End → End → Type 0
 CanBeReplayed [] start end = start ≡ end
 CanBeReplayed (e ∷ effects) start end =

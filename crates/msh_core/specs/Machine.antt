@@ -1,9 +1,9 @@
--- The machine of one end, and what it plans for an event.
+-- The machine of one endpoint, and its plans for events.
 use Rattle.std.specs.Prelude.{◌≡◌, List, true, map}
 use Rattle.std.specs.List.{AllByRecursion}
 use Rattle.as4_effects.specs.declared.effect.Effect.{Effect}
 use Rattle.as4_effects.specs.declared.queue.Queue.{Queue}
-use Rattle.as4_values.specs.declared.mode.Mode.{Mode}
+use Rattle.mode_values.specs.declared.mode.Mode.{Mode}
 use Rattle.end_tables.specs.Rooms.{Rooms, HasRoom, queue_for}
 use Rattle.end_tables.specs.Standing.{CanStand}
 use Rattle.exchange_model.specs.End.{End}
@@ -12,7 +12,7 @@ use Rattle.exchange_model.specs.declared.event.Event.{Event}
 use Rattle.exchange_model.specs.declared.outcome.Outcome.{Outcome}
 use Rattle.exchange_model.specs.declared.sent.Sent.{Sent}
 
--- an end with its modes, and what its tables have room for
+-- an endpoint with its modes, and the room of its tables
 pub record Machine : Type 0 where
   pub end : End
   pub modes : List Mode
@@ -27,7 +27,7 @@ pub record Planned : Type 0 where
 abbrev pub HaveRoom : Rooms → List Sent → List Effect → Type 0
 HaveRoom rooms sent effects = AllByRecursion (HasRoom rooms sent) effects
 
--- the plan is what this machine gives to an event, as it stands, and can be carried out
+-- the plan is what this machine does with an event in its present state, and can be carried out
 pub record IsReady (machine : Machine) (plan : Planned) : Type 0 where
   pub step : (event : Event) × Step machine.modes machine.end event plan.outcome
   pub stands : CanStand machine.end plan.outcome.effects

@@ -1,4 +1,4 @@
--- The plans that take no memory: those of a tick and of a confirmation.
+-- The plans that take no memory: those for a tick and for a confirmation.
 use Rattle.std.specs.Prelude.{◌≡◌, ◌+◌, ◌<◌, ◌≤◌, [], ◌∷◌, length}
 use Rattle.std.specs.List.{count_by}
 use Rattle.as4_values.specs.declared.moment.TheConstants.{MAX_MOMENT}
@@ -14,7 +14,7 @@ use Rattle.msh_core.specs.Machine.{Machine}
 use Rattle.msh_core.specs.declared.small.SmallPlan.{SmallPlan}
 use Rattle.msh_core.specs.declared.small.SmallPlan.TheVariants as plan
 
--- the outcome that a plan stands for, at an end
+-- the outcome of a plan at an endpoint
 abbrev pub StandsFor : End → SmallPlan → Outcome → Type 0
 StandsFor end (plan.Tick moment) outcome =
     (tick : Tick) × (tick.moment ≡ moment)
@@ -23,7 +23,7 @@ StandsFor end (plan.Confirm upto) outcome =
     outcome ≡ record { effects = effect.Confirmed upto ∷ []; reply = reply.Confirmed upto }
 StandsFor end (plan.Rest r) outcome = outcome ≡ record { effects = []; reply = r }
 
--- the plan stands for what the machine gives to an event
+-- the plan has the outcome that the machine gives to an event
 abbrev pub PlansFor : Machine → Event → SmallPlan → Type 0
 PlansFor machine event p =
     (outcome : Outcome) × StandsFor machine.end p outcome × Step machine.modes machine.end event outcome
@@ -36,7 +36,7 @@ CanGo end (plan.Confirm upto) =
     (end.confirmed ≤ upto) × (upto < length end.inbox) × (end.size + 20 ≤ journal_limit)
 CanGo end (plan.Rest r) = Unit {0}
 
--- the plan is what this machine gives to an event, as it stands, and can be carried out
+-- the plan is what this machine does with an event in its present state, and can be carried out
 pub record IsSmallReady (machine : Machine) (p : SmallPlan) : Type 0 where
   pub planned : (event : Event) × PlansFor machine event p
   pub goes : CanGo machine.end p

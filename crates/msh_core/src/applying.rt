@@ -1,4 +1,4 @@
-//! Effects are made one after another, with the room and the queues that were got for them.
+//! Applies effects one after another, with the room and the queues that were prepared for them.
 ghost use Rattle.std.specs.Prelude.{◌≡◌, IfOk, OnOk, map};
 ghost use Rattle.end_tables.specs.Rooms.{queue_for};
 ghost use Rattle.end_tables.specs.Standing.{CanStand};
@@ -10,7 +10,8 @@ use as4_values::{NoMemory, Seq};
 use end_tables::EndTables;
 use std::alloc::Global;
 
-/// Makes room for the effects, of which the last alone may take some, and finds the queue in which each moves a submission.
+/// Reserves room for the effects, of which only the last may take some, and finds the queue in which each moves a
+/// submission.
 pub fn room_for(
     alloc: Global,
     tables: &mut EndTables,
@@ -25,7 +26,7 @@ pub fn room_for(
     queues_for(alloc, tables, effects)
 }
 
-/// Makes room for the last of the effects: the others take none.
+/// Reserves room for the last of the effects: the others take none.
 fn reserve_last(tables: &mut EndTables, effects: &Seq<Effect>) -> Result<(), NoMemory>
     requires { CanStand tables.old.end effects.now }
     ensures room { OnOk result (HaveRoom tables.new.rooms tables.new.end.sent effects.now) }
@@ -54,7 +55,7 @@ fn queues_for(
     Ok(Seq::of(queues))
 }
 
-/// Makes the changes of all effects, in order. Takes no memory.
+/// Applies all effects, in order. Takes no memory.
 pub fn apply_all(tables: &mut EndTables, effects: Seq<Effect>, queues: &Seq<Queue>)
     requires stands { CanStand tables.old.end effects }
     requires queues { queues.now ≡ map (queue_for tables.old.end.sent) effects }

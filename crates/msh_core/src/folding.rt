@@ -1,13 +1,13 @@
-//! An end's fold: the effects that give the end back from the empty end, each in a record of its own. A journal that is
-//! written again has these, and is mostly shorter than one that grew with all that ever happened.
+//! Compaction: the effects that make an endpoint again from the empty endpoint, each in a record of its own. A
+//! compacted journal has only these, and is usually shorter than a journal that grew with every event.
 //!
-//!     place                 effect      of
-//!     from 0                Carried     each submission as it stands, in order
-//!     behind them           Kept        each message that was taken over, its header alone
-//!     behind them           Delivered   each other message that came
-//!     behind them, if set   Ticked      the clock
+//!     place                  effect      of
+//!     from 0                 Carried     each submission with its state, in order
+//!     after them             Kept        each confirmed message, its header alone
+//!     after them             Delivered   each other received message
+//!     after them, if set     Ticked      the clock
 //!
-//! The effects are made one at a time, so that no list of them has to be held.
+//! The effects are made one at a time, so no list of them has to be kept in memory.
 
 ghost use Rattle.std.specs.Prelude.{◌≡◌, ℕ, ◌+◌, ◌<◌, ◌≤◌, IfOk, List, Some, drop, length, slice_get, take};
 ghost use Rattle.std.specs.List.{sum_by};
@@ -27,19 +27,19 @@ use as4_values::{NoMemory, PlainData, try_clone_two};
 use end_tables::{EndTables, Held};
 use std::alloc::Global;
 
-/// How many bytes a journal has before its first record.
+/// The bytes of a journal before its first record.
 const JOURNAL_HEAD: u64 = 9;
 
-/// How many bytes the record of one effect has beside the effect: its gate, the length of its body, and the count of its
-/// effects.
+/// The bytes of the record of one effect in addition to the effect: its gate (the commit byte), the length of its body,
+/// and the count of its effects.
 const BESIDE_EFFECT: u64 = 11;
 
-/// How many bytes a submission that is carried over has between its fields and its mark: how often it was sent, and when
-/// last.
+/// The bytes of a carried submission between its fields and its mark: the number of tries, and the time of the last
+/// one.
 const TRIES_AND_LAST: u64 = 12;
 
 impl Core {
-    /// The effect at this place of the end's fold, from 0; none behind the last.
+    /// The effect at this place of the endpoint's compaction, from 0; None past the last.
     pub fn folded(&self, part: u64) -> Result<Option<Effect>, NoMemory>
         ensures { IfOk result (λ found. (effects : List EffectValue) × IsFolded self.now.end effects × (found ≡ slice_get effects part)) }
     {
@@ -58,7 +58,7 @@ impl Core {
         Ok(set_clock(&self.tables, place - received))
     }
 
-    /// How many bytes a journal has with the end's fold alone, or the greatest number where they are more. Takes no memory.
+    /// The size of a journal that has only the endpoint's compaction, at most `u64::MAX`. Takes no memory.
     pub fn folded_size(&self) -> u64
         ensures reached { IsReached self.now.end }
         ensures size { (size : ℕ) × IsFoldedSize self.now.end size × (result ≡ capped size) }
@@ -70,7 +70,7 @@ impl Core {
         clock_size(&self.tables, sum)
     }
 
-    /// The journal has the size of the end's fold from now on. Takes no memory.
+    /// Sets the journal's size to that of the endpoint's compaction. Takes no memory.
     pub fn set_folded(&mut self)
         requires { (size : ℕ) → IsFoldedSize self.old.end size → size ≤ MAX_JOURNAL }
         ensures end { (size : ℕ) → IsFoldedSize self.old.end size → self.new.end ≡ resized size self.old.end }
@@ -81,14 +81,14 @@ impl Core {
     }
 }
 
-/// What an end is folded to can be made again on a new core, each effect in a record of its own: `replay` may be called
-/// with each, none is unfit, and the end that they lead to is the same, but for its journal's size.
+/// A law: a compaction that fits a journal can be replayed on a new core, each effect in a record of its own. `replay`
+/// may be called with each, none is unfit, and they lead to the same endpoint, except for its journal's size.
 pub fn a_fold_can_be_replayed()
     ensures { (end : End) (effects : List EffectValue) → IsReached end → IsFolded end effects → folded_size effects ≤ MAX_JOURNAL
         → CanBeReplayed effects new_tables.end (resized (folded_size effects) end) }
 {}
 
-/// The submission of this number as it stands.
+/// The submission of this number with its state.
 fn carried_over(alloc: Global, tables: &EndTables, number: u64) -> Result<Option<Effect>, NoMemory>
     ensures { IfOk result (λ found. OneFor CarriesOver (sent_at number tables.now.end.sent) found) }
 {
@@ -110,7 +110,7 @@ fn carried_over(alloc: Global, tables: &EndTables, number: u64) -> Result<Option
     })))
 }
 
-/// The header of the message that came at this place, which was taken over.
+/// The header of the confirmed message at this place.
 fn kept_header(alloc: Global, tables: &EndTables, place: u64) -> Result<Option<Effect>, NoMemory>
     requires written { CanBeWritten tables.now.end }
     requires taken_over { place < tables.now.end.confirmed }
@@ -123,7 +123,7 @@ fn kept_header(alloc: Global, tables: &EndTables, place: u64) -> Result<Option<E
     Ok(Some(Effect::Kept(Kept { header })))
 }
 
-/// The message that came at this place, which wasn't taken over.
+/// The message at this place, which isn't confirmed.
 fn delivered_again(
     alloc: Global,
     tables: &EndTables,
@@ -142,7 +142,7 @@ fn delivered_again(
     }
 }
 
-/// The clock, at the first place behind all others, unless it never was set.
+/// The clock, at the first place after all others, unless it was never set.
 fn set_clock(tables: &EndTables, place: u64) -> Option<Effect>
     ensures { (clock : List EffectValue) × SetsClock tables.now.end.moment clock × (result ≡ slice_get clock place) }
 {
@@ -153,7 +153,7 @@ fn set_clock(tables: &EndTables, place: u64) -> Option<Effect>
     Some(Effect::Ticked(Tick { moment }))
 }
 
-/// The sum and the bytes of the records of all submissions.
+/// The sum plus the bytes of the records of all submissions.
 fn submissions_size(tables: &EndTables, sum: u64) -> u64
     ensures { result ≡ capped (sum + sum_by carried_len tables.now.end.sent) }
 {
@@ -164,7 +164,7 @@ fn submissions_size(tables: &EndTables, sum: u64) -> u64
     total
 }
 
-/// The sum and the bytes of the record of this submission.
+/// The sum plus the bytes of the record of this submission.
 fn carried_size(tables: &EndTables, number: u64, sum: u64) -> u64
     ensures { result ≡ capped (sum + len_at carried_len (sent_at number tables.now.end.sent)) }
 {
@@ -178,7 +178,7 @@ fn carried_size(tables: &EndTables, number: u64, sum: u64) -> u64
     mark.add_len(sum).saturating_add(BESIDE_EFFECT)
 }
 
-/// The sum and the bytes of the records of all messages that were taken over.
+/// The sum plus the bytes of the records of all confirmed messages.
 fn taken_over_size(tables: &EndTables, sum: u64) -> u64
     ensures { result ≡ capped (sum + sum_by kept_len (take tables.now.end.confirmed tables.now.end.inbox)) }
 {
@@ -189,7 +189,7 @@ fn taken_over_size(tables: &EndTables, sum: u64) -> u64
     total
 }
 
-/// The sum and the bytes of the record of the header of the message at this place.
+/// The sum plus the bytes of the record of the header of the message at this place.
 fn kept_size(tables: &EndTables, place: u64, sum: u64) -> u64
     ensures { result ≡ capped (sum + len_at kept_len (slice_get tables.now.end.inbox place)) }
 {
@@ -201,7 +201,7 @@ fn kept_size(tables: &EndTables, place: u64, sum: u64) -> u64
         .saturating_add(BESIDE_EFFECT)
 }
 
-/// The sum and the bytes of the records of all other messages.
+/// The sum plus the bytes of the records of all other messages.
 fn waiting_size(tables: &EndTables, sum: u64) -> u64
     ensures { result ≡ capped (sum + sum_by delivered_len (drop tables.now.end.confirmed tables.now.end.inbox)) }
 {
@@ -213,7 +213,7 @@ fn waiting_size(tables: &EndTables, sum: u64) -> u64
     total
 }
 
-/// The sum and the bytes of the record of the message at this place, which wasn't taken over.
+/// The sum plus the bytes of the record of the message at this place, which isn't confirmed.
 fn delivered_size(tables: &EndTables, place: u64, sum: u64) -> u64
     requires { tables.now.end.confirmed ≤ place }
     ensures { result ≡ capped (sum + len_at delivered_len (slice_get tables.now.end.inbox place)) }
@@ -227,7 +227,7 @@ fn delivered_size(tables: &EndTables, place: u64, sum: u64) -> u64
     }
 }
 
-/// The sum and the bytes of the clock's record.
+/// The sum plus the bytes of the clock's record.
 fn clock_size(tables: &EndTables, sum: u64) -> u64
     ensures { result ≡ capped (sum + clock_len tables.now.end.moment) }
 {

@@ -1,4 +1,4 @@
-//! The message service handler's machine: what one end does with each event.
+//! The message service handler's machine: what one endpoint does with each event.
 #![tactic(auto)]
 
 mod applying;

@@ -1,3 +1,5 @@
+//! The core: one endpoint with its processing modes.
+
 ghost use Rattle.std.specs.Prelude.{◌≡◌, ◌+◌, ◌≤◌, ◌^◌, IfOk, IfSome, IsOk, None, false, length, option_copied, option_map, true};
 ghost use Rattle.std.specs.List.{sum_by};
 ghost use Rattle.as4_effects.specs.Effects.{effects_body, effects_limit, most_bytes_of};
@@ -24,12 +26,12 @@ use pmodes::Modes;
 use std::alloc::Global;
 use std::marker::Model;
 
-/// How many bytes a journal has at most.
+/// The most bytes of a journal.
 pub const MAX_JOURNAL: u64 = 4_294_967_296;
 
 const _: () = prove!(MAX_JOURNAL == 4294967296);
 
-/// One end with its processing modes. It asks no clock, disk or peer: what happens comes in as events.
+/// One endpoint with its processing modes. It reads no clock, disk or network: whatever happens is an event.
 #[derive(Drop)]
 pub struct Core {
     pub(crate) alloc: Global,
@@ -45,12 +47,12 @@ impl Model for Core {
 
     ghost view = { λ core. record { end = core.tables.end; modes = core.modes; rooms = core.tables.rooms } };
 
-    // Fit effects have led to the end.
+    // Effects that fit lead to the endpoint.
     ghost invariant = { λ core. IsReached core.tables.end };
 }
 
 impl Core {
-    /// An end to which nothing happened yet.
+    /// An endpoint to which nothing has happened yet.
     #[tactic(auto, using(fold_laws::proofs::ReachedLemmas::reached_first))]
     pub fn new(alloc: Global, modes: Modes) -> Core
         ensures { result ≡ record { end = new_tables.end; modes = modes; rooms = new_tables.rooms } }
@@ -62,8 +64,8 @@ impl Core {
         }
     }
 
-    /// What the end does with an event, with all the memory that it takes. Nothing changes but room. Where nothing is to
-    /// change, and the reply has no text in it, no memory is taken.
+    /// What the endpoint does with an event. Takes all the memory that this needs; changes nothing but the reserved
+    /// room. If the outcome is free (no effects, and a bare reply), this doesn't fail.
     pub fn prepare(&mut self, event: &Event) -> Result<Plan, NoMemory>
         ensures step { IfOk result (λ plan. Step self.old.modes self.old.end event.now plan.outcome) }
         ensures ready { IfOk result (IsReady self.new) }
@@ -80,7 +82,7 @@ impl Core {
         match room_for(self.alloc, &mut self.tables, &outcome.effects) {
             Ok(queues) => Ok(Plan::of(outcome, queues)),
             Err(error) => {
-                // So no other outcome takes no memory.
+                // Laws: an event has one outcome, so this `Err` excludes the memory-free one.
                 an_event_has_one_outcome();
                 drop(outcome);
                 Err(error)
@@ -88,7 +90,7 @@ impl Core {
         }
     }
 
-    /// Does what was planned on the present state. Takes no memory.
+    /// Carries out a plan for the present state. Takes no memory.
     pub fn commit(&mut self, plan: Plan) -> Reply
         requires { IsReady self.old plan }
         ensures end { self.new.end ≡ applied plan.outcome.effects self.old.end }
@@ -115,7 +117,7 @@ impl Core {
         self.tables.moment()
     }
 
-    /// How many bytes the journal has.
+    /// The size of the journal in bytes.
     pub fn size(&self) -> u64
         ensures { result ≡ self.now.end.size }
     {
@@ -129,7 +131,7 @@ impl Core {
         self.tables.get(number)
     }
 
-    /// How many submissions, receipts, failures, refusals and deliveries there are.
+    /// Counts of the submissions by state, and of the received messages.
     pub fn totals(&self) -> Totals
         ensures { AreTotals self.now.end result }
     {
@@ -137,7 +139,7 @@ impl Core {
     }
 }
 
-/// The row, where the journal has room for its record.
+/// The row, if the journal has room for its record; else the reply `Full`.
 #[tactic(auto, unfolding(exchange_model::specs::Table::has_room))]
 fn limited(alloc: Global, tables: &EndTables, row: Outcome) -> Outcome
     requires { CanStand tables.now.end row.effects }
@@ -156,7 +158,7 @@ fn limited(alloc: Global, tables: &EndTables, row: Outcome) -> Outcome
     }
 }
 
-/// How many bytes the record of the effects has, if the journal has no room for it.
+/// The size of the effects' record, if the journal has no room for it.
 #[tactic(auto, unfolding(exchange_model::specs::Table::has_room), using(crate::proofs::ShortLemmas::short_body))]
 fn lacking(tables: &EndTables, effects: &Seq<Effect>) -> Option<u64>
     requires stands { CanStand tables.now.end effects.now }
@@ -174,7 +176,7 @@ fn lacking(tables: &EndTables, effects: &Seq<Effect>) -> Option<u64>
     Some(need)
 }
 
-/// How many bytes the record of the effects takes.
+/// The size of the effects' record.
 #[tactic(auto, unfolding(exchange_model::specs::Apply::record_len))]
 pub(crate) fn record_len(effects: &Seq<Effect>) -> u64
     requires { length effects.now ≤ effects_limit }

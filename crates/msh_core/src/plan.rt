@@ -1,3 +1,5 @@
+//! Plans of events.
+
 ghost use Rattle.std.specs.Prelude.{◌≡◌};
 
 use as4_effects::{Effect, Queue};
@@ -5,7 +7,7 @@ use as4_values::Seq;
 use exchange_model::{Outcome, Reply};
 use std::marker::Model;
 
-/// What an end is about to do: all memory for it is taken. `Core::prepare` alone makes one.
+/// What an endpoint is about to do: all memory for it is taken. Only `Core::prepare` makes one.
 #[derive(Drop)]
 pub struct Plan {
     outcome: Outcome,

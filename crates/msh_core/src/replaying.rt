@@ -1,4 +1,4 @@
-//! The effects of a record are made again.
+//! Replays the effects of records.
 ghost use Rattle.std.specs.Prelude.{◌≡◌, ◌+◌, ◌≤◌, ℕ, Err, IfOk, None, Some, IsTrue, OnOk, length};
 ghost use Rattle.as4_effects.specs.Effects.{effects_limit};
 ghost use Rattle.end_tables.specs.Rooms.{HasRoom, queue_for};
@@ -11,10 +11,10 @@ use as4_effects::{Effect, Queue};
 use as4_values::{NoMemory, Seq};
 use end_tables::EndTables;
 
-/// Why a record isn't made again. The core is then to be let go.
+/// Why a record isn't replayed. Drop the core after this.
 #[derive(Clone, Copy, Debug, PartialEq, Eq)]
 pub enum ReplayRefusal {
-    /// The effect at this place, from 0, can't stand where those before it have led.
+    /// The effect at this place, from 0, doesn't fit after those before it.
     Unfit { index: usize },
     NoMemory,
 }
@@ -28,7 +28,7 @@ impl From<NoMemory> for ReplayRefusal {
 }
 
 impl Core {
-    /// Makes the effects of one record again. An unfit first effect is told whatever memory there is.
+    /// Replays the effects of one record. If the first effect is unfit, this is reported even when out of memory.
     pub fn replay(&mut self, effects: Seq<Effect>) -> Result<(), ReplayRefusal>
         requires some { 1 ≤ length effects }
         requires counted { length effects ≤ effects_limit }
@@ -46,7 +46,7 @@ impl Core {
     }
 }
 
-/// Makes effects one after another.
+/// Applies effects one after another.
 fn replay_all(tables: &mut EndTables, effects: Seq<Effect>) -> Result<(), ReplayRefusal>
     requires { length effects ≤ effects_limit }
     ensures ok { OnOk result (tables.new.end ≡ after_all effects tables.old.end) }
@@ -67,7 +67,7 @@ fn replay_all(tables: &mut EndTables, effects: Seq<Effect>) -> Result<(), Replay
     Ok(())
 }
 
-/// Makes an effect that fits.
+/// Applies an effect that fits.
 fn replay_one(tables: &mut EndTables, effect: Effect) -> Result<(), NoMemory>
     requires { IsTrue (is_fit effect tables.old.end) }
     ensures ok { OnOk result (tables.new.end ≡ after effect tables.old.end) }
@@ -85,7 +85,7 @@ fn replay_one(tables: &mut EndTables, effect: Effect) -> Result<(), NoMemory>
     }
 }
 
-/// Makes room for an effect that fits, and finds its queue.
+/// Reserves room for an effect that fits, and finds its queue.
 fn room_for_one(tables: &mut EndTables, effect: &Effect) -> Result<Queue, NoMemory>
     requires { IsTrue (is_fit effect.now tables.old.end) }
     ensures room { IfOk result (λ _. HasRoom tables.new.rooms tables.new.end.sent effect.now) }

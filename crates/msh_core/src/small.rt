@@ -9,15 +9,15 @@ use as4_effects::{Effect, Queue, Tick};
 use as4_values::MAX_MOMENT;
 use exchange_model::{Reply, What};
 
-/// How many bytes the record of a tick or of a confirmation has.
+/// The size of the record of a tick or of a confirmation.
 pub(crate) const SMALL_RECORD: u64 = 20;
 
-/// What an end is about to do at a tick or a confirmation.
+/// What an endpoint is about to do at a tick or a confirmation.
 #[derive(Drop)]
 pub enum SmallPlan {
     /// The clock is set to this moment.
     Tick { moment: u64 },
-    /// The messages up to this one are taken over.
+    /// The messages up to and including this one are confirmed.
     Confirm { upto: u64 },
     /// Nothing changes.
     Rest(Reply),
@@ -26,7 +26,7 @@ pub enum SmallPlan {
 impl Core {
     ghost use Rattle.msh_core.specs.Small.{CanGo, IsSmallReady, PlansFor, StandsFor};
 
-    /// What a tick to this moment does, in milliseconds since 1970-01-01T00:00:00Z.
+    /// What a tick to this moment does; in milliseconds since 1970-01-01T00:00:00Z.
     pub fn plan_tick(&self, stamp: u64) -> SmallPlan
         requires { stamp ≤ MAX_MOMENT }
         ensures step { (event : EventValue) → event.what ≡ What.Tick → event.stamp ≡ stamp → PlansFor self.now event result }
@@ -41,7 +41,7 @@ impl Core {
         SmallPlan::Tick { moment: stamp }
     }
 
-    /// What a confirmation of the messages up to this one does.
+    /// What a confirmation of the messages up to and including this one does.
     pub fn plan_confirm(&self, upto: u64) -> SmallPlan
         ensures step { (event : EventValue) → event.what ≡ What.Confirm upto → PlansFor self.now event result }
         ensures ready { IsSmallReady self.now result }
@@ -74,7 +74,7 @@ impl Core {
         SmallPlan::Rest(Reply::Full { size, need })
     }
 
-    /// Does what was planned on the present state.
+    /// Carries out a plan for the present state.
     pub fn commit_small(&mut self, plan: SmallPlan) -> Reply
         requires { IsSmallReady self.old plan }
         ensures step { (outcome : OutcomeValue) → StandsFor self.old.end plan outcome

@@ -1,4 +1,4 @@
--- Counts of how submissions stand, behind a change.
+-- The counts of settled submissions, after a change.
 use Rattle.std.proofs.Common.{◌≡◌, ℕ, ◌+◌, List, [], ◌∷◌, ◌++◌, Bool, cond, refl, ◌∙◌, arith}
 use Rattle.std.specs.Prelude.{IsTrue, count_by}
 use Rattle.std.proofs.lemmas.Bool.{false≢true}
@@ -41,7 +41,7 @@ more_refused mark.Receipted counts = omega arith
 more_refused mark.Failed counts = omega arith
 more_refused (mark.Refused code) counts = refl
 
--- one submission more
+-- one more submission
 pub counted_push : (counts : Counts) (sent : List Sent) (s : Sent) → AreCounts counts sent → AreCounts (counted s.mark counts) (sent ++ s ∷ [])
 counted_push counts sent s are = record {
   receipted = omega (arith, more_receipted s.mark counts, are.receipted, pushed is_receipted_mark sent s);
@@ -64,7 +64,7 @@ settled p number m sent parts none =
     ≡ count_by (λ (s : Sent). p s.mark) sent + one_of p m = recounted (λ (s : Sent). p s.mark) number (marked m) sent parts in
     omega (arith, none, all)
 
--- a pending one is settled
+-- a pending one becomes settled
 pub counted_settled : (number : ℕ) (m : Mark) (counts : Counts) (sent : List Sent) (parts : Parts number sent) → IsTrue (is_pending parts.one)
     → AreCounts counts sent → AreCounts (counted m counts) (changed number (marked m) sent)
 counted_settled number m counts sent parts pending are =

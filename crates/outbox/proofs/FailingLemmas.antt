@@ -1,4 +1,4 @@
--- When pending submissions are given up, by the heap that keeps them.
+-- When pending submissions expire, by the heap that keeps them.
 use Rattle.std.proofs.Common.{◌≡◌, ◌≢◌, ℕ, zero, suc, ◌+◌, ◌<◌, ◌≤◌, inl, inr, List, [], ◌∷◌, ◌++◌, Bool, true, false, cond, Option, Some, None, length, refl, sym, ap, subst, ◌∙◌, arith}
 use Rattle.std.specs.Prelude.{◌==◌, IsTrue, count_by, nat_le, option_map, slice_get}
 use Rattle.std.proofs.lemmas.Bool.{and_parts, cases_Bool, cases_eq, cond-true, cond-false, leb-true}
@@ -17,7 +17,7 @@ use Rattle.outbox.specs.Failing.{Watches, failing_at, watched}
 use Rattle.outbox.specs.Submissions.{Stand}
 use Rattle.outbox.proofs.PartsLemmas.{length_changed}
 
--- what stands behind the last
+-- the item after the last
 get_last : {X : Type 0} (xs : List X) (x : X) → slice_get (xs ++ x ∷ []) (length xs) ≡ Some x
 get_last [] x = refl
 get_last (y ∷ xs) x = get_last xs x
@@ -28,7 +28,7 @@ get_other [] x (suc n) other = refl
 get_other (y ∷ xs) x zero other = refl
 get_other (y ∷ xs) x (suc n) other = get_other xs x n (λ same. other (ap suc same))
 
--- one submission more is watched where it is pending
+-- one more submission is watched if it is pending
 pub watches_push : (old new : Heaps) (before : List Sent) (s : Sent) → length before ≡ s.submission.number → 0 < new.count
     → Watches old before → Sets s.submission.number (watched (Some s)) old new → Watches new (before ++ s ∷ [])
 watches_push old new before s next some are sets = record {
@@ -42,11 +42,11 @@ watches_push old new before s next some are sets = record {
   heap = λ more. some;
 }
 
--- the number behind all submissions stands in no heap
+-- the number after all submissions is in no heap
 pub next_unwatched : (failing : Heaps) (sent : List Sent) → Watches failing sent → standing_at (length sent) failing ≡ None
 next_unwatched failing sent are = are.each (length sent) ∙ ap watched (slice_get_past sent (length sent) (omega arith))
 
--- a change at a number changes what stands there
+-- a change at a number changes the item there
 changed_get : (from number k : ℕ) (f : Sent → Sent) (sent : List Sent) → AreNumberedFrom from sent
     → slice_get (changed number f sent) k ≡ option_map (λ s. cond (from + k == number) (f s) s) (slice_get sent k)
 unfolding AreNumberedFrom changed
@@ -58,15 +58,15 @@ changed_get from number (suc k) f (s ∷ sent) numbered =
     let there : suc from + k ≡ from + suc k = omega arith in
     changed_get (suc from) number k f sent numbered.1 ∙ ap (λ n. option_map (λ t. cond (n == number) (f t) t) (slice_get sent k)) there
 
--- a pending submission is watched by the moment at which it is given up
+-- a pending submission is watched with the moment at which it expires
 pub watched_pending : (s : Sent) → IsTrue (is_pending s) → watched (Some s) ≡ Some (record { heap = 0; due = failing_at s })
 watched_pending s pending = cond-true _ _ _ pending
 
--- one that is settled isn't watched
+-- a settled one isn't watched
 pub watched_settled : (s : Sent) → is_pending s ≡ false → watched (Some s) ≡ None
 watched_settled s settled = cond-false _ _ _ settled
 
--- what stands at a number is found by it
+-- the submission found by a number is at its place
 pub at_place : (sent : List Sent) (number : ℕ) (s : Sent) → Stand sent → sent_at number sent ≡ Some s → slice_get sent number ≡ Some s
 at_place sent number s stand found = sym (place number sent stand.numbered) ∙ found
 
@@ -74,7 +74,7 @@ kept : (b : Bool) (f : Sent → Sent) (o : Option Sent) → b ≡ false → opti
 kept b f None other = refl
 kept b f (Some s) other = ap Some (cond-false _ _ _ other)
 
--- a submission is changed at its number, and the heap has what becomes of it
+-- a submission is changed at its number, and the heap has its new state
 pub watches_changed : (old new : Heaps) (sent : List Sent) (number : ℕ) (f : Sent → Sent) (s : Sent) → Stand sent → slice_get sent number ≡ Some s
     → Watches old sent → Sets number (watched (Some (f s))) old new → Watches new (changed number f sent)
 watches_changed old new sent number f s stand there are sets = record {
@@ -97,14 +97,14 @@ watches_changed old new sent number f s stand there are sets = record {
       omega (arith, sets.count);
 }
 
--- only a pending one is pending
+-- a mark other than `Pending` isn't pending
 pub not_pending : (m : Mark) → (m ≡ mark.Pending → ⊥) → is_pending_mark m ≡ false
 not_pending mark.Pending other = absurd (other refl)
 not_pending mark.Receipted other = refl
 not_pending mark.Failed other = refl
 not_pending (mark.Refused code) other = refl
 
--- due moments lie before the one past all
+-- due moments are before the one past all others
 either_small : (b : Bool) (m n : ℕ) → m < 18446744073709551615 → n < 18446744073709551615 → cond b m n < 18446744073709551615
 either_small true m n small other = small
 either_small false m n small other = other

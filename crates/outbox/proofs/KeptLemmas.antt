@@ -1,4 +1,4 @@
--- What an outbox keeps beside its submissions, behind a change at a number.
+-- The other fields of an outbox, after a change at a number.
 use Rattle.std.proofs.Common.{◌≡◌, ℕ, List, [], ◌++◌, false, Option, Some, length, take, drop, refl, sym, ap, subst, ◌∙◌, arith}
 use Rattle.std.specs.Prelude.{IsSome, IsTrue, None, option_map, slice_get}
 use Rattle.std.proofs.lemmas.Bool.{and_parts}
@@ -13,14 +13,14 @@ use Rattle.outbox.specs.Submissions.{Stand}
 use Rattle.outbox.proofs.FailingLemmas.{at_place, watched_pending, watched_settled, watches_changed}
 use Rattle.outbox.proofs.PartsLemmas.{Parts, parts_of, passes}
 
--- a vector that was written over whole has what was written
+-- a vector that is overwritten entirely has the new items
 pub written : {X : Type 0} (len : ℕ) (new old : List X) → len ≡ length old → length new ≡ length old
     → take len (new ++ drop (length new) old) ≡ new
 written len new old is long =
     let none : drop (length new) old ≡ [] = drop_all (length new) old (omega (arith, long)) in
     ap (λ rest. take len (new ++ rest)) none ∙ ap (take len) (append-nil new) ∙ take_all len new (omega (arith, is, long))
 
--- a pending submission stands in the heap
+-- a pending submission is in the heap
 pub is_watched : (failing : Heaps) (sent : List Sent) (number : ℕ) → Stand sent → Watches failing sent
     → IsTrue (is_one is_pending (sent_at number sent)) → IsSome (standing_at number failing)
 is_watched failing sent number stand are pending =
@@ -37,13 +37,13 @@ none_watched failing is = record {
   heap = λ some. absurd (omega arith);
 }
 
--- one that waits is pending
+-- a waiting submission is pending
 pub waiting_pending : (sent : List Sent) (number : ℕ) (parts : Parts number sent) → IsTrue (is_one is_waiting (sent_at number sent))
     → IsTrue (is_one is_pending (sent_at number sent))
 waiting_pending sent number parts waiting =
     subst (λ o. IsTrue (is_one is_pending o)) (sym parts.found) (and_parts _ _ (passes is_waiting number sent parts waiting)).0
 
--- a try moves the moment at which it is given up
+-- a try moves the moment at which it expires
 pub watches_tried : (old new : Heaps) (sent : List Sent) (number moment fails : ℕ) (parts : Parts number sent) → Stand sent
     → IsTrue (is_pending parts.one) → fails ≡ failing_at (tried moment parts.one) → Watches old sent
     → Sets number (option_map (with_due fails) (standing_at number old)) old new → Watches new (changed number (tried moment) sent)
@@ -56,14 +56,14 @@ watches_tried old new sent number moment fails parts stand pending is are sets =
     watches_changed old new sent number (tried moment) parts.one stand there are
     (record { count = sets.count; here = sets.here ∙ ap (option_map (with_due fails)) was ∙ sym now; others = sets.others })
 
--- one that is settled is watched no more
+-- a settled one isn't watched any more
 pub watches_settled : (old new : Heaps) (sent : List Sent) (number : ℕ) (m : Mark) (parts : Parts number sent) → Stand sent
     → is_pending_mark m ≡ false → Watches old sent → Sets number None old new → Watches new (changed number (marked m) sent)
 watches_settled old new sent number m parts stand settled are sets =
     watches_changed old new sent number (marked m) parts.one stand (at_place sent number parts.one stand parts.found) are
     (record { count = sets.count; here = sets.here ∙ sym (watched_settled (marked m parts.one) settled); others = sets.others })
 
--- where there is no room there is none for anything
+-- no room contradicts some room
 pub no_room : {X : Type 0} (room : Option X) → room ≡ None → IsSome room → ⊥
 no_room None none some = cc
 no_room (Some x) none some = cc

@@ -1,4 +1,4 @@
--- Submissions that stand at their numbers: a change at a number is written there.
+-- Submissions at the places of their numbers: a change at a number is written there.
 use Rattle.std.proofs.Common.{◌≡◌, ◌≢◌, ℕ, zero, suc, ◌+◌, ◌<◌, List, [], ◌∷◌, length, set, get_or, refl, ap, ◌∙◌, arith}
 use Rattle.std.proofs.lemmas.Bool.{eq-eqb, ne_eqb}
 use Rattle.exchange_model.specs.Apply.{changed}
@@ -23,7 +23,7 @@ pub changed_at : (k : ℕ) (f : Sent → Sent) (sent : List Sent) (d : Sent) →
     → set sent k (f (get_or sent k d)) ≡ changed k f sent
 changed_at k f sent d numbered short = changed_from 0 k k f sent d (omega arith) numbered short
 
--- one in place of another of its number
+-- one instead of another of its number
 set_from : (n k : ℕ) (sent : List Sent) (s d : Sent) → AreNumberedFrom n sent → k < length sent
     → s.submission.number ≡ (get_or sent k d).submission.number → AreNumberedFrom n (set sent k s)
 unfolding AreNumberedFrom

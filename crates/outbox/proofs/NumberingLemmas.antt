@@ -1,4 +1,4 @@
--- Identifiers that stand at their numbers.
+-- Identifiers at the places of their numbers.
 use Rattle.std.proofs.Common.{◌≡◌, ℕ, suc, ◌+◌, ◌≤◌, ◌||◌, inl, inr, List, [], ◌∷◌, ◌++◌, Bool, true, false, cond, not, nat_lt, Option, Some, None, length, map, take, refl, sym, ap, ◌∙◌, arith}
 use Rattle.std.specs.Prelude.{option_map}
 use Rattle.std.specs.Option.{option_and_then}
@@ -17,14 +17,14 @@ use Rattle.outbox.specs.declared.numbers.Numbers.{Numbers}
 use Rattle.exchange_model.specs.Apply.{changed}
 use Rattle.outbox.proofs.PartsLemmas.{Parts, length_changed, remapped}
 
--- the first of two lists that are the same
+-- the first items of two equal lists
 head_is : {X : Type 0} (x y : X) (xs ys : List X) → x ∷ xs ≡ y ∷ ys → x ≡ y
 head_is x y xs ys e = cc
 
 tail_is : {X : Type 0} (x y : X) (xs ys : List X) → x ∷ xs ≡ y ∷ ys → xs ≡ ys
 tail_is x y xs ys e = cc
 
--- a submission that hasn't the identifier is passed over
+-- a submission with another identifier is skipped
 passed : (id : List ℕ) (s : Sent) (sent : List Sent) → sent_of id (s ∷ sent) ≡ None → (bytes_eq (id_of s) id ≡ false) × (sent_of id sent ≡ None)
 passed id s sent none = elim (cases_Bool (bytes_eq (id_of s) id)) [
   | inl same ↦
@@ -44,11 +44,11 @@ among_others : (id k : List ℕ) (keys : List (List ℕ)) → bytes_eq id k ≡ 
     → list_any (bytes_eq id) keys ≡ true
 among_others id k keys other there = sym (ap (λ b. b || list_any (bytes_eq id) keys) other) ∙ there
 
--- what stands at the front of equal lists
+-- the first item of equal lists
 turned : (id k : List ℕ) (s : Sent) (b : Bool) → k ≡ id_of s → bytes_eq (id_of s) id ≡ b → bytes_eq id k ≡ b
 turned id k s b front is = ap (bytes_eq id) front ∙ (nat_list_eq_equiv.symm id (id_of s) ∙ is)
 
--- an identifier that none of these submissions has, and that stands among theirs and one more, is that one
+-- an identifier that none of these submissions has, and that is among theirs and one more, is that one
 pub last_one : (keys : List (List ℕ)) (sent : List Sent) (id : List ℕ) → take (length sent) keys ≡ map id_of sent
     → length keys ≤ length sent + 1 → list_any (bytes_eq id) keys ≡ true → sent_of id sent ≡ None → keys ≡ map id_of sent ++ id ∷ []
 last_one [] [] id ids few there new = absurd (false≢true there)
@@ -62,7 +62,7 @@ last_one (k ∷ keys) (s ∷ sent) id ids few there new =
     last_one keys sent id (tail_is _ _ _ _ ids) (omega arith) (among_others id k keys (turned id k s false front past.0) there) past.1 in
     ap (λ x. x ∷ keys) front ∙ ap (λ xs. id_of s ∷ xs) rest
 
--- the place of an identifier, where it is that of one of so many submissions from a number on
+-- the place of an identifier, where it is that of one of `count` submissions from a number on
 abbrev place_in : ℕ → ℕ → ℕ → Option ℕ
 place_in from count place = cond (nat_lt place count) (Some (from + place)) None
 
@@ -119,7 +119,7 @@ number_found id keys sent place ids numbered is =
     ∙ among_first (length keys) _ (length sent) within
     ∙ ap (option_and_then (λ n. cond (nat_lt n (length sent)) (Some n) None)) (sym is)
 
--- one submission more, which takes the identifier behind the others
+-- one more submission, which gets the identifier after the others
 pub numbered_too : (keys : List (List ℕ)) (sent : List Sent) (s : Sent) → take (length sent) keys ≡ map id_of sent
     → length keys ≤ length sent + 1 → list_any (bytes_eq (id_of s)) keys ≡ true → sent_of (id_of s) sent ≡ None
     → (take (length (sent ++ s ∷ [])) keys ≡ map id_of (sent ++ s ∷ [])) × (length keys ≤ length (sent ++ s ∷ []) + 1)

@@ -1,4 +1,4 @@
--- A list of submissions cut at the one of a number: what a change there leaves, and what it does to a count.
+-- A list of submissions, cut at the one of a number: what a change there keeps, and how it changes a count.
 use Rattle.std.proofs.Common.{◌≡◌, ◌≢◌, ℕ, suc, ◌+◌, inl, inr, List, [], ◌∷◌, ◌++◌, Bool, cond, Some, length, map, refl, sym, ap, subst, ◌∙◌, arith}
 use Rattle.std.specs.Prelude.{◌==◌, IsTrue, count_by}
 use Rattle.std.proofs.lemmas.Bool.{cases_Bool, cond-true, cond-false, false≢true, eqb-true, eq-eqb, ne_eqb}
@@ -10,7 +10,7 @@ use Rattle.exchange_model.specs.Questions.{sent_at}
 use Rattle.exchange_model.specs.declared.sent.Sent.{Sent}
 use Rattle.exchange_model.proofs.NumberedLemmas.{changed_before}
 
--- the one of this number, and those before and behind it
+-- the one of this number, and those before and after it
 pub record Parts (number : ℕ) (sent : List Sent) : Type 0 where
   pub before : List Sent
   pub one : Sent
@@ -58,14 +58,14 @@ parts_of p number sent numbered held = parts_from p 0 number sent numbered held
 pub passes : (p : Sent → Bool) (number : ℕ) (sent : List Sent) (parts : Parts number sent) → IsTrue (is_one p (sent_at number sent)) → IsTrue (p parts.one)
 passes p number sent parts held = subst (λ o. IsTrue (is_one p o)) parts.found held
 
--- a count over a list that is cut so
+-- a count over a list cut in this way
 count_parts : (q : Sent → Bool) (before : List Sent) (one : Sent) (behind : List Sent)
     → count_by q (before ++ one ∷ behind) ≡ count_by q before + (cond (q one) 1 0 + count_by q behind)
 count_parts q before one behind =
     sum_by-append (λ s. cond (q s) 1 0) before (one ∷ behind)
     ∙ ap (λ n. count_by q before + n) (sum_by-cons (λ s. cond (q s) 1 0) one behind)
 
--- a change at a number changes a count by what it makes of that one
+-- a change at a number changes a count by the change of that submission
 pub recounted : (q : Sent → Bool) (number : ℕ) (f : Sent → Sent) (sent : List Sent) (parts : Parts number sent)
     → count_by q (changed number f sent) + cond (q parts.one) 1 0 ≡ count_by q sent + cond (q (f parts.one)) 1 0
 recounted q number f sent parts =
@@ -79,7 +79,7 @@ pub length_changed : (number : ℕ) (f : Sent → Sent) (sent : List Sent) → l
 unfolding changed
 length_changed number f sent = length-map sent _
 
--- what maps the changed one as it was maps all as they were
+-- a map that gives the same for the changed submission gives the same for all
 pub remapped : {X : Type 0} (g : Sent → X) (number : ℕ) (f : Sent → Sent) (sent : List Sent) (parts : Parts number sent)
     → g (f parts.one) ≡ g parts.one → map g (changed number f sent) ≡ map g sent
 remapped g number f sent parts same =

@@ -1,4 +1,4 @@
--- Giving up one after another those that are spent.
+-- Letting the spent submissions expire one after another.
 use Rattle.std.proofs.Common.{◌≡◌, ℕ, zero, suc, inl, inr, ◌<◌, ◌≤◌, min, ◌+◌, List, [], ◌∷◌, Bool, true, false, cond, Option, Some, None, map, refl, sym, ap, ◌∙◌, arith}
 use Rattle.std.specs.Prelude.{◌==◌, IsTrue, count_by, nat_le, slice_get}
 use Rattle.std.specs.Option.{option_and_then}
@@ -17,7 +17,7 @@ use Rattle.outbox.specs.Submissions.{Stand}
 use Rattle.outbox.proofs.FailingLemmas.{dated_at, due_small, watched_pending, watched_settled}
 use Rattle.outbox.proofs.PartsLemmas.{Parts, parts_of, passes, recounted, remapped}
 
--- one that is given up leaves what giving up makes of all
+-- letting one expire first doesn't change the result for all
 pub fails_same : (moment number : ℕ) (sent : List Sent) → AreNumberedFrom 0 sent → IsTrue (is_one (is_spent moment) (sent_at number sent))
     → map (failed_if_spent moment) (changed number (marked mark.Failed) sent) ≡ map (failed_if_spent moment) sent
 fails_same moment number sent numbered spent =
@@ -25,7 +25,7 @@ fails_same moment number sent numbered spent =
     let one : is_spent moment parts.one ≡ true = passes (is_spent moment) number sent parts spent in
     remapped (failed_if_spent moment) number (marked mark.Failed) sent parts (sym (cond-true _ _ _ one))
 
--- and is one fewer that is spent
+-- and there is one fewer that is spent
 pub one_fewer : (moment number : ℕ) (sent : List Sent) → AreNumberedFrom 0 sent → IsTrue (is_one (is_spent moment) (sent_at number sent))
     → count_by (is_spent moment) (changed number (marked mark.Failed) sent) + 1 ≡ count_by (is_spent moment) sent
 one_fewer moment number sent numbered spent =
@@ -36,7 +36,7 @@ one_fewer moment number sent numbered spent =
     let here : ◌≡◌ {A = ℕ} (cond (is_spent moment parts.one) 1 0) 1 = ap (λ b. cond b 1 0) one in
     omega (arith, all, here)
 
--- where none is spent, none is given up
+-- where none is spent, none expires
 unspent_first : (b : Bool) (n : ℕ) → cond b 1 0 + n ≡ 0 → (b ≡ false) × (n ≡ 0)
 unspent_first true n none = absurd (omega arith)
 unspent_first false n none = (refl, omega arith)
@@ -47,7 +47,7 @@ none_fails moment (s ∷ sent) none =
     let parts = unspent_first (is_spent moment s) (count_by (is_spent moment) sent) (sym (sum_by-cons (λ t. cond (is_spent moment t) 1 0) s sent) ∙ none) in
     ap (λ t. t ∷ map (failed_if_spent moment) sent) (cond-false _ _ _ parts.0) ∙ ap (λ rest. s ∷ rest) (none_fails moment sent parts.1)
 
--- the heap has as many by a moment as are spent then
+-- the heap has as many due by a moment as are spent then
 due_if_spent : (moment last : ℕ) (s : Sent) → s.last ≤ 253402300799999 → last ≡ min moment 18446744073709551614
     → is_due_in 0 last (watched (Some s)) ≡ is_spent moment s
 due_if_spent moment last s dated is = elim (cases_Bool (is_pending s)) [

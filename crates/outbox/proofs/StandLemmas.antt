@@ -1,4 +1,4 @@
--- Submissions that stand in an outbox: what is looked up, and what a change leaves.
+-- Submissions at their places in an outbox: look-ups, and what a change keeps.
 use Rattle.std.proofs.Common.{Bor, inl, inr, get_or, ◌≡◌, ℕ, ◌<◌, ◌≤◌, List, [], ◌∷◌, ◌++◌, Bool, Option, Some, None, length, set, refl, sym, subst, ◌∙◌, arith}
 use Rattle.std.specs.Prelude.{slice_get, IsTrue, IfSome, option_copied}
 use Rattle.std.specs.Slice.{IsGetResult}
@@ -32,7 +32,7 @@ set_stands k sent s d short same dated stand = record {
   dated = All-set (λ (x : Sent). x.last ≤ 253402300799999) sent k s dated stand.dated;
 }
 
--- which is found is there
+-- a number that finds a submission is below the length
 pub held_short : (p : Sent → Bool) (number : ℕ) (sent : List Sent) → Stand sent → IsTrue (is_one p (sent_at number sent)) → number < length sent
 held_short p number sent stand held =
     elim (cases_lt number (length sent)) [
@@ -49,14 +49,14 @@ held_passes p number sent d stand held =
     place number sent stand.numbered ∙ slice_get-get_or sent number d (held_short p number sent stand held) in
     subst (λ (o : Option Sent). IsTrue (is_one p o)) one held
 
--- what waits was sent at most as often as may be
+-- a waiting submission was sent at most as often as its mode allows
 pub waiting_tries : (s : Sent) → IsTrue (is_waiting s) → s.tries ≤ 1000
 waiting_tries s waiting =
     let few : s.tries ≤ s.submission.retries = leb-true s.tries s.submission.retries (and_parts (is_pending s) _ waiting).1 in
     let most : s.submission.retries ≤ 1000 = s.submission.limited in
     omega arith
 
--- what is at a place
+-- the item at a place
 pub looked_up : (found : Option (Bor Sent)) (number : ℕ) (sent : List Sent) → IsGetResult sent number number found → option_copied found ≡ slice_get sent number
 looked_up None number sent is = sym (slice_get_past sent number is.3)
 looked_up (Some s) number sent is = sym (slice_get_read sent (length sent) number s.now refl is.3.0 is.1)

@@ -1,3 +1,4 @@
+-- The specs of outbox.
 pub mod Failing
 pub mod Counting
 pub mod Numbering

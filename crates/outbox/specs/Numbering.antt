@@ -8,7 +8,7 @@ use Rattle.outbox.specs.declared.numbers.Numbers.{Numbers}
 abbrev pub id_of : Sent → List ℕ
 id_of s = s.submission.header.id
 
--- each identifier stands at its submission's number, and the one for which there is room behind them, unless it is among them
+-- each identifier is at the place of its submission's number; the reserved one follows them, unless it is one of them
 pub record AreNumbers (numbers : Numbers) (sent : List Sent) : Type 0 where
   pub ids : take (length sent) numbers.ids.keys ≡ map id_of sent
   pub few : length numbers.ids.keys ≤ length sent + 1

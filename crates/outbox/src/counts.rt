@@ -1,15 +1,15 @@
-//! How many submissions stand in which way.
+//! Counts of the settled submissions, by state.
 
 ghost use Rattle.std.specs.Prelude.{◌≡◌, ◌+◌, ◌<◌, ◌^◌};
 ghost use Rattle.outbox.specs.Counting.{counted};
 
 use exchange_model::Mark;
 
-/// How many submissions were settled, and how. Those that aren't counted here are pending.
+/// The number of settled submissions, by state. The submissions that aren't counted here are pending.
 #[derive(Clone, Copy, Debug, PartialEq, Eq)]
 pub struct Counts {
     pub receipted: u64,
-    /// Those that were given up, since no receipt came in time (`EBMS:0301`).
+    /// The expired ones: no receipt was received in time (`EBMS:0301`).
     pub failed: u64,
     pub refused: u64,
 }
@@ -25,7 +25,7 @@ impl Counts {
         }
     }
 
-    /// One more stands so.
+    /// Counts one more with this state.
     pub fn add(&mut self, mark: &Mark)
         requires receipted { self.old.receipted + 1 < 2 ^ 64 }
         requires failed { self.old.failed + 1 < 2 ^ 64 }

@@ -1,5 +1,5 @@
-//! The submissions that are pending, in one heap, by the moment at which each is given up. Whoever may be sent again
-//! stands behind all moments.
+//! The pending submissions, in one heap, by the moment at which each expires. A submission that may be sent again has a
+//! moment past all others.
 
 ghost use Rattle.std.specs.Prelude.{◌≡◌, ◌≤◌, ◌++◌, ◌∷◌, [], List, None, OnOk, IfSome, IfNone, IsTrue, count_by, length};
 ghost use Rattle.due_heap.specs.Heaps.{standing_at};
@@ -17,10 +17,10 @@ use exchange_model::{Mark, Sent};
 /// The number of the heap.
 const HEAP: u64 = 0;
 
-/// How many submissions there are at most.
+/// The most submissions of an outbox.
 const MOST: u64 = 1 << 20;
 
-/// Makes room to watch one more, of this number.
+/// Reserves room to watch one more, of this number.
 pub fn reserve(failing: &mut Heaps, number: u64) -> Result<(), NoMemory>
     ensures watches { (sent : List SentValue) → Watches failing.old sent → Watches failing.new sent }
     ensures room { OnOk result (HasWatchRoom failing.new number) }
@@ -34,7 +34,7 @@ pub fn reserve(failing: &mut Heaps, number: u64) -> Result<(), NoMemory>
     Ok(())
 }
 
-/// Watches one more where it is pending.
+/// Watches one more if it is pending.
 pub fn watch(failing: &mut Heaps, sent: &Sent)
     requires dated { sent.now.last ≤ MAX_MOMENT }
     requires room { HasWatchRoom failing.old sent.now.submission.number }
@@ -47,7 +47,7 @@ pub fn watch(failing: &mut Heaps, sent: &Sent)
     }
 }
 
-/// One that is given up by this moment.
+/// One that expires by this moment.
 pub fn first_before(failing: &Heaps, moment: u64) -> Option<u64>
     ensures spent { (sent : List SentValue) → Watches failing.now sent → Stand sent
         → IfSome result (λ number. IsTrue (is_one (is_spent moment) (sent_at number sent))) }
@@ -65,7 +65,7 @@ pub fn first_before(failing: &Heaps, moment: u64) -> Option<u64>
     }
 }
 
-/// How many are given up by this moment.
+/// The number of submissions that expire by this moment.
 pub fn count_before(failing: &Heaps, moment: u64) -> u64
     ensures { (sent : List SentValue) → Watches failing.now sent → Stand sent → result ≡ count_by (is_spent moment) sent }
 {

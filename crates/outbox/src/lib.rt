@@ -1,4 +1,4 @@
-//! What was handed in to be sent, and what became of it.
+//! The submissions of an endpoint and their states.
 #![tactic(auto)]
 
 mod counts;

@@ -1,4 +1,4 @@
-//! What becomes of submissions in a list, where each stands at its number.
+//! Changes the states of submissions in a list, where each is at the place of its number.
 
 ghost use Rattle.std.specs.Prelude.{◌≡◌, ◌≤◌, IsTrue, Some};
 ghost use Rattle.exchange_model.specs.Questions.{due, is_pending, is_waiting, sent_at};
@@ -13,7 +13,7 @@ use exchange_model::{Mark, Sent};
 /// Past all moments of the clock.
 pub const NEVER: u64 = u64::MAX;
 
-/// When it is to be sent or given up, in milliseconds since 1970-01-01T00:00:00Z.
+/// When it is to be sent or expires, in milliseconds since 1970-01-01T00:00:00Z.
 pub fn due_of(sent: &Sent) -> u64
     requires { sent.now.last ≤ MAX_MOMENT }
     ensures { result ≡ due sent.now }
@@ -25,7 +25,7 @@ pub fn due_of(sent: &Sent) -> u64
     }
 }
 
-/// When a pending submission is given up: past all moments as long as it may be sent again.
+/// When a pending submission expires: past all moments as long as it may be sent again.
 pub fn fails_at(sent: &Sent) -> u64
     requires { sent.now.last ≤ MAX_MOMENT }
     ensures { result ≡ failing_at sent.now }
@@ -37,7 +37,7 @@ pub fn fails_at(sent: &Sent) -> u64
     }
 }
 
-/// The submission of this number is sent once more, at this moment. Answers when it is given up now.
+/// Records that the submission of this number was sent at this moment. Returns when it expires now.
 pub fn mark_tried(sent: &mut [Sent], number: u64, moment: u64) -> u64
     requires stand { Stand sent.old }
     requires waiting { IsTrue (is_one is_waiting (sent_at number sent.old)) }
@@ -52,7 +52,7 @@ pub fn mark_tried(sent: &mut [Sent], number: u64, moment: u64) -> u64
     fails_at(one)
 }
 
-/// The submission of this number is settled.
+/// Settles the submission of this number.
 pub fn settle(sent: &mut [Sent], number: u64, mark: Mark)
     requires stand { Stand sent.old }
     requires pending { IsTrue (is_one is_pending (sent_at number sent.old)) }

@@ -1,5 +1,5 @@
-//! The identifiers of submissions, each at its number: one is found in a step, whatever their count. The handler makes
-//! these identifiers itself, so nobody else chooses what is hashed.
+//! The identifiers of submissions, each at the place of its number. Looking one up takes constant time. The handler
+//! makes these identifiers itself, so nobody else chooses what is hashed.
 
 ghost use Rattle.std.specs.Prelude.{◌≡◌, ◌++◌, ◌∷◌, [], List, Some, None, length, option_map, OnOk};
 ghost use Rattle.exchange_model.specs.Numbered.{AreNumberedFrom};
@@ -11,7 +11,7 @@ use as4_values::{MessageId, NoMemory, PlainData};
 use indexmap::IndexSet;
 use std::alloc::Global;
 
-/// Identifiers by number, and behind them the one for which there is room.
+/// Identifiers by number, followed by the one that room is reserved for.
 #[derive(Drop)]
 pub struct Numbers {
     alloc: Global,
@@ -31,7 +31,7 @@ impl Numbers {
         }
     }
 
-    /// What room there is ends.
+    /// Ends the reservation, if there is one.
     pub fn end_room(&mut self)
         ensures same { (sent : List Sent) → AreNumbers self.old sent → AreNumbers self.new sent }
         ensures room { self.new.room ≡ None }
@@ -39,7 +39,7 @@ impl Numbers {
         self.room = None;
     }
 
-    /// Makes room for this identifier behind those of so many submissions. Room for another ends.
+    /// Reserves room for this identifier after those of the first `count` submissions. An earlier reservation ends.
     pub fn reserve(&mut self, count: usize, id: &MessageId) -> Result<(), NoMemory>
         ensures ok { OnOk result (self.new.room ≡ Some id.now) }
         ensures same { (sent : List Sent) → length sent ≡ count → AreNumbers self.old sent → AreNumbers self.new sent }
@@ -52,7 +52,7 @@ impl Numbers {
         Ok(())
     }
 
-    /// The identifier for which there was room is that of the next submission. Takes no memory.
+    /// The reserved identifier becomes that of the next submission. Takes no memory.
     pub fn take_room(&mut self)
         ensures more { (sent : List Sent) (s : Sent) → AreNumbers self.old sent → self.old.room ≡ Some (id_of s)
             → sent_of (id_of s) sent ≡ None → AreNumbers self.new (sent ++ s ∷ []) }
@@ -61,7 +61,7 @@ impl Numbers {
         self.room = None;
     }
 
-    /// The number of the submission of this identifier, of so many submissions.
+    /// The number of the submission of this identifier, among the first `count` submissions.
     pub fn number_of(&self, count: usize, id: &MessageId) -> Option<u64>
         ensures { (sent : List Sent) → length sent ≡ count → AreNumbers self.now sent → AreNumberedFrom 0 sent
             → result ≡ option_map (λ s. s.submission.number) (sent_of id.now sent) }

@@ -1,8 +1,8 @@
-//! The outbox: the submission of each number stands at that place, and beside it
+//! The outbox: the submission of each number is at that place. It also keeps
 //!
 //!     numbers  the number of each identifier
-//!     failing  those that are pending, by the moment at which each is given up
-//!     counts   how many were settled, and how
+//!     failing  the pending submissions, by the moment at which each expires
+//!     counts   the number of settled submissions, by state
 
 ghost use Rattle.std.specs.Prelude.{◌≡◌, ◌<◌, ◌≤◌, ◌^◌, [], ◌∷◌, ◌++◌, IsSome, IsTrue, length, map, count_by, option_map, option_copied, false, IfNone, IfSome, OnOk};
 ghost use Rattle.std.specs.Option.{option_and_then};
@@ -22,7 +22,7 @@ use exchange_model::{Mark, Sent, Standing};
 use std::alloc::Global;
 use std::marker::Model;
 
-/// The submissions of one end, in order of number, and room for one more. Contracts see a `Submissions`.
+/// The submissions of one endpoint, in order of number, and room for one more. Contracts see a `Submissions`.
 #[derive(Drop)]
 pub struct Outbox {
     sent: Vec<Sent>,
@@ -61,7 +61,7 @@ impl Outbox {
         }
     }
 
-    /// Makes room for one submission of this identifier. Room for another identifier ends.
+    /// Reserves room for one submission of this identifier. An earlier reservation ends.
     pub fn reserve(&mut self, id: &MessageId) -> Result<(), NoMemory>
         ensures ok { OnOk result (self.new.room ≡ Some id.now) }
         ensures sent { self.new.sent ≡ self.old.sent }
@@ -94,7 +94,7 @@ impl Outbox {
         self.numbers.number_of(self.sent.len(), id)
     }
 
-    /// When the submission is to be sent or given up, in milliseconds since 1970-01-01T00:00:00Z.
+    /// When the submission is to be sent or expires, in milliseconds since 1970-01-01T00:00:00Z.
     pub fn due(&self, number: u64) -> Option<u64>
         ensures { result ≡ option_map due (sent_at number self.now.sent) }
     {
@@ -102,8 +102,8 @@ impl Outbox {
         Some(marking::due_of(sent))
     }
 
-    /// How often the submission was handed out, and when last, in milliseconds since 1970-01-01T00:00:00Z: 0 where it
-    /// never was.
+    /// How often the submission was sent, and when it was last sent, in milliseconds since 1970-01-01T00:00:00Z: 0
+    /// where it was never sent.
     pub fn tried(&self, number: u64) -> Option<(u32, u64)>
         ensures value { result ≡ option_map (λ s. (s.tries, s.last)) (sent_at number self.now.sent) }
         ensures dated { IfSome result (λ tried. tried.1 ≤ MAX_MOMENT) }
@@ -112,7 +112,7 @@ impl Outbox {
         Some((sent.tries, sent.last))
     }
 
-    /// What became of the submission.
+    /// The state of the submission.
     pub fn mark(&self, number: u64) -> Option<&Mark>
         ensures { option_copied result ≡ option_map (λ s. s.mark) (sent_at number self.now.sent) }
     {
@@ -120,7 +120,7 @@ impl Outbox {
         Some(&sent.mark)
     }
 
-    /// The code of the error with which the other end refused the submission.
+    /// The code of the error with which the other endpoint refused the submission.
     pub fn refused_code(&self, number: u64) -> Option<&Code>
         ensures { option_copied result ≡ option_and_then (λ s. code_of s.mark) (sent_at number self.now.sent) }
     {
@@ -159,7 +159,7 @@ impl Outbox {
         });
     }
 
-    /// Adds a submission as it was carried over; takes no memory.
+    /// Adds a submission with its state, as compaction carried it over; takes no memory.
     pub fn carry(&mut self, carried: Carried)
         requires room { self.old.room ≡ Some carried.submission.header.id }
         requires next { carried.submission.number ≡ length self.old.sent }
@@ -180,7 +180,7 @@ impl Outbox {
         });
     }
 
-    /// Adds one at the end, and its room is used up.
+    /// Adds one at the end, and uses up the reservation.
     fn push(&mut self, sent: Sent)
         requires room { self.old.room ≡ Some sent.submission.header.id }
         requires next { sent.submission.number ≡ length self.old.sent }
@@ -205,7 +205,7 @@ impl Outbox {
         self.failing.set_due(number, fails_at);
     }
 
-    /// The receipt of the submission came.
+    /// The receipt for the submission was received.
     pub fn mark_receipted(&mut self, number: u64)
         requires pending { IsTrue (is_one is_pending (sent_at number self.old.sent)) }
         ensures sent { self.new.sent ≡ changed number (marked Mark.Receipted) self.old.sent }
@@ -214,7 +214,7 @@ impl Outbox {
         self.settle(number, Mark::Receipted);
     }
 
-    /// The other end refused the submission with this error.
+    /// The other endpoint refused the submission with this error.
     pub fn mark_ended(&mut self, number: u64, code: Code)
         requires pending { IsTrue (is_one is_pending (sent_at number self.old.sent)) }
         ensures sent { self.new.sent ≡ changed number (marked (Mark.Refused code)) self.old.sent }
@@ -223,7 +223,7 @@ impl Outbox {
         self.settle(number, Mark::Refused { code });
     }
 
-    /// The submission stands so from now on.
+    /// The submission gets this state.
     fn settle(&mut self, number: u64, mark: Mark)
         requires pending { IsTrue (is_one is_pending (sent_at number self.old.sent)) }
         requires settled { is_pending_mark mark ≡ false }
@@ -235,7 +235,7 @@ impl Outbox {
         marking::settle(self.sent.as_mut_slice(), number, mark);
     }
 
-    /// Gives up each submission that is spent at this moment, and says how many these are.
+    /// Lets each submission that is spent at this moment expire, and returns their number.
     pub fn fail_spent(&mut self, moment: u64) -> u64
         ensures count { result ≡ count_by (is_spent moment) self.old.sent }
         ensures sent { self.new.sent ≡ map (failed_if_spent moment) self.old.sent }
@@ -259,21 +259,21 @@ impl Outbox {
         failing::first_before(&self.failing, moment)
     }
 
-    /// How many submissions are spent at this moment.
+    /// The number of submissions that are spent at this moment.
     pub fn spent(&self, moment: u64) -> u64
         ensures { result ≡ count_by (is_spent moment) self.now.sent }
     {
         failing::count_before(&self.failing, moment)
     }
 
-    /// How many submissions were settled, and how.
+    /// The number of settled submissions, by state.
     pub fn counts(&self) -> Counts
         ensures { AreCounts result self.now.sent }
     {
         self.counts
     }
 
-    /// What was handed in at this number, and what became of it.
+    /// The submission of this number, with its state.
     fn at(&self, number: u64) -> Option<&Sent>
         ensures value { option_copied result ≡ sent_at number self.now.sent }
         ensures dated { IfSome result (λ sent. sent.now.last ≤ MAX_MOMENT) }

@@ -1,4 +1,4 @@
--- Two outcomes, or one, by the cases of a match.
+-- The cases of a match, for two outcomes or one.
 use Rattle.std.proofs.Common.{◌≡◌, Bool, true, false, Option, Some, None, refl}
 use Rattle.std.specs.Prelude.{MatchOption}
 use Rattle.std.specs.Bool.{MatchBool}
@@ -13,7 +13,7 @@ pub both_bool : (P P' Q Q' R : Type 0) (b : Bool) → MatchBool b P Q → MatchB
 both_bool P P' Q Q' R true m n then else = then m n
 both_bool P P' Q Q' R false m n then else = else m n
 
--- there is one in each case
+-- each case has one
 pub some_option : {X Y : Type 0} (P : Y → Type 0) (Q : X → Y → Type 0) (o : Option X) → ((y : Y) × P y)
     → ((x : X) → o ≡ Some x → (y : Y) × Q x y) → (y : Y) × MatchOption o (P y) (λ x. Q x y)
 some_option P Q None none some = none

@@ -1,4 +1,4 @@
--- An event has one outcome, row by row.
+-- An event has at most one outcome, row by row.
 use Rattle.std.proofs.Common.{◌≡◌, ℕ, ◌⊎◌, inl, inr, List, [], ◌∷◌, ◌++◌, Option, Some, None, length, sym, ap, ◌∙◌, subst}
 use Rattle.std.specs.Prelude.{nat_le, nat_lt, slice_get, if◌then◌else◌}
 use Rattle.std.specs.Bool.{MatchBool}
@@ -10,12 +10,12 @@ use Rattle.as4_effects.specs.declared.effect.Effect.TheVariants as effect
 use Rattle.as4_effects.specs.declared.effect.Tick.{Tick}
 use Rattle.as4_effects.specs.declared.queue.Queue.TheVariants as queue
 use Rattle.as4_effects.specs.declared.submission.Submission.{Submission}
-use Rattle.as4_values.specs.ModeMatch.{mode_of, mode_named, channel_mode}
+use Rattle.mode_values.specs.ModeMatch.{mode_of, mode_named, channel_mode}
 use Rattle.as4_values.specs.declared.header.UserHeader.{UserHeader}
 use Rattle.as4_values.specs.declared.message.Pair.{Pair}
 use Rattle.as4_values.specs.declared.message.Message.{Message}
 use Rattle.as4_values.specs.declared.message.Message.TheVariants as message
-use Rattle.as4_values.specs.declared.mode.Mode.{Mode}
+use Rattle.mode_values.specs.declared.mode.Mode.{Mode}
 use Rattle.as4_values.specs.declared.payload.Load.{Load}
 use Rattle.as4_values.specs.declared.payload.Payload.{Payload}
 use Rattle.as4_values.specs.declared.route.Route.{Route}
@@ -40,11 +40,11 @@ use Rattle.outcome_laws.proofs.Cases.{both_option, both_bool}
 use Rattle.outcome_laws.proofs.OneSubmission.{one_submission}
 use Rattle.outcome_laws.proofs.Signals.{one_receipt, one_error, one_pull, one_pair}
 
--- two that are the same outcome
+-- two outcomes that equal the same outcome
 same : (o a b : Outcome) → a ≡ o → b ≡ o → a ≡ b
 same o a b e f = e ∙ sym f
 
--- the outcome of these effects, where a signal is answered
+-- the outcome with these effects and this signal as the answer
 abbrev answers : List Effect → Signal → Outcome
 answers effects signal = record { effects = effects; reply = reply.Answer (message.Signal signal) }
 
@@ -161,14 +161,14 @@ receipt_comes end event id ref_to copy a b h k =
     named s (inr i) (inl j) = absurd (i.0 j.0)
     named s (inr i) (inr j) = settles s i.1 j.1
 
--- a signal, by what it holds
+-- a signal, by its body
 signal_comes : (modes : List Mode) (end : End) (event : Event) (id : List ℕ) (ref_to : Option (List ℕ)) (s : SignalBody) (a b : Outcome)
     → SignalComes modes end event id ref_to s a → SignalComes modes end event id ref_to s b → a ≡ b
 signal_comes modes end event id ref_to (body.Pull mpc) a b h k = pull_comes modes end event id mpc a b h k
 signal_comes modes end event id ref_to (body.Receipt copy) a b h k = receipt_comes end event id ref_to copy a b h k
 signal_comes modes end event id ref_to (body.Errors items) a b h k = same _ a b h k
 
--- a pair: one outcome of its receipt, and behind that one of its pull request
+-- a pair: one outcome of its receipt, then one of its pull request
 pair_comes : (modes : List Mode) (end : End) (event : Event) (receipt pull : Signal) (a b : Outcome)
     → PairComes modes end event receipt pull a → PairComes modes end event receipt pull b → a ≡ b
 unfolding PairComes
@@ -188,7 +188,7 @@ pair_comes modes end event receipt pull a b h k =
     behind : PullsBehind modes end event pull k.0 a → PullsBehind modes end event pull k.0 b → a ≡ b
     behind i j = i.2 ∙ ap both (signal_comes modes _ event pull.id pull.ref_to pull.body i.0 j.0 i.1 j.1) ∙ sym j.2
 
--- what comes
+-- any received message
 comes : (modes : List Mode) (end : End) (event : Event) (m : Message) (a b : Outcome) → Comes modes end event m a → Comes modes end event m b → a ≡ b
 comes modes end event (message.User header payloads) a b h k = user_comes modes end event header payloads a b h k
 comes modes end event (message.Signal signal) a b h k = signal_comes modes end event signal.id signal.ref_to signal.body a b h k

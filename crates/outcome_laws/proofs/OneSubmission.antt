@@ -1,4 +1,4 @@
--- What is made of what is handed in is one submission.
+-- A producer's data makes at most one submission.
 use Rattle.std.proofs.Common.{◌≡◌, ℕ, List, [], ◌∷◌, Option, map, refl, sym, ◌∙◌}
 use Rattle.std.specs.Prelude.{length}
 use Rattle.std.specs.List.{All}
@@ -7,7 +7,7 @@ use Rattle.as4_effects.specs.declared.submission.Submission.{Submission}
 use Rattle.as4_values.proofs.MomentLemmas.{one_stamp_of}
 use Rattle.as4_values.specs.declared.header.PartInfo.{PartInfo}
 use Rattle.as4_values.specs.declared.header.UserHeader.{UserHeader}
-use Rattle.as4_values.specs.declared.mode.Mode.{Mode}
+use Rattle.mode_values.specs.declared.mode.Mode.{Mode}
 use Rattle.as4_values.specs.declared.payload.Load.{Load}
 use Rattle.as4_values.specs.declared.payload.Payload.{Payload}
 use Rattle.as4_effects.proofs.PartLemmas.{part_told, submission_told, payload_told, header_told}
@@ -23,7 +23,7 @@ IsBare part = part.properties ≡ []
 one_part : (p q : PartInfo) → p.href ≡ q.href → IsBare p → IsBare q → p ≡ q
 one_part p q e a b = let same : p.properties ≡ q.properties = a ∙ sym b in part_told p q (let f : part_parts p ≡ part_parts q = cc in f)
 
--- bare part infos are told by their references
+-- their references determine bare part infos
 one_parts : (ps qs : List PartInfo) → map href ps ≡ map href qs → All IsBare ps → All IsBare qs → ps ≡ qs
 one_parts [] [] e a b = refl
 one_parts [] (q ∷ qs) e a b = absurd cc
@@ -60,7 +60,7 @@ media p = p.media
 abbrev content : Payload → List ℕ
 content p = p.content
 
--- payloads are told by their identifiers, media texts and contents
+-- identifiers, media texts and contents determine payloads
 one_payloads : (ps qs : List Payload) → map cid ps ≡ map cid qs → map media ps ≡ map media qs → map content ps ≡ map content qs → ps ≡ qs
 one_payloads [] [] c m t = refl
 one_payloads [] (q ∷ qs) c m t = absurd cc

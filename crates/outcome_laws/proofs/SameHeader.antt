@@ -1,4 +1,4 @@
--- Whether two headers are the same, decided part by part.
+-- Whether two headers are equal, decided part by part.
 use Rattle.std.proofs.Common.{◌≡◌, ℕ, ◌⊎◌, inl, inr, List, [], ◌∷◌, true, false, Option, Some, None, refl, sym, ap, ◌∙◌}
 use Rattle.std.specs.Str.{bytes_eq}
 use Rattle.std.proofs.lemmas.Bool.{cases_Bool}
@@ -14,7 +14,7 @@ use Rattle.exchange_model.specs.Table.{IsOther}
 use Rattle.as4_effects.proofs.PartLemmas.{party_told, service_told, agreement_told, property_told, side_told, part_told, header_told}
 use Rattle.as4_effects.specs.Parts.{party_parts, service_parts, agreement_parts, property_parts, side_parts, part_parts, header_parts}
 
--- the same, or not
+-- equal, or not
 abbrev AreSame : {X : Type 0} → X → X → Type 0
 AreSame x y = (x ≡ y) ⊎ (x ≡ y → ⊥)
 

@@ -1,4 +1,5 @@
--- The signals that an end makes: each is told by the moment, the nonce and what it is about, and there is one.
+-- The signals that an endpoint makes: the moment, the nonce and the message that it is about determine exactly one
+-- signal.
 use Rattle.std.proofs.Common.{◌≡◌, ℕ, ◌≤◌, List, [], ◌∷◌, Option, Some, None, refl, sym, ap, ◌∙◌, subst}
 use Rattle.std.specs.Prelude.{IsTrue, option_map}
 use Rattle.std.proofs.Props.{props}
@@ -16,7 +17,7 @@ use Rattle.as4_codes.specs.ErrorCodes.{ErrorRow, error_row, error_item}
 use Rattle.as4_codes.specs.Signals.{IsReceiptOf, IsErrorSignalOf, IsPullOf, IsPairOf, next_nonce}
 use Rattle.outcome_laws.proofs.SomeStamp.{some_stamp}
 
--- what a signal says
+-- the fields of a signal
 abbrev Told : Type 0
 Told = (List ℕ × List ℕ) × (Option (List ℕ) × SignalBody)
 
@@ -33,7 +34,7 @@ signal_told a b e =
     (λ w. ap (signal_of (told_by b)) (let one : IsProp (IsTrue (is_signal b.ref_to b.body)) = hlevel props in one w b.whole))
     a.whole
 
--- no two
+-- at most one
 pub one_receipt : (header : UserHeader) (ms nonce : ℕ) (a b : Signal) → IsReceiptOf header ms nonce a → IsReceiptOf header ms nonce b → a ≡ b
 one_receipt header ms nonce a b h k =
     let stamp : a.stamp ≡ b.stamp = one_stamp_of ms a.stamp b.stamp h.stamped k.stamped in
@@ -75,7 +76,7 @@ one_pair header mpc ms nonce a b h k =
         ap (λ x. pair_of (b.receipt, b.pull) x w) (one v b.receipted) ∙ ap (pair_of (b.receipt, b.pull) b.receipted) (two w b.asked))
         a.receipted a.asked
 
--- and there is one
+-- at least one
 pub some_receipt : (header : UserHeader) (ms nonce : ℕ) → ms ≤ MAX_MOMENT → (signal : Signal) × IsReceiptOf header ms nonce signal
 some_receipt header ms nonce dated =
     let stamp = some_stamp ms dated in (

@@ -5,18 +5,18 @@ use Rattle.std.specs.List.{count_by}
 use Rattle.std.specs.Option.{option_and_then}
 use Rattle.std.proofs.lemmas.Bool.{and_parts}
 use Rattle.std.proofs.lemmas.Bool.Decides.{nat_tests}
-use Rattle.as4_effects.specs.Pairing.{pair}
+use Rattle.as4_values.specs.Pairing.{pair}
 use Rattle.as4_effects.specs.Sound.{delivered_body, fits_an_effect}
 use Rattle.as4_effects.specs.declared.delivery.Delivery.{Delivery}
 use Rattle.as4_effects.specs.declared.effect.Effect.{Effect}
 use Rattle.as4_effects.specs.declared.effect.Effect.TheVariants as effect
 use Rattle.as4_effects.specs.declared.effect.Tick.{Tick}
 use Rattle.as4_effects.specs.declared.queue.Queue.TheVariants as queue
-use Rattle.as4_values.specs.ModeMatch.{mode_of, mode_named, channel_mode}
+use Rattle.mode_values.specs.ModeMatch.{mode_of, mode_named, channel_mode}
 use Rattle.as4_values.specs.declared.header.UserHeader.{UserHeader}
 use Rattle.as4_values.specs.declared.message.Message.{Message}
 use Rattle.as4_values.specs.declared.message.Message.TheVariants as message
-use Rattle.as4_values.specs.declared.mode.Mode.{Mode}
+use Rattle.mode_values.specs.declared.mode.Mode.{Mode}
 use Rattle.as4_values.specs.declared.payload.Load.{Load}
 use Rattle.as4_values.specs.declared.payload.Payload.{Payload}
 use Rattle.as4_values.specs.declared.route.Route.{Route}
@@ -49,7 +49,7 @@ use Rattle.outcome_laws.proofs.SameHeader.{is_other_or}
 use Rattle.outcome_laws.proofs.Signals.{some_receipt, some_error, some_pull, some_pair}
 use Rattle.outcome_laws.proofs.SomeSubmission.{some_submission}
 
--- there is an outcome of which this holds
+-- an outcome with this property exists
 abbrev Some_ : (Outcome → Type 0) → Type 0
 Some_ P = (outcome : Outcome) × P outcome
 
@@ -178,7 +178,7 @@ receipt_comes end event id ref_to copy =
     named s (inl other) = let o = invalid_receipt id event in (o.0, inl (other, o.1))
     named s (inr own) = let o = settles s in (o.0, inr (own, o.1))
 
--- a signal, by what it holds
+-- a signal, by its body
 signal_comes : (modes : List Mode) (end : End) (event : Event) (id : List ℕ) (ref_to : Option (List ℕ)) (s : SignalBody)
     → Some_ (SignalComes modes end event id ref_to s)
 signal_comes modes end event id ref_to (body.Pull mpc) = pull_comes modes end event id mpc
@@ -195,7 +195,7 @@ pair_comes modes end event receipt pull =
     (λ _. (settled.0, refl)) in
     (outcome.0, (settled.0, settled.1, outcome.1))
 
--- what comes
+-- any received message
 comes : (modes : List Mode) (end : End) (event : Event) (m : Message) → may_come (what.Came m) ≡ true → Some_ (Comes modes end event m)
 comes modes end event (message.User header payloads) may = user_comes modes end event header payloads may
 comes modes end event (message.Signal signal) may = signal_comes modes end event signal.id signal.ref_to signal.body

@@ -1,4 +1,4 @@
--- Each moment has a stamp: each day number is that of a date, counted from 1970-01-01 on.
+-- Each moment has a stamp: each day number, counted from 1970-01-01, is that of a date.
 use Rattle.std.proofs.Common.{◌≡◌, ℕ, zero, suc, ◌+◌, ◌/◌, ◌%◌, ◌<◌, ◌≤◌, inl, inr, List, refl, ◌∙◌, ap, subst, pos, arith, rules}
 use Rattle.std.proofs.lemmas.Bool.{cases_lt}
 use Rattle.jiff_core.specs.Calendar.{IsCivilDate, days_in_month, days_from_civil}
@@ -34,7 +34,7 @@ same_month n y m d is below = (
   },
 )
 
--- the first day of a month behind the last of the one before
+-- the first day of a month, after the last of the previous one
 next_month : (n y m d : ℕ) → IsDay n y m d → d ≡ days_in_month (pos y) m → m < 12 → HasDay (suc n)
 next_month n y m d is last below =
     let month : 1 ≤ m = is.date.1.0 in
@@ -48,7 +48,7 @@ next_month n y m d is last below =
       },
     )
 
--- 1 January behind 31 December
+-- 1 January after 31 December
 next_year : (n y d : ℕ) → IsDay n y 12 d → d ≡ 31 → y < 9999 → HasDay (suc n)
 next_year n y d is last below = (
   y + 1,
@@ -60,7 +60,7 @@ next_year n y d is last below = (
   },
 )
 
--- what stands at the end of a month
+-- the day after the end of a month
 last_of_month : (n y m d : ℕ) → n < 2932896 → IsDay n y m d → d ≡ days_in_month (pos y) m → HasDay (suc n)
 last_of_month n y m d before is last = elim (cases_lt m 12) [
   | inl below ↦ next_month n y m d is last below

@@ -1,4 +1,4 @@
--- What is handed in by a mode, and isn't too large, makes a submission.
+-- A producer's data that isn't too large makes a submission, by a mode.
 use Rattle.std.proofs.Common.{◌≡◌, ℕ, ◌+◌, ◌^◌, ◌<◌, ◌≤◌, List, [], ◌∷◌, ◌++◌, false, Option, Some, None, length, map, refl, ap, arith}
 use Rattle.std.specs.Prelude.{IsTrue, IfSome, codes}
 use Rattle.std.specs.List.{All, list_all, range_with_len}
@@ -10,7 +10,7 @@ use Rattle.as4_values.specs.Moment.{IsStampOf}
 use Rattle.as4_values.specs.Payload.{is_media_text}
 use Rattle.as4_values.specs.declared.header.PartInfo.{PartInfo}
 use Rattle.as4_values.specs.declared.header.UserHeader.{UserHeader}
-use Rattle.as4_values.specs.declared.mode.Mode.{Mode}
+use Rattle.mode_values.specs.declared.mode.Mode.{Mode}
 use Rattle.as4_values.specs.declared.payload.Load.{Load}
 use Rattle.as4_values.specs.declared.payload.Payload.{Payload}
 use Rattle.as4_values.specs.declared.moment.TheConstants.{MAX_MOMENT}
@@ -43,7 +43,7 @@ some_parts (cid ∷ cids) =
       },
     )
 
--- each load behind the Content-ID of its place
+-- each load with the Content-ID of its place
 record AreLoaded (cids : List (List ℕ)) (loads : List Load) (payloads : List Payload) : Type 0 where
   named : map (λ (payload : Payload). payload.cid) payloads ≡ cids
   medias : map (λ (payload : Payload). payload.media) payloads ≡ map (λ (load : Load). load.media) loads

@@ -1,4 +1,4 @@
-//! What an end does with an event is told by the machine's table: there is an outcome, and only one.
+//! The machine's table determines what an endpoint does with an event: there is exactly one outcome.
 #![tactic(auto)]
 
 mod laws;

@@ -20,7 +20,7 @@ next_count : (n m : ℕ) → m ≡ n + 1 → n < 2 ^ 63 → (n + 1) % 2 ^ 64 ≡
 next_count n m e small = omega arith
 
 module _ {E : Type 0} where
-  -- all views fit after one has changed
+  -- all views fit after one changes
   fits_set : (log : List E) (keeper : ℕ) (views : List (View E)) (id : ℕ) (w : View E)
       → ((j : ℕ) (u : View E) → j ≢ id → get_elem? views j ≡ some u → Fits log keeper j u) → Fits log keeper id w
       → (j : ℕ) (u : View E) → get_elem? (set views id w) j ≡ some u → Fits log keeper j u
@@ -41,11 +41,11 @@ module _ {E : Type 0} where
     idle = fit.idle;
   }
 
-  -- the longer and the shorter of two beginnings
+  -- the longer and the shorter of two prefixes
   two_lists : (log xs ys : List E) → IsPrefix xs log → IsPrefix ys log → IsPrefix (longer xs ys) log × IsPrefix (shorter xs ys) log
   two_lists log xs ys p q = elim (nat_lt (length xs) (length ys)) as (λ b. IsPrefix (if b then ys else xs) log × IsPrefix (if b then xs else ys) log) [ true ↦ (q, p) | false ↦ (p, q) ]
 
-  -- what stands in a list with one more at its end
+  -- an item of a list with one more at its end
   at_end : (l : List (View E)) (a b : View E) (j : ℕ) → get_elem? (l ++ a ∷ []) j ≡ some b → (get_elem? l j ≡ some b) ⊎ ((j ≡ length l) × (a ≡ b))
   at_end [] a b zero e = inr (refl, some-injective a b e)
   at_end [] a b (suc j) e = absurd (some-ne-none b (sym e))
@@ -56,7 +56,7 @@ module _ {E : Type 0} where
     abbrev pub Holds : State S (View E) → Type 0
     Holds s = IsOneHistory s.words s.views
 
-    -- the load tells of a view what the rule says of it, and changes nothing
+    -- a load proves of a view what the rule says of it, and changes nothing
     pub looks : (slots id : ℕ) (me : Me S (View E)) → Allows Holds slots id me 0 (λ n. n) (Looks me)
     looks slots id me s h _ at _ =
         let fit = h.fits id me.0 at in
@@ -167,7 +167,7 @@ module _ {E : Type 0} where
           stakes = omega (arith, sum_by_push (λ (v : View E). v.stake) (set s.views id left) right, h.stakes);
         }
 
-    -- a seat takes in another, which isn't the keeper's
+    -- a seat absorbs another, which isn't the keeper's
     joins : (id : ℕ) (v : View E) (other : ℕ) (w both : View E) → w.is_keeper ≡ false → both.is_keeper ≡ v.is_keeper → both.share ≡ v.share + w.share → both.stake ≡ v.stake + w.stake
         → ((log : List E) → IsPrefix v.list log → IsPrefix w.list log → IsPrefix both.list log × IsPrefix both.told log) → (v.is_keeper ≡ true → both.list ≡ v.list)
         → Joins Holds id v other w both spent
@@ -209,11 +209,11 @@ module _ {E : Type 0} where
           stakes = omega (arith, h.stakes);
         }
 
-    -- the keeper takes in a pass
+    -- the keeper absorbs a pass
     pub absorbs : (id : ℕ) (v : View E) (other : ℕ) (w : View E) → w.is_keeper ≡ false → Joins Holds id v other w (absorbed v w) spent
     absorbs id v other w plain = joins id v other w (absorbed v w) plain refl refl refl (λ log p q. (p, q)) (λ _. refl)
 
-    -- a pass takes in a pass
+    -- a pass absorbs a pass
     pub merges : (id : ℕ) (v : View E) (other : ℕ) (w : View E) → v.is_keeper ≡ false → w.is_keeper ≡ false → Joins Holds id v other w (merged v w) spent
     merges id v other w mine plain = joins id v other w (merged v w) plain refl refl refl (λ log p q. two_lists log v.list w.list p q) (λ k. absurd (true≢false (sym k ∙ mine)))
 

@@ -1,3 +1,4 @@
+-- The specs of pass_book.
 pub mod States
 pub mod Views
 pub mod Rule

@@ -1,4 +1,4 @@
--- The rule that holds between any two steps.
+-- The rule of the table: it holds between any two steps.
 use Rattle.std.specs.Prelude.{◌≡◌, ℕ, ◌<◌, ◌≤◌, ◌^◌, true, List, [], ◌∷◌, length}
 use Rattle.std.specs.List.{sum_by}
 use mathlib.Core.List.{IsPrefix}
@@ -7,7 +7,8 @@ use lib.ListN.{get_elem?}
 use Rattle.pass_book.specs.declared.view.View.{View}
 
 module _ {E : Type 0} where
-  -- a view of a seat fits the history: its lists are beginnings of it, the keeper's seat alone has the mark and the whole, and who has no stake made no call
+  -- a view of a seat fits the history: its lists are prefixes of it, only the keeper's seat has the mark and the whole
+  -- history, and a seat without stake made no call
   pub record Fits (log : List E) (keeper seat : ℕ) (v : View E) : Type 0 where
     pub list : IsPrefix v.list log
     pub told : IsPrefix v.told log
@@ -16,7 +17,8 @@ module _ {E : Type 0} where
     pub whole : v.is_keeper ≡ true → v.list ≡ log
     pub idle : v.stake ≡ 0 → v.share ≡ 0
 
-  -- there is one history. The word is its length, all views fit it, one of them is the keeper's, the shares add up to its length and the stakes to 2^63
+  -- there is one history: the word is its length, all views fit it, one of them is the keeper's, the shares add up to
+  -- its length, and the stakes add up to 2^63
   pub record IsOneHistory (words : List ℕ) (views : List (View E)) : Type 0 where
     pub log : List E
     pub keeper : ℕ

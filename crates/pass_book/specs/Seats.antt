@@ -1,4 +1,4 @@
--- What the seats of keeper and passes are.
+-- The seats of keepers and passes.
 use Rattle.std.specs.Prelude.{◌≡◌, ℕ, ◌<◌, ◌≤◌, ◌^◌, [], length}
 use Rattle.atomic_table.specs.Seated.{TableId}
 use Rattle.atomic_table.specs.declared.shared.Seat.{Seat}
@@ -17,14 +17,14 @@ module _ {S V : Type 0} where
   view_of seat = seat.me.0
 
 module _ {S E : Type 0} where
-  -- a keeper's seat, and how many entries it knows
+  -- a keeper's seat, and the number of entries that it knows
   pub record IsKeeperSeat (table : TableId) (seat : Seat S (View E)) (count : ℕ) : Type 0 where
     pub at : IsSeatOf table seat
     pub rest : IsAtRest (view_of seat) (view_of seat).list
     pub entries : count ≡ length (view_of seat).list
     pub limit : count ≤ 2 ^ 63
 
-  -- a pass's seat, with its share and its stake, and how many entries it has seen
+  -- a pass's seat, with its share and its stake, and the number of entries that it has seen
   pub record IsPassSeat (table : TableId) (seat : Seat S (View E)) (share stake seen : ℕ) : Type 0 where
     pub at : IsSeatOf table seat
     pub view : IsOfPass (view_of seat) (view_of seat).list share stake

@@ -2,7 +2,7 @@
 use Rattle.std.specs.Prelude.{ℕ, List, [], length, nat_lt, if◌then◌else◌}
 use Rattle.atomic_table.specs.Seated.{TableId}
 
--- which opening it is
+-- identifies the opening
 abbrev pub Book : Type 0
 Book = TableId
 
@@ -15,13 +15,14 @@ pub record KeeperState (E : Type 0) : Type 0 where
   pub book : Book
   pub list : List E
 
--- a pass: its opening, the beginning of the history that it has seen, how many calls it made, and its part of the right to know that there are no others
+-- a pass: its opening, the prefix of the history that it has seen, the number of calls made with it, and its part of
+-- the stakes, which together prove that there is no other pass
 pub record PassState (E : Type 0) : Type 0 where
   pub book : Book
   pub list : List E
   pub share : ℕ
   pub stake : ℕ
 
--- the longer of two lists, and the first where they are equally long
+-- the longer of two lists; the first, if they are equally long
 abbrev pub longer : {E : Type 0} → List E → List E → List E
 longer xs ys = if nat_lt (length xs) (length ys) then ys else xs

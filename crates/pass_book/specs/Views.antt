@@ -1,11 +1,11 @@
--- What a seat of the table knows, and what the steps make of it.
+-- The views of seats, and how the steps change them.
 use Rattle.std.specs.Prelude.{◌≡◌, ℕ, ◌+◌, ◌-◌, ◌≤◌, ◌^◌, true, false, List, [], ◌∷◌, ◌++◌, length, nat_lt, if◌then◌else◌, Option, Some, None}
 use mathlib.Core.List.{IsPrefix}
 use Rattle.atomic_table.specs.Table.{Me}
 use Rattle.pass_book.specs.declared.view.View.{View}
 use Rattle.pass_book.specs.States.{longer}
 
--- the shorter of two lists, which `longer` leaves
+-- the shorter of two lists: the one that isn't `longer`
 abbrev pub shorter : {E : Type 0} → List E → List E → List E
 shorter xs ys = if nat_lt (length xs) (length ys) then xs else ys
 
@@ -18,23 +18,23 @@ module _ {E : Type 0} where
   abbrev pub spent : View E
   spent = record { is_keeper = false; list = []; told = []; share = 0; stake = 0 }
 
-  -- append: the history has one entry more, and so has the share
+  -- append: the history has one more entry, and the share is one more
   abbrev pub added : View E → E → View E
   added v e = record { is_keeper = v.is_keeper; list = v.list ++ e ∷ []; told = v.told; share = v.share + 1; stake = v.stake }
 
-  -- split: the new seat's list is the same, and it has these parts of share and stake
+  -- split: the new seat has the same list, and these parts of the share and the stake
   abbrev pub part_of : View E → ℕ → ℕ → View E
   part_of v share stake = record { is_keeper = false; list = v.list; told = []; share = share; stake = stake }
 
-  -- what is left of the seat that was split
+  -- the seat that was split, without these parts
   abbrev pub rest_of : View E → ℕ → ℕ → View E
   rest_of v share stake = record { is_keeper = v.is_keeper; list = v.list; told = v.told; share = v.share - share; stake = v.stake - stake }
 
-  -- join: the keeper takes a pass in, is told its list, and keeps its own
+  -- join: the keeper absorbs a pass, is told its list, and keeps its own
   abbrev pub absorbed : View E → View E → View E
   absorbed v w = record { is_keeper = v.is_keeper; list = v.list; told = w.list; share = v.share + w.share; stake = v.stake + w.stake }
 
-  -- join: a pass takes a pass in. The longer list stays, and it is told the shorter one
+  -- join: a pass absorbs a pass, has the longer list, and is told the shorter one
   abbrev pub merged : View E → View E → View E
   merged v w = record { is_keeper = v.is_keeper; list = longer v.list w.list; told = shorter v.list w.list; share = v.share + w.share; stake = v.stake + w.stake }
 
@@ -52,7 +52,7 @@ module _ {E : Type 0} where
     pub share : v.share ≡ calls
     pub stake : v.stake ≡ part
 
-  -- what a load tells of a view: its lists are beginnings of one history of as many entries as the word says
+  -- what a load proves of a view: its lists are prefixes of one history, and the word is the number of its entries
   pub record IsSeen (v : View E) (found : ℕ) : Type 0 where
     pub log : List E
     pub count : found ≡ length log
@@ -64,7 +64,8 @@ module _ {E : Type 0} where
     pub limit : length log ≤ 2 ^ 63
     pub stake : v.stake ≤ 2 ^ 63
 
-  -- what an append tells: the place of the entry, that what was told before is a beginning of what stood there, and that the share was at most its length
+  -- what an append proves: the place of the entry, that the list told before is a prefix of the earlier history, and
+  -- that the share was at most its length
   pub record IsAdded (v : View E) (e : E) (found : ℕ) (w : View E) : Type 0 where
     pub place : found ≡ length v.list
     pub begins : IsPrefix v.told v.list

@@ -1,4 +1,4 @@
-//! A keeper and a pass may go to other threads, whatever the entries are: the entries exist in proofs alone.
+//! A keeper and a pass can be sent to other threads, whatever the type of the entries: entries exist only in proofs.
 
 use crate::keeper::Keeper;
 use crate::pass::Pass;

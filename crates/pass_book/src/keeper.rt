@@ -1,4 +1,4 @@
-//! Who enters calls into the history.
+//! The keeper: enters calls into the history.
 ghost use Rattle.std.specs.Prelude.{◌≡◌, ◌+◌, ◌<◌, ◌≤◌, ◌^◌, ◌++◌, [], ◌∷◌, false, length, IfOk, IfErr, IsOk};
 ghost use mathlib.Core.List.{IsPrefix};
 ghost use Rattle.pass_book.specs.Views.{IsAtRest, IsOfPass};
@@ -14,12 +14,12 @@ use std::marker::Model;
 /// The most entries that a history has, and the number of stakes.
 pub const MAX_ENTRIES: u64 = 1 << 63;
 
-/// The history has 2^63 entries, and nothing can be entered any more.
+/// The history has 2^63 entries: no more can be entered.
 #[derive(Clone, Copy, Debug, PartialEq, Eq)]
 pub struct Worn;
 
-/// The one who enters calls. It knows the whole history: contracts see it as its book, which says of which
-/// opening it is, and the list of all entries.
+/// Enters calls. It knows the whole history: contracts see it as its book, which identifies its opening, and the list
+/// of all entries.
 #[derive(Drop)]
 pub struct Keeper<'a, E> {
     table: &'a BookTable<E>,
@@ -39,8 +39,7 @@ impl<'a, E> Model for Keeper<'a, E> {
 }
 
 impl<'a, E> Keeper<'a, E> {
-    /// A keeper of an empty history, and the pass that has all stakes. The word that they share is
-    /// never freed.
+    /// A keeper of an empty history, and the pass that has all stakes. The word that they share is never freed.
     pub fn new(alloc: Global) -> Result<(Keeper<'a, E>, Pass<'a, E>), NoMemory>
         ensures keeper { IfOk result (λ opened. opened.0.list ≡ []) }
         ensures pass { IfOk result (λ opened. opened.1 ≡ record {
@@ -69,7 +68,8 @@ impl<'a, E> Keeper<'a, E> {
         Ok((keeper, pass))
     }
 
-    /// Appends the entry as the last that the pass has seen, and answers its place, from 0.
+    /// Appends the entry, shows the pass the whole history, and returns the entry's place, from 0. If the history is
+    /// full, this only shows it.
     pub fn enter(&mut self, pass: &mut Pass<'_, E>, entry: &E) -> Result<u64, Worn>
         requires book { pass.old.book ≡ self.old.book }
         ensures begins { IsPrefix pass.old.list self.old.list }
@@ -114,7 +114,7 @@ impl<'a, E> Keeper<'a, E> {
         self.count
     }
 
-    /// Ends the history, and answers the number of entries.
+    /// Ends the history, and returns the number of entries.
     pub fn close(self, pass: Pass<'_, E>) -> u64
         requires book { pass.book ≡ self.book }
         ensures entries { result ≡ length self.entry.list }
@@ -137,7 +137,7 @@ impl<'a, E> Keeper<'a, E> {
     }
 }
 
-// Takes the pass's view in, appends, and splits it off again. It answers the entry's place.
+// Absorbs the pass's view, appends, and splits the view off again. Returns the entry's place.
 fn enter_by<E>(
     table: &BookTable<E>,
     keeper: &mut BookSeat<E>,
@@ -166,7 +166,7 @@ fn enter_by<E>(
     place
 }
 
-// Takes the pass's view in, looks, and splits it off again.
+// Absorbs the pass's view, loads the word, and splits the view off again.
 fn show_to<E>(table: &BookTable<E>, keeper: &mut BookSeat<E>, pass: &mut BookSeat<E>)
     requires seats { IsSeatOf table.now.table_id keeper.old × IsSeatOf table.now.table_id pass.old }
     requires keeper { IsAtRest (view_of keeper.old) (view_of keeper.old).list }

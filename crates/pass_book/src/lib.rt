@@ -1,4 +1,4 @@
-//! One history of calls that several callers make, and what each of them has seen of it.
+//! One history of calls by several callers, and what each of them has seen of it.
 #![tactic(auto)]
 
 mod crossing;

@@ -1,4 +1,4 @@
-//! What one caller has seen of the history.
+//! The pass: a caller's view of the history.
 ghost use Rattle.std.specs.Prelude.{◌≡◌, ◌+◌, ◌-◌, ◌<◌, ◌≤◌, ◌^◌, false, length};
 ghost use mathlib.Core.List.{IsPrefix};
 ghost use Rattle.pass_book.specs.States.{longer};
@@ -8,14 +8,14 @@ ghost use Rattle.pass_book.specs.Seats.{IsSeatOf, view_of};
 use crate::steps::{BookSeat, BookTable, look, merge, split_part};
 use std::marker::Model;
 
-/// A pass has seen a beginning of the history, and counts the calls that were made with it. Its stake is its
-/// part of the 2^63 that all passes of one keeper have: a pass with all of them is the only one that is out.
-/// Contracts see it as its book, the list of what it has seen, its share and its stake.
+/// A pass (a caller's view of the history) has seen a prefix of the history, and counts the calls that were made with
+/// it: its share. Its stake is its part of the 2^63 stakes of all passes of a keeper: a pass that holds all 2^63 stakes
+/// is the only one in existence. Contracts see it as its book, the list of what it has seen, its share and its stake.
 #[derive(Drop)]
 pub struct Pass<'a, E> {
     pub(crate) table: &'a BookTable<E>,
     pub(crate) seat: BookSeat<E>,
-    // What the seat knows, in numbers.
+    // The numbers of the seat's view.
     pub(crate) share: u64,
     pub(crate) stake: u64,
     pub(crate) seen: u64,
@@ -38,7 +38,7 @@ impl<'a, E> Model for Pass<'a, E> {
 }
 
 impl<'a, E> Pass<'a, E> {
-    /// Gives a part of the stake to a new pass, which has seen the same and made no call.
+    /// Moves a part of the stake to a new pass, which has seen the same and made no call.
     pub fn split(&mut self, part: u64) -> Pass<'a, E>
         requires part { (0 < part) × (part < self.old.stake) }
         ensures new { result ≡ record self.old { share = 0; stake = part } }
@@ -55,7 +55,7 @@ impl<'a, E> Pass<'a, E> {
         }
     }
 
-    /// Sees what the other has seen too.
+    /// Learns what the other has seen.
     pub fn meet(&mut self, other: &mut Pass<'_, E>)
         requires book { other.old.book ≡ self.old.book }
         ensures longer { self.new ≡ record self.old { list = longer self.old.list other.old.list } }
@@ -68,7 +68,7 @@ impl<'a, E> Pass<'a, E> {
         self.seen = self.seen.max(other.seen);
     }
 
-    /// Takes the other in, with its share and its stake.
+    /// Absorbs the other, with its share and its stake.
     pub fn join(&mut self, other: Pass<'_, E>)
         requires book { other.book ≡ self.old.book }
         ensures sums { self.new ≡ record self.old {
@@ -92,7 +92,7 @@ impl<'a, E> Pass<'a, E> {
         self.seen = self.seen.max(seen);
     }
 
-    /// How many calls were made with it, at most 2^63.
+    /// The number of calls that were made with it and with the passes that it absorbed, at most 2^63.
     pub fn share(&self) -> u64
         ensures value { result ≡ self.now.share }
         ensures limit { result ≤ 2 ^ 63 }
@@ -108,7 +108,7 @@ impl<'a, E> Pass<'a, E> {
         self.stake
     }
 
-    /// How many entries it has seen, at most 2^63.
+    /// The number of entries that it has seen, at most 2^63.
     pub fn seen(&self) -> u64
         ensures value { result ≡ length self.now.list }
         ensures limit { result ≤ 2 ^ 63 }
@@ -117,7 +117,7 @@ impl<'a, E> Pass<'a, E> {
     }
 }
 
-// Joins a seat to that of a pass, and loads: both had seen beginnings of one history.
+// Joins a seat to that of a pass, and loads: both have seen prefixes of the same history.
 fn take_in<E>(table: &BookTable<E>, seat: &mut BookSeat<E>, other: BookSeat<E>)
     requires seats { IsSeatOf table.now.table_id seat.old × IsSeatOf table.now.table_id other }
     requires plain { ((view_of seat.old).is_keeper ≡ false) × ((view_of other).is_keeper ≡ false) }

@@ -1,4 +1,4 @@
-//! The steps on the table's word, each with what it does to the view of its seat.
+//! The steps on the table's word, each with its effect on the view of its seat.
 ghost use Rattle.std.specs.Prelude.{◌≡◌, ◌<◌, ◌^◌, true, false, length, Some};
 ghost use Rattle.pass_book.specs.Views.{IsAdded, IsSeen, absorbed, merged, part_of, rest_of};
 ghost use Rattle.pass_book.specs.Seats.{IsSeatOf, view_of};
@@ -13,7 +13,7 @@ pub type BookTable<E> = Shared<(), View<E>, (), OneHistory>;
 
 pub type BookSeat<E> = Seat<(), View<E>>;
 
-/// Appends the entry, and answers its place.
+/// Appends the entry, and returns its place.
 pub fn append<E>(table: &BookTable<E>, seat: &mut BookSeat<E>, entry: &E) -> u64
     requires seat { IsSeatOf table.now.table_id seat.old }
     requires keeper { (view_of seat.old).is_keeper ≡ true }
@@ -37,7 +37,7 @@ fn append_named<E, B: NamesEntry<E>>(table: &BookTable<E>, seat: &mut BookSeat<E
     table.fetch_add::<Append<B>>(seat, 0, 1)
 }
 
-/// Loads the word, and answers it.
+/// Loads the word, and returns it.
 pub fn look<E>(table: &BookTable<E>, seat: &mut BookSeat<E>) -> u64
     requires seat { IsSeatOf table.now.table_id seat.old }
     ensures seat { IsSeatOf table.now.table_id seat.new }
@@ -47,7 +47,7 @@ pub fn look<E>(table: &BookTable<E>, seat: &mut BookSeat<E>) -> u64
     table.load::<Look>(seat, 0)
 }
 
-/// Splits a seat: the new one has all of its share and stake.
+/// Splits a seat: the new one gets all of its share and stake.
 pub fn split_all<E>(table: &BookTable<E>, seat: &mut BookSeat<E>) -> BookSeat<E>
     requires seat { IsSeatOf table.now.table_id seat.old }
     ensures seat { IsSeatOf table.now.table_id seat.new }
@@ -58,7 +58,7 @@ pub fn split_all<E>(table: &BookTable<E>, seat: &mut BookSeat<E>) -> BookSeat<E>
     table.split_seat::<All>(seat)
 }
 
-/// Splits a seat: the new one has a part of its stake, and no share.
+/// Splits a seat: the new one gets a part of its stake, and no share.
 pub fn split_part<E>(table: &BookTable<E>, seat: &mut BookSeat<E>, part: u64) -> BookSeat<E>
     requires seat { IsSeatOf table.now.table_id seat.old }
     requires part { part < (view_of seat.old).stake }

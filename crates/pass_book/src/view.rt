@@ -1,10 +1,10 @@
-//! What a seat of the table knows, the rule that all seats keep, and what each kind of step does.
+//! The view of a seat, the rule of the table, and the effect of each kind of step.
 use atomic_table::{Join, Play, Split, TableRule};
 use std::collections::LinkedList;
 use std::marker::{Brand, PhantomData};
 
-/// What a seat knows: a beginning of the history, a list that it was told beside it, how many calls it
-/// made, and its part of 2^63 stakes. No value of it is made: it exists in proofs alone.
+/// What a seat knows: a prefix of the history, a second list that a join told it, the number of calls that it made, and
+/// its part of the 2^63 stakes. It exists only in proofs: no value of it is ever made.
 pub struct View<E> {
     pub is_keeper: bool,
     pub list: LinkedList<E>,
@@ -25,7 +25,7 @@ impl<E> TableRule<(), View<E>, ()> for OneHistory {
     ghost first = { λ _. first_view };
 }
 
-/// Names the entry that a step appends, since a step can't be handed a value.
+/// Names the entry that a step appends, because a step takes no value.
 pub trait NamesEntry<E> {
     ghost use Rattle.std.specs.Prelude.{Option};
 
@@ -67,7 +67,7 @@ impl<E> Play<(), View<E>> for Look {
     ghost then = { λ _ me found now. Looks me found now };
 }
 
-/// Split, where all that the seat has goes to the new one.
+/// Split: the new seat gets everything that the seat has.
 pub struct All;
 
 impl<E> Split<View<E>> for All {
@@ -78,7 +78,7 @@ impl<E> Split<View<E>> for All {
     ghost right = { λ v. part_of v v.share v.stake };
 }
 
-/// Split, where a named stake and no share goes to the new seat.
+/// Split: the new seat gets a named stake and no share.
 pub struct Part<B>(PhantomData<B>);
 
 impl<E, B: NamesStake> Split<View<E>> for Part<B> {
@@ -89,7 +89,7 @@ impl<E, B: NamesStake> Split<View<E>> for Part<B> {
     ghost right = { λ v. part_of v 0 B.stake };
 }
 
-/// Join, where the keeper takes a pass in.
+/// Join: the keeper absorbs a pass.
 pub struct Absorb;
 
 impl<E> Join<View<E>> for Absorb {
@@ -100,7 +100,7 @@ impl<E> Join<View<E>> for Absorb {
     ghost spent = { spent };
 }
 
-/// Join, where a pass takes a pass in.
+/// Join: a pass absorbs a pass.
 pub struct Merge;
 
 impl<E> Join<View<E>> for Merge {

@@ -1,4 +1,4 @@
--- Where a function ends with the fault of a call.
+-- A function that returns the fault of a call.
 use Rattle.std.proofs.Common.{◌≡◌, Result, Ok, Err, sym, subst}
 use Rattle.std.specs.Prelude.{IfErr}
 use Rattle.std.specs.Result.{IsErrAnd}

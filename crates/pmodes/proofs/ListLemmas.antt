@@ -1,4 +1,4 @@
--- The first repeat of a list, as one mode after the other is read.
+-- The first repeat of a list, as the modes are read one by one.
 use Rattle.std.proofs.Common.{Bor, ◌≡◌, ℕ, zero, suc, ◌+◌, ◌<◌, ◌≤◌, List, [], ◌∷◌, ◌++◌, Bool, true, false, Option, Some, None, length, take, drop, get_or, option_map, map, cond, inl, inr, length-append, append_assoc, refl, sym, ap, arith}
 use Rattle.std.proofs.lemmas.List.{drop_more, take_more, length-map, get_or_append_left}
 use Rattle.std.proofs.Math.Seq.{get_or-append_seam}
@@ -8,11 +8,11 @@ use Rattle.std.specs.Option.{option_or}
 use Rattle.std.specs.Str.{bytes_eq}
 use Rattle.std.proofs.lemmas.Bool.{both_ways, cases_order, lt-ltb, le-ltb}
 use Rattle.std.proofs.lemmas.Slice.Eq.{bytes_eq-Decides}
-use Rattle.as4_values.specs.ModeFields.{mode_fields}
-use Rattle.as4_values.specs.ModeMatch.{Matches, mode_of, mode_terms, header_terms, are_same_terms}
+use Rattle.mode_values.specs.ModeFields.{mode_fields}
+use Rattle.mode_values.specs.ModeMatch.{Matches, mode_of, mode_terms, header_terms, are_same_terms}
 use Rattle.as4_values.specs.declared.header.UserHeader.{UserHeader}
-use Rattle.as4_values.proofs.MatchLemmas.{decides_terms}
-use Rattle.as4_values.specs.declared.mode.Mode.{Mode}
+use Rattle.mode_values.proofs.MatchLemmas.{decides_terms}
+use Rattle.mode_values.specs.declared.mode.Mode.{Mode}
 use Rattle.pmodes.specs.declared.refusal.Key.TheVariants as key
 use Rattle.pmodes.specs.declared.refusal.ModeRefusal.TheVariants.{Range, Twice, Ambiguous}
 use Rattle.pmodes.specs.ModeList.{first_repeat, has_same_name, has_same_terms, twice_among, ambiguous_among, list_refusal, AreModes}
@@ -49,7 +49,7 @@ both_mapped : {X Y : Type 0} (f : X → Y) (x : X) (found : Option X) (rest : Op
 both_mapped f x None rest = refl
 both_mapped f x (Some a) rest = refl
 
--- what is found in a list of fields is found in the list of the modes
+-- a search in the fields of modes is a search in the modes
 find-fields : {X Y : Type 0} (f : X → Y) (test : Y → Bool) (xs : List X) → find test (map f xs) ≡ option_map f (find (λ x. test (f x)) xs)
 find-fields f test [] = refl
 find-fields f test (x ∷ xs) = by_test f x (test (f x)) _ _ (find-fields f test xs)
@@ -61,7 +61,7 @@ repeat-fields_from f repeats earlier (x ∷ later) =
     rw (find-fields f (λ a. repeats a (f x)) earlier, map-append-one f earlier x, repeat-fields_from f repeats (earlier ++ x ∷ []) later)
     (both_mapped f x (find (λ a. repeats (f a) (f x)) earlier) _)
 
--- what isn't found isn't there
+-- an item that isn't found isn't there
 none_first : {X : Type 0} (t : Bool) (x : X) (rest : Option X) → cond t (Some x) rest ≡ None → (t ≡ false) × (rest ≡ None)
 none_first true x rest none = cc
 none_first false x rest none = (refl, none)
@@ -75,7 +75,7 @@ neither : {T U : Type 0} (f : T → U) (a : Option T) (b : Option U) → option_
 neither f None b none = (refl, none)
 neither f (Some x) b none = cc
 
--- no repeat: each is no repeat of one before it
+-- no repeat: none repeats an earlier one
 no_repeats_from : {X : Type 0} (repeats : X → X → Bool) (earlier later : List X) → first_repeat repeats earlier later ≡ None
     → (i j : ℕ) (d : X) → i < j → length earlier ≤ j → j < length (earlier ++ later)
     → repeats (get_or (earlier ++ later) i d) (get_or (earlier ++ later) j d) ≡ false
@@ -135,7 +135,7 @@ are_modes modes short once apart = record {
   apart = λ i j d before within e. both_ways _ (no_repeats (λ (x y : Mode). are_same_terms (mode_terms x) (mode_terms y)) modes (sym apart) i j d before within) ((decides_terms _ _).1 e);
 }
 
--- what is found passes
+-- the item that is found passes
 pass_head : {X : Type 0} (p : X → Bool) (t : Bool) (y x : X) (rest : Option X) → p y ≡ t → (rest ≡ Some x → p x ≡ true) → cond t (Some y) rest ≡ Some x → p x ≡ true
 pass_head p true y x rest is more found = let same : y ≡ x = cc in rw (← same) is
 pass_head p false y x rest is more found = more found

@@ -1,4 +1,4 @@
--- Arrays of tables, as one table after the other is read.
+-- Arrays of tables, as the tables are read one by one.
 use Rattle.std.proofs.Common.{◌≡◌, ℕ, ◌+◌, ◌<◌, List, [], ◌∷◌, ◌++◌, Option, Some, None, Result, Ok, Err, length, map, drop, get_or, refl, sym, ap, append_assoc}
 use Rattle.std.proofs.Common.{option_map, Bor, Vec, Global, nat_le, ◌&&◌}
 use Rattle.std.proofs.lemmas.List.{drop_more, drop_all, append-nil, length-map, map-append}
@@ -11,9 +11,9 @@ use Rattle.as4_values.specs.declared.header.Party.{Party}
 use Rattle.pmodes.specs.ModeParts.{list_of, is_table, are_tables, party_of, parties_in}
 use Rattle.std.specs.Prelude.{IsTrue}
 use Rattle.std.proofs.Common.{◌≤◌}
-use Rattle.as4_values.specs.ModeRanges.{is_short_party}
-use Rattle.as4_values.specs.ModeFields.{mode_fields}
-use Rattle.as4_values.specs.declared.mode.Mode.{Mode}
+use Rattle.mode_values.specs.ModeRanges.{is_short_party}
+use Rattle.mode_values.specs.ModeFields.{mode_fields}
+use Rattle.mode_values.specs.declared.mode.Mode.{Mode}
 use Rattle.pmodes.specs.ModeFile.{mode_of_item, modes_from, at_place}
 use Rattle.pmodes.specs.Verdicts.{and_then}
 use Rattle.pmodes.specs.declared.fault.Fault.{Fault}
@@ -32,7 +32,7 @@ pub tables_counted : (low high : ℕ) (items : List Value)
 unfolding are_tables
 tables_counted low high items = rw (length-map items view, list_all-map is_table view items)
 
--- what was read, and what the rest gives
+-- the items read so far, with the result for the rest
 abbrev pub go_on : {A E : Type 0} → List A → Result (List A) E → Result (List A) E
 go_on read rest = and_then rest (λ more. Ok (read ++ more))
 
@@ -48,7 +48,7 @@ unfolding parties_in
 party_step items i item read party short is found =
     rw (drop_more items i item short, ← is, found) (go_on_one read party (parties_in (map view (drop (i + 1) items))))
 
--- a party that isn't one
+-- an item that is no party
 pub party_stop : (items : List Value) (i : ℕ) (item : Value) (read : List Party) (e : Fault) → i < length items → item ≡ get_or items i item
     → party_of (view item) ≡ Err e → go_on read (parties_in (map view (drop i items))) ≡ Err e
 unfolding parties_in
@@ -72,7 +72,7 @@ unfolding modes_from
 mode_step items i item read mode short is found =
     rw (drop_more items i item short, ← is, found, map-append mode_fields read (mode ∷ [])) (go_on_one (map mode_fields read) (mode_fields mode) (modes_from (i + 1) (map view (drop (i + 1) items))))
 
--- a mode that isn't one
+-- an item that is no mode
 pub mode_stop : (items : List Value) (i : ℕ) (item : Value) (read : List Mode) (e : Fault) → i < length items → item ≡ get_or items i item
     → mode_of_item (view item) ≡ Err e → go_on (map mode_fields read) (modes_from i (map view (drop i items))) ≡ Err (at_place i e)
 unfolding modes_from

@@ -1,4 +1,4 @@
--- The text that a string is read as, as a function and as a relation.
+-- The text of a string, as a function and as a relation.
 use Rattle.std.proofs.Common.{◌≡◌, ℕ, zero, suc, ◌+◌, ◌-◌, ◌<◌, ◌≤◌, List, [], ◌∷◌, ◌++◌, Bool, true, false, ◌&&◌, cond, Option, Some, None, length, take, drop, get_or, refl, sym, ap, subst, ◌∙◌, inl, inr, arith, append_assoc, length-append}
 use Rattle.std.proofs.Math.Seq.{drop-append_seam, take-append_seam}
 use Rattle.std.proofs.lemmas.Bool.{both_ways, and_parts, cases_Bool, cases_order, le-leb, leb-true}
@@ -8,8 +8,9 @@ use Rattle.std.proofs.lemmas.List.Sums.{prefix_len_is, prefix_len_passes, prefix
 use Rattle.std.proofs.lemmas.Str.Ascii.{encodes-IsAscii, IsAscii-from_reads}
 use Rattle.std.specs.Prelude.{Result, Ok, Err, IfOk, IfSome, IfNone, IsTrue, nat_le, slice_index}
 use Rattle.std.specs.List.{list_all, prefix_len, suffix_len}
-use Rattle.as4_values.specs.ModeRanges.{is_short, is_mode_name, is_name_byte}
-use Rattle.as4_values.specs.Texts.{Spells, IsTrimmed, IsBlank, HasCore, is_blank, is_xml, is_xml_char}
+use Rattle.mode_values.specs.ModeRanges.{is_short, is_mode_name, is_name_byte}
+use Rattle.as4_values.specs.Texts.{Spells, IsTrimmed, IsBlank, HasCore, is_xml, is_xml_char}
+use Rattle.byte_forms.specs.Classes.{is_blank}
 use Rattle.as4_values.proofs.XmlTests.{xml_tested, xml_found}
 use Rattle.pmodes.specs.Values.{core_of, text_value}
 
@@ -19,14 +20,14 @@ add_zero_right n = omega arith
 behind : (core back : List ℕ) → IsBlank back → (k j : ℕ) → k ≡ length core + j → k < length core + length back → is_blank (get_or (core ++ back) k 0) ≡ true
 behind core back blank k j at short = rw (at, get_or-append-add core back j 0) (blank j 0 (omega arith) (omega arith))
 
--- blanks in front
+-- blanks at the beginning
 front_len : (front rest : List ℕ) → IsBlank front → 0 < length rest → is_blank (slice_index rest 0) ≡ false → prefix_len is_blank (front ++ rest) ≡ length front
 front_len front rest blank some first =
     prefix_len_is is_blank (front ++ rest) (length front) 0 (rw length-append (omega arith))
     (λ k short. rw (get_or_append_left front rest 0 k short) (blank k 0 (omega arith) short))
     (λ _. let at : get_or (front ++ rest) (length front + 0) 0 ≡ get_or rest 0 0 = get_or-append-add front rest 0 0 in rw (← add_zero_right (length front), at) first)
 
--- blanks behind
+-- blanks at the end
 back_len : (core back : List ℕ) → IsBlank back → 0 < length core → is_blank (slice_index core (length core - 1)) ≡ false → suffix_len is_blank (core ++ back) ≡ length (core ++ back) - length core
 back_len core back blank some last =
     suffix_len_is is_blank (core ++ back) (length core) 0 (rw length-append (omega arith))
@@ -50,7 +51,7 @@ core_is front core back blank_front blank_back trimmed =
       take-append_seam core back,
     )
 
--- a text of 255 bytes that the bytes spell is their value
+-- a text of at most 255 bytes that the bytes spell is their value
 pub value_of_spelled : (bytes text : List ℕ) → Spells bytes text → IsTrue (is_short text) → text_value bytes ≡ Some text
 unfolding text_value
 value_of_spelled bytes text spelled short =
@@ -59,7 +60,7 @@ value_of_spelled bytes text spelled short =
     let some : nat_le 1 (length text) ≡ true = le-leb 1 (length text) spelled.0.trimmed.some in
     rw (core, some, short, xml_tested text spelled.0.spelled)
 
--- where the blanks behind begin
+-- where the blanks at the end begin
 pub record EndsAt (bytes : List ℕ) (n : ℕ) : Type 0 where
   pub within : n ≤ length bytes
   pub blank : (k : ℕ) → n ≤ k → k < length bytes → is_blank (get_or bytes k 0) ≡ true
@@ -104,7 +105,7 @@ back_blank bytes n ends k d _ short =
     let inside : n + k < length bytes = (let s : k < length bytes - n = rw (length-drop n bytes) at short in omega arith) in
     rw (get_or-drop n bytes k d, get_or_default bytes (n + k) d 0 inside) (ends.blank (n + k) (omega arith) inside)
 
--- the place where blanks behind begin is told by their number
+-- the number of blanks at the end determines where they begin
 suffix_at : (bytes : List ℕ) (n : ℕ) → EndsAt bytes n → length bytes - suffix_len is_blank bytes ≡ n
 suffix_at bytes n ends =
     let count : suffix_len is_blank bytes ≡ length bytes - n = suffix_len_is is_blank bytes n 0 ends.within ends.blank ends.last in
@@ -113,7 +114,7 @@ suffix_at bytes n ends =
 core_with : (bytes : List ℕ) → (n : ℕ) × EndsAt (drop (prefix_len is_blank bytes) bytes) n
 core_with bytes = end_of (drop (prefix_len is_blank bytes) bytes)
 
--- the core is what stands between
+-- the core is between the blanks
 core_between : (bytes : List ℕ) (n : ℕ) → EndsAt (drop (prefix_len is_blank bytes) bytes) n → core_of bytes ≡ take n (drop (prefix_len is_blank bytes) bytes)
 unfolding core_of
 core_between bytes n ends = rw (suffix_at (drop (prefix_len is_blank bytes) bytes) n ends)
@@ -168,7 +169,7 @@ spelled_between : (bytes : List ℕ) (n : ℕ) → EndsAt (drop (prefix_len is_b
 spelled_between bytes n ends some short xml =
     ((record { trimmed = trimmed_between bytes n ends some; limited = few_enough _ short; spelled = xml_found _ xml }, core_found bytes n ends some), short)
 
--- and such a value is spelled
+-- and the bytes spell such a value
 pub spelled_value : (bytes text : List ℕ) → text_value bytes ≡ Some text → Spells bytes text × IsTrue (is_short text)
 unfolding text_value
 spelled_value bytes text value =
@@ -182,7 +183,7 @@ spelled_value bytes text value =
     (subst (λ (t : List ℕ). IsTrue (is_short t) → is_xml t ≡ true → Spells bytes t × IsTrue (is_short t)) (sym between)
     (spelled_between bytes ends.0 ends.1 some) more.0 more.1)
 
--- a name is a text, as it stands
+-- a name is a text, unchanged
 plain_blank : (b : ℕ) → IsTrue (is_name_byte b) → is_blank b ≡ false
 plain_blank b named = grind (arith, nat_tests)
 
@@ -241,7 +242,7 @@ value_read : (bytes : List ℕ) (read : Option (List ℕ))
 value_read bytes (Some text) some none = sym (value_of_spelled bytes text some.0 some.1)
 value_read bytes None some none = sym (no_value bytes (text_value bytes) refl none)
 
--- what the reader says of texts is the value
+-- the text that the reader returns is the value
 pub value_if_ok : {E : Type 0} (bytes : List ℕ) (r : Result (Option (List ℕ)) E)
     → IfOk r (λ read. IfSome read (λ text. Spells bytes text × IsTrue (is_short text)))
     → IfOk r (λ read. IfNone read ((text : List ℕ) → Spells bytes text → is_short text ≡ false))

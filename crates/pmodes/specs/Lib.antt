@@ -1,3 +1,4 @@
+-- The specs of pmodes.
 pub mod ModeFile
 pub mod ModeList
 pub mod ModeParts

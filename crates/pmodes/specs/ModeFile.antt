@@ -3,7 +3,7 @@ use Rattle.std.specs.Prelude.{ℕ, ◌+◌, List, [], ◌∷◌, if◌then◌els
 use Rattle.std.specs.Str.{is_utf8}
 use Rattle.toml.specs.Data.{Data, Members, as_table, get_member}
 use Rattle.toml.specs.Parse.{parse_document}
-use Rattle.as4_values.specs.ModeFields.{SideFields, ModeFields, side_fields}
+use Rattle.mode_values.specs.ModeFields.{SideFields, ModeFields, side_fields}
 use Rattle.pmodes.specs.ModeList.{list_refusal}
 use Rattle.pmodes.specs.ModeParts.{array_of_tables, side_in, service_in, agreement_in, route_in, collect_in}
 use Rattle.pmodes.specs.Values.{name_of, number_of}
@@ -80,11 +80,11 @@ abbrev pub placed : {A : Type 0} → ℕ → Result A Fault → Result A ModeRef
 placed place (Ok a) = Ok a
 placed place (Err e) = Err (at_place place e)
 
--- a mode of the array, which is a table
+-- a mode of the array: it must be a table
 unfoldable pub mode_of_item : Data → Result ModeFields Fault
 mode_of_item d = and_then (in_range key.Mode (as_table d)) mode_in
 
--- the modes of some tables, the first of which stands at a place
+-- the modes of some tables; the first table is at this place
 unfoldable pub modes_from : ℕ → List Data → Result (List ModeFields) ModeRefusal
 modes_from place [] = Ok []
 modes_from place (d ∷ ds) =
@@ -104,7 +104,7 @@ modes_at (Some d) = modes_of_items (array_of_tables 0 1024 d)
 unfoldable pub listed_in : Members → Result (List ModeFields) ModeRefusal
 listed_in t = modes_at (get_member (codes "mode") t)
 
--- the modes, unless they may not stand in one list
+-- the modes, unless they are refused as a list
 abbrev pub unless_refused : List ModeFields → Option ModeRefusal → Result (List ModeFields) ModeRefusal
 unless_refused modes None = Ok modes
 unless_refused modes (Some e) = Err e
@@ -117,6 +117,6 @@ abbrev pub modes_of_document : Option Members → Result (List ModeFields) ModeR
 modes_of_document None = Err refusal.Toml
 modes_of_document (Some t) = modes_of_table t
 
--- the modes of a file, or why there are none
+-- the modes of a file, or why it is refused
 unfoldable pub modes_of_file : List ℕ → Result (List ModeFields) ModeRefusal
 modes_of_file bytes = modes_of_document (if is_utf8 bytes then parse_document bytes else None)

@@ -2,8 +2,8 @@
 use Rattle.std.specs.Prelude.{ℕ, List, [], ◌∷◌, Bool, false, ◌&&◌, nat_le, Option, Some, None, is_some, option_map, option_and_then, unwrap_or, Result, Ok, Err, length, codes}
 use Rattle.std.specs.List.{list_all}
 use Rattle.toml.specs.Data.{Data, Items, Members, item, no_items, as_array, as_bool, as_table, get_member}
-use Rattle.as4_values.specs.ModeFields.{SideFields}
-use Rattle.as4_values.specs.ModeRanges.{may_collect}
+use Rattle.mode_values.specs.ModeFields.{SideFields}
+use Rattle.mode_values.specs.ModeRanges.{may_collect}
 use Rattle.as4_values.specs.declared.header.Party.{Party}
 use Rattle.as4_values.specs.declared.header.Agreement.{Agreement as AgreementRef}
 use Rattle.as4_values.specs.declared.header.Service.{Service as ServiceOf}
@@ -39,7 +39,7 @@ party_in t =
     and_then (optional_text key.PartyKey (codes "type") t) (λ kind.
     Ok (record { id = id; kind = kind })))
 
--- a party of the array, which is a table
+-- a party of the array: it must be a table
 unfoldable pub party_of : Data → Result Party Fault
 party_of d = and_then (in_range key.Party (as_table d)) party_in
 
@@ -66,7 +66,7 @@ service_in t =
     and_then (optional_text key.ServiceType (codes "service_type") t) (λ kind.
     Ok (record { value = value; kind = kind })))
 
--- a type without an agreement is wrong, whatever it is
+-- a type without an agreement is an error, whatever its value is
 abbrev pub no_agreement : Option Data → Result (Option AgreementRef) Fault
 no_agreement None = Ok None
 no_agreement (Some d) = Err (Range key.AgreementType)

@@ -3,19 +3,20 @@ use Rattle.std.specs.Prelude.{ℕ, ◌-◌, ℤ, pos, negsuc, List, Bool, ◌&&�
 use Rattle.std.specs.List.{prefix_len, suffix_len}
 use Rattle.toml.specs.Data.{Data, as_str, as_integer}
 use Rattle.as4_values.specs.Address.{is_address}
-use Rattle.as4_values.specs.ModeRanges.{is_mode_name, is_short}
-use Rattle.as4_values.specs.Texts.{is_blank, is_xml}
+use Rattle.mode_values.specs.ModeRanges.{is_mode_name, is_short}
+use Rattle.as4_values.specs.Texts.{is_xml}
+use Rattle.byte_forms.specs.Classes.{is_blank}
 
--- the value, where it passes the test
+-- the value, if it passes the test
 abbrev pub keep : {A : Type 0} → (A → Bool) → A → Option A
 keep test a = if test a then Some a else None
 
--- what stands between the blanks at both ends
+-- the bytes without the blanks at both ends
 unfoldable pub core_of : List ℕ → List ℕ
 core_of bytes =
     let rest = drop (prefix_len is_blank bytes) bytes in take (length rest - suffix_len is_blank rest) rest
 
--- the text that a string is read as, where it has 1 to 255 bytes
+-- the text of a string, if it has 1 to 255 bytes
 unfoldable pub text_value : List ℕ → Option (List ℕ)
 text_value bytes =
     keep (λ core. nat_le 1 (length core) && (is_short core && is_xml core)) (core_of bytes)
@@ -24,7 +25,7 @@ text_value bytes =
 unfoldable pub text_of : Data → Option (List ℕ)
 text_of d = option_and_then text_value (as_str d)
 
--- the name of a mode, which is a string as it stands
+-- the name of a mode: a string, unchanged
 unfoldable pub name_of : Data → Option (List ℕ)
 name_of d = option_and_then (keep is_mode_name) (as_str d)
 

@@ -1,8 +1,8 @@
-//! What a mode is for: the service, and the agreement.
+//! The service and the agreement of a mode.
 
 ghost use Rattle.std.specs.Prelude.{◌≡◌, IsTrue, Ok, IfSome, IfOk, IfErr};
 ghost use Rattle.toml.specs.View.{table_view};
-ghost use Rattle.as4_values.specs.ModeRanges.{is_short, is_short_service, is_mode_agreement};
+ghost use Rattle.mode_values.specs.ModeRanges.{is_short, is_short_service, is_mode_agreement};
 ghost use Rattle.pmodes.specs.ModeParts.{service_in, agreement_in, agreement_with};
 ghost use Rattle.pmodes.specs.Verdicts.{Refuses};
 
@@ -14,7 +14,7 @@ use as4_values::{Agreement, Service, Text};
 use std::alloc::Global;
 use toml::Table;
 
-#[tactic(auto, unfolding(crate::specs::ModeParts::service_in, as4_values::specs::ModeRanges::is_short_service))]
+#[tactic(auto, unfolding(crate::specs::ModeParts::service_in, mode_values::specs::ModeRanges::is_short_service))]
 pub fn service_in(alloc: Global, table: &Table) -> Result<Service, Fault>
     ensures found { IfOk result (λ service. service_in (table_view table.now) ≡ Ok service) }
     ensures refused { IfErr result (Refuses (service_in (table_view table.now))) }
@@ -25,7 +25,7 @@ pub fn service_in(alloc: Global, table: &Table) -> Result<Service, Fault>
     Ok(Service { value, kind })
 }
 
-/// The agreement, where there is one.
+/// The agreement, if there is one.
 #[tactic(auto, unfolding(crate::specs::ModeParts::agreement_in))]
 pub fn agreement_in(alloc: Global, table: &Table) -> Result<Option<Agreement>, Fault>
     ensures found { IfOk result (λ agreement. agreement_in (table_view table.now) ≡ Ok agreement) }
@@ -38,8 +38,8 @@ pub fn agreement_in(alloc: Global, table: &Table) -> Result<Option<Agreement>, F
     }
 }
 
-// A type without an agreement is wrong, whatever it is.
-#[tactic(auto, unfolding(crate::specs::ModeParts::agreement_with, as4_values::specs::ModeRanges::is_mode_agreement))]
+// A type without an agreement is an error, whatever its value is.
+#[tactic(auto, unfolding(crate::specs::ModeParts::agreement_with, mode_values::specs::ModeRanges::is_mode_agreement))]
 fn agreement_with(
     alloc: Global,
     table: &Table,

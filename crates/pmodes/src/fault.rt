@@ -1,9 +1,11 @@
+//! Faults of one mode's table.
+
 ghost use Rattle.std.specs.Prelude.{◌≡◌};
 
 use crate::refusal::Key;
 use as4_values::NoMemory;
 
-/// Why a table is no mode.
+/// Why a table isn't a mode.
 #[derive(Clone, Copy, Debug, PartialEq, Eq)]
 pub enum Fault {
     Missing(Key),

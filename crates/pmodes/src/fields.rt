@@ -1,8 +1,8 @@
-//! The keys of a table: those that must be there, and those that may.
+//! Reads the keys of a table: required ones and optional ones.
 
 ghost use Rattle.std.specs.Prelude.{◌≡◌, IsTrue, Ok, IfOk, IfErr, IfSome};
 ghost use Rattle.toml.specs.View.{table_view};
-ghost use Rattle.as4_values.specs.ModeRanges.{is_short};
+ghost use Rattle.mode_values.specs.ModeRanges.{is_short};
 ghost use Rattle.pmodes.specs.Verdicts.{needed_text, optional_text, Refuses};
 
 use crate::fault::Fault;
@@ -12,7 +12,7 @@ use as4_values::Text;
 use std::alloc::Global;
 use toml::Table;
 
-/// A text that must be there.
+/// A required text.
 #[tactic(auto, unfolding(crate::specs::Verdicts::needed_text))]
 pub fn needed_text(alloc: Global, table: &Table, name: &str, key: Key) -> Result<Text, Fault>
     ensures found { IfOk result (λ text. needed_text key name.now (table_view table.now) ≡ Ok text) }
@@ -28,7 +28,7 @@ pub fn needed_text(alloc: Global, table: &Table, name: &str, key: Key) -> Result
     }
 }
 
-/// A text that may be there.
+/// An optional text.
 #[tactic(auto, unfolding(crate::specs::Verdicts::optional_text))]
 pub fn optional_text(
     alloc: Global,

@@ -1,4 +1,4 @@
-//! Processing modes (P-Modes, ebMS 3.0 Core, section 4 and appendix D): read from a TOML file, and the match.
+//! Processing modes (P-Modes, ebMS 3.0 Core, section 4 and appendix D): reading them from a TOML file, and matching.
 #![tactic(auto)]
 
 mod business;

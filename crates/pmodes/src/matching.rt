@@ -1,13 +1,14 @@
-//! Which of two modes, and of a mode and a header, belong together.
+//! Whether two modes, or a mode and a header, match.
 
 ghost use Rattle.std.specs.Prelude.{◌≡◌};
-ghost use Rattle.as4_values.specs.ModeMatch.{mode_terms, header_terms, agreed_of, are_same_terms, is_same_agreed, is_same_service, is_same_side, are_same_parties, is_pulled_from};
-ghost use Rattle.as4_values.specs.ModeFields.{side_fields};
+ghost use Rattle.mode_values.specs.ModeMatch.{mode_terms, header_terms, agreed_of, are_same_terms, is_same_agreed, is_same_service, is_same_side, are_same_parties, is_pulled_from};
+ghost use Rattle.mode_values.specs.ModeFields.{side_fields};
 
-use as4_values::{Agreement, Mode, Party, PlainData, Route, Seq, Service, Side, Text, UserHeader};
+use as4_values::{Agreement, Party, PlainData, Route, Seq, Service, Side, Text, UserHeader};
+use mode_values::Mode;
 
 /// Whether a message of this header belongs to the mode.
-#[tactic(auto, unfolding(as4_values::specs::ModeMatch::are_same_terms))]
+#[tactic(auto, unfolding(mode_values::specs::ModeMatch::are_same_terms))]
 pub fn matches(mode: &Mode, header: &UserHeader) -> bool
     ensures { result ≡ are_same_terms (mode_terms mode.now) (header_terms header.now) }
 {
@@ -19,7 +20,7 @@ pub fn matches(mode: &Mode, header: &UserHeader) -> bool
 }
 
 /// Whether the same messages belong to both modes.
-#[tactic(auto, unfolding(as4_values::specs::ModeMatch::are_same_terms))]
+#[tactic(auto, unfolding(mode_values::specs::ModeMatch::are_same_terms))]
 pub fn overlaps(mode: &Mode, other: &Mode) -> bool
     ensures { result ≡ are_same_terms (mode_terms mode.now) (mode_terms other.now) }
 {
@@ -30,7 +31,7 @@ pub fn overlaps(mode: &Mode, other: &Mode) -> bool
         && is_same_agreement(&mode.agreement, &other.agreement)
 }
 
-#[tactic(auto, unfolding(as4_values::specs::ModeMatch::is_same_side))]
+#[tactic(auto, unfolding(mode_values::specs::ModeMatch::is_same_side))]
 fn is_same_side(side: &Side, other: &Side) -> bool
     ensures { result ≡ is_same_side (side_fields side.now) (side_fields other.now) }
 {
@@ -43,15 +44,15 @@ fn are_same_parties(parties: &Seq<Party>, others: &Seq<Party>) -> bool
     parties.same(others)
 }
 
-#[tactic(auto, using(as4_values::proofs::MatchLemmas::kind_tested), unfolding(as4_values::specs::ModeMatch::is_same_service))]
+#[tactic(auto, using(mode_values::proofs::MatchLemmas::kind_tested), unfolding(mode_values::specs::ModeMatch::is_same_service))]
 fn is_same_service(service: &Service, other: &Service) -> bool
     ensures { result ≡ is_same_service service.now other.now }
 {
     service.value.same(&other.value) && service.kind.same(&other.kind)
 }
 
-// Two missing agreements are equal; of two, the value and the type are compared.
-#[tactic(auto, using(as4_values::proofs::MatchLemmas::kind_tested), unfolding(as4_values::specs::ModeMatch::is_same_agreed))]
+// Two missing agreements are equal; otherwise the values and the types are compared.
+#[tactic(auto, using(mode_values::proofs::MatchLemmas::kind_tested), unfolding(mode_values::specs::ModeMatch::is_same_agreed))]
 fn is_same_agreement(agreement: &Option<Agreement>, other: &Option<Agreement>) -> bool
     ensures { result ≡ is_same_agreed (agreed_of agreement.now) (agreed_of other.now) }
 {

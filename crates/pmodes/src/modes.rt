@@ -3,25 +3,26 @@
 ghost use Rattle.std.specs.Prelude.{◌≡◌, ◌≢◌, List, map, IfOk, IfErr, IfSome, IfNone, Ok, Err, Some, None, length, option_copied, slice_get};
 ghost use Rattle.std.specs.List.{AllWithin};
 ghost use Rattle.toml.specs.View.{table_view};
-ghost use Rattle.as4_values.specs.ModeFields.{mode_fields};
-ghost use Rattle.as4_values.specs.ModeMatch.{Matches, mode_of, mode_named, channel_mode};
-ghost use Rattle.as4_values.specs.declared.mode.Mode.{Mode};
+ghost use Rattle.mode_values.specs.ModeFields.{mode_fields};
+ghost use Rattle.mode_values.specs.ModeMatch.{Matches, mode_of, mode_named, channel_mode};
+ghost use Rattle.mode_values.specs.declared.mode.Mode.{Mode};
 
 use crate::lookup;
 use crate::reading::listed_in;
 use crate::refusal::{Key, ModeRefusal};
-use as4_values::{Mode, PlainData, Seq, Text, UserHeader};
+use as4_values::{PlainData, Seq, Text, UserHeader};
+use mode_values::Mode;
 use std::alloc::Global;
 use std::marker::Model;
 use toml::Table;
 
-/// How many modes a file has at most.
+/// The most modes of a file.
 pub const MAX_MODES: usize = 1024;
 
 const _: () = prove!(MAX_MODES == 1024);
 
-/// The processing modes of one end, in order: at most 1,024, with different names, and no message belongs to
-/// two of them. Contracts see the list.
+/// The processing modes of one endpoint, in order: at most 1,024, with different names, and no message belongs to two
+/// of them. Contracts see the list.
 #[derive(Drop)]
 pub struct Modes {
     modes: Seq<Mode>,
@@ -30,7 +31,7 @@ pub struct Modes {
 impl Model for Modes {
     ghost use Rattle.std.specs.Prelude.{List};
     ghost use Rattle.pmodes.specs.ModeList.{AreModes};
-    ghost use Rattle.as4_values.specs.declared.mode.Mode.{Mode};
+    ghost use Rattle.mode_values.specs.declared.mode.Mode.{Mode};
 
     ghost Value = { List Mode };
 
@@ -70,7 +71,7 @@ impl Modes {
         }
     }
 
-    /// Takes a list over.
+    /// Takes a list, and checks it.
     pub fn of_list(alloc: Global, list: Seq<Mode>) -> Result<Modes, ModeRefusal>
         ensures found { IfOk result (λ modes. modes ≡ list) }
         ensures right { IfOk result (λ _. list_refusal (map mode_fields list) ≡ None) }
@@ -114,7 +115,7 @@ impl Modes {
         lookup::channel_mode(self.modes.items(), mpc)
     }
 
-    /// The mode at this place, from 0, in the order in which they were read or given.
+    /// The mode at this place, from 0, in the order of the file or list.
     pub fn get(&self, place: u64) -> Option<&Mode>
         ensures value { option_copied result ≡ slice_get self.now place }
         ensures kept { AreModes self.now }

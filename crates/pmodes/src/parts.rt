@@ -1,6 +1,8 @@
+//! The parts of a mode, as they are read.
+
 use as4_values::{Agreement, Route, Service, Side, Text};
 
-/// Who exchanges messages in a mode.
+/// The partners of a mode.
 #[derive(Drop)]
 pub struct Partners {
     pub name: Text,
@@ -8,7 +10,7 @@ pub struct Partners {
     pub to: Side,
 }
 
-/// What a mode is for.
+/// The business of a mode.
 #[derive(Drop)]
 pub struct Business {
     pub service: Service,

@@ -1,10 +1,10 @@
-//! The modes of a document, one table after the other.
+//! Reads the modes of a document, one table after the other.
 
 ghost use Rattle.std.specs.Prelude.{◌≡◌, ◌≢◌, IsTrue, Ok, Err, IfOk, IfErr, codes, map};
 ghost use Rattle.toml.specs.Data.{get_member};
 ghost use Rattle.toml.specs.View.{view, table_view};
-ghost use Rattle.as4_values.specs.ModeFields.{mode_fields};
-ghost use Rattle.as4_values.specs.ModeRanges.{is_mode_name, is_short, is_short_side, is_short_service, is_mode_agreement, is_mode_route, may_collect, IsRetries, IsPeriod};
+ghost use Rattle.mode_values.specs.ModeFields.{mode_fields};
+ghost use Rattle.mode_values.specs.ModeRanges.{is_mode_name, is_short, is_short_side, is_short_service, is_mode_agreement, is_mode_route, may_collect, IsRetries, IsPeriod};
 ghost use Rattle.pmodes.specs.ModeFile.{partner_fields, partners_in, business_in, sending_in, mode_in, mode_of_item, modes_from, listed_in, at_place};
 ghost use Rattle.pmodes.specs.Values.{name_of};
 ghost use Rattle.pmodes.specs.Verdicts.{needed, Refuses};
@@ -18,7 +18,8 @@ use crate::refusal::{Key, ModeRefusal};
 use crate::sending::{collect_in, number_in, route_in};
 use crate::sides::{array_of_tables, side_in};
 use crate::values::{name_of, value_at};
-use as4_values::{Mode, Seq, Text};
+use as4_values::{Seq, Text};
+use mode_values::Mode;
 use std::alloc::Global;
 use toml::{Table, Value};
 
@@ -215,7 +216,7 @@ fn mode_of_item(alloc: Global, item: &Value) -> Result<Mode, Fault>
     }
 }
 
-// What is said of a fault of the mode at this place.
+// The refusal for a fault of the mode at this place.
 fn at_place(mode: u64, fault: Fault) -> ModeRefusal
     ensures { result ≡ at_place mode fault }
 {

@@ -1,3 +1,5 @@
+//! Refusals of a modes file.
+
 use as4_values::Text;
 
 /// A key of a modes file.
@@ -28,19 +30,19 @@ pub enum Key {
     Address,
 }
 
-/// Why there are no modes.
+/// Why a modes file or list is refused.
 #[derive(Drop)]
 pub enum ModeRefusal {
-    /// The bytes are no TOML document.
+    /// The bytes aren't a TOML document.
     Toml,
     /// The mode at this place, from 0, lacks a key.
     Missing { mode: u64, key: Key },
-    /// The mode at this place, from 0, has a key with a wrong value. The key `Mode` at place 0 stands for the
-    /// list itself: no array of tables, or more than 1,024.
+    /// The mode at this place, from 0, has a key with a wrong value. The key `Mode` at place 0 means the list itself:
+    /// it isn't an array of tables, or has more than 1,024.
     Range { mode: u64, key: Key },
     /// Two modes have this name.
     Twice { name: Text },
-    /// The second of these modes takes the same messages as the first.
+    /// The same messages belong to the first and to the second of these modes.
     Ambiguous { a: Text, b: Text },
     /// Memory ran out.
     NoMemory,

@@ -1,10 +1,10 @@
-//! How a mode's messages are sent.
+//! Reads how a mode's messages are sent.
 
 ghost use Rattle.std.specs.Prelude.{◌≡◌, ◌≤◌, IsTrue, Some, None, Ok, IfOk, IfErr, codes};
 ghost use Rattle.toml.specs.Data.{get_member};
 ghost use Rattle.toml.specs.View.{view, table_view};
 ghost use Rattle.as4_values.specs.Address.{is_address};
-ghost use Rattle.as4_values.specs.ModeRanges.{is_mode_route, is_short, may_collect};
+ghost use Rattle.mode_values.specs.ModeRanges.{is_mode_route, is_short, may_collect};
 ghost use Rattle.pmodes.specs.ModeParts.{route_in, route_with, collect_in};
 ghost use Rattle.pmodes.specs.Values.{address_of, text_of, number_of};
 ghost use Rattle.pmodes.specs.Verdicts.{in_range, needed, Refuses};
@@ -17,7 +17,7 @@ use std::alloc::Global;
 use toml::{Table, Value};
 
 /// Either a push or a pull; `address` belongs to a pull.
-#[tactic(auto, unfolding(crate::specs::ModeParts::route_in, crate::specs::ModeParts::route_with, as4_values::specs::ModeRanges::is_mode_route))]
+#[tactic(auto, unfolding(crate::specs::ModeParts::route_in, crate::specs::ModeParts::route_with, mode_values::specs::ModeRanges::is_mode_route))]
 pub fn route_in(alloc: Global, table: &Table) -> Result<Route, Fault>
     ensures found { IfOk result (λ route. route_in (table_view table.now) ≡ Ok route) }
     ensures refused { IfErr result (Refuses (route_in (table_view table.now))) }
@@ -33,7 +33,7 @@ pub fn route_in(alloc: Global, table: &Table) -> Result<Route, Fault>
     }
 }
 
-#[tactic(auto, unfolding(crate::specs::ModeParts::route_with, as4_values::specs::ModeRanges::is_mode_route))]
+#[tactic(auto, unfolding(crate::specs::ModeParts::route_with, mode_values::specs::ModeRanges::is_mode_route))]
 fn pull_in(alloc: Global, table: &Table, pull: &Value) -> Result<Route, Fault>
     ensures found { IfOk result (λ route. route_with None (Some (view pull.now)) (get_member (codes "address") (table_view table.now)) ≡ Ok route) }
     ensures refused { IfErr result (Refuses (route_with None (Some (view pull.now)) (get_member (codes "address") (table_view table.now)))) }
@@ -82,7 +82,7 @@ fn pull_address_in(alloc: Global, table: &Table) -> Result<Text, Fault>
     }
 }
 
-/// A number from `low` to `high`, at its key.
+/// A number from `low` to `high`; the key is required.
 pub fn number_in(table: &Table, name: &str, key: Key, low: u64, high: u64) -> Result<u64, Fault>
     ensures value { result ≡ needed key (number_of low high) (get_member name.now (table_view table.now)) }
     ensures within { IfOk result (λ number. (low ≤ number) × (number ≤ high)) }
@@ -93,7 +93,7 @@ pub fn number_in(table: &Table, name: &str, key: Key, low: u64, high: u64) -> Re
     }
 }
 
-/// Whether this end asks for the messages: false where nothing is said; true only where the mode pulls.
+/// Whether this endpoint sends the pull requests: false where the key is missing; true only where the mode pulls.
 #[tactic(auto, unfolding(crate::specs::ModeParts::collect_in))]
 pub fn collect_in(table: &Table, route: &Route) -> Result<bool, Fault>
     ensures value { result ≡ collect_in route.now (table_view table.now) }
@@ -110,7 +110,7 @@ pub fn collect_in(table: &Table, route: &Route) -> Result<bool, Fault>
     }
 }
 
-#[tactic(auto, unfolding(as4_values::specs::ModeRanges::may_collect))]
+#[tactic(auto, unfolding(mode_values::specs::ModeRanges::may_collect))]
 fn may_collect(route: &Route, collect: bool) -> bool
     ensures { result ≡ may_collect route.now collect }
 {

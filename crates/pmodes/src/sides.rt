@@ -1,11 +1,11 @@
-//! The two sides of a mode.
+//! Reads the two sides of a mode.
 
 ghost use Rattle.std.specs.Prelude.{◌≡◌, ◌≤◌, IsTrue, Ok, IfSome, IfOk, IfErr, codes, length, map, option_map};
 ghost use Rattle.std.specs.List.{list_all};
 ghost use Rattle.toml.specs.Data.{as_array, get_member};
 ghost use Rattle.toml.specs.View.{view, table_view};
-ghost use Rattle.as4_values.specs.ModeFields.{side_fields};
-ghost use Rattle.as4_values.specs.ModeRanges.{is_short_party, is_short_side};
+ghost use Rattle.mode_values.specs.ModeFields.{side_fields};
+ghost use Rattle.mode_values.specs.ModeRanges.{is_short_party, is_short_side};
 ghost use Rattle.pmodes.specs.ModeParts.{array_of_tables, are_tables, is_table, list_of, party_in, party_of, parties_in, side_fields_in, side_in};
 ghost use Rattle.pmodes.specs.Verdicts.{and_then, needed, Refuses};
 
@@ -38,7 +38,7 @@ fn items_of(value: &Value) -> Option<&[Value]>
     }
 }
 
-// Whether there are `low` to `high` items, and all of them are tables.
+// Whether there are `low` to `high` items, all of them tables.
 #[tactic(auto, using(crate::proofs::TableLemmas::tables_counted))]
 fn are_tables(low: usize, high: usize, items: &[Value]) -> bool
     ensures value { result ≡ are_tables low high (map view items.now) }
@@ -53,7 +53,7 @@ fn are_all_tables(items: &[Value]) -> bool
     items.iter().all(|item| item.is_table())
 }
 
-/// A side, at its key.
+/// The side at a key, which is required.
 #[tactic(auto, unfolding(crate::specs::ModeParts::side_in))]
 pub fn side_in(alloc: Global, table: &Table, name: &str, key: Key) -> Result<Side, Fault>
     ensures found { IfOk result (λ side. side_in key (get_member name.now (table_view table.now)) ≡ Ok (side_fields side)) }
@@ -69,7 +69,7 @@ pub fn side_in(alloc: Global, table: &Table, name: &str, key: Key) -> Result<Sid
     side_fields_in(alloc, side)
 }
 
-#[tactic(auto, unfolding(crate::specs::ModeParts::side_fields_in, as4_values::specs::ModeRanges::is_short_side))]
+#[tactic(auto, unfolding(crate::specs::ModeParts::side_fields_in, mode_values::specs::ModeRanges::is_short_side))]
 fn side_fields_in(alloc: Global, table: &Table) -> Result<Side, Fault>
     ensures found { IfOk result (λ side. side_fields_in (table_view table.now) ≡ Ok (side_fields side)) }
     ensures refused { IfErr result (Refuses (side_fields_in (table_view table.now))) }
@@ -134,7 +134,7 @@ fn party_of(alloc: Global, item: &Value) -> Result<Party, Fault>
     }
 }
 
-#[tactic(auto, unfolding(crate::specs::ModeParts::party_in, as4_values::specs::ModeRanges::is_short_party))]
+#[tactic(auto, unfolding(crate::specs::ModeParts::party_in, mode_values::specs::ModeRanges::is_short_party))]
 fn party_in(alloc: Global, table: &Table) -> Result<Party, Fault>
     ensures found { IfOk result (λ party. party_in (table_view table.now) ≡ Ok party) }
     ensures refused { IfErr result (Refuses (party_in (table_view table.now))) }

@@ -1,11 +1,11 @@
-//! The values of a table: what stands at a key, read as a text, a name, an address or a number.
+//! Reads the values of a table as texts, names, addresses and numbers.
 
 ghost use Rattle.std.specs.Prelude.{◌≡◌, ◌≢◌, ℕ, List, ◌<◌, ◌≤◌, IsTrue, Some, false, IfOk, IfErr, IfSome, IfNone, option_and_then, option_map};
 ghost use Rattle.std.specs.List.{list_all};
 ghost use Rattle.toml.specs.Data.{as_integer, get_member};
 ghost use Rattle.toml.specs.View.{view, table_view};
 ghost use Rattle.as4_values.specs.Address.{is_address};
-ghost use Rattle.as4_values.specs.ModeRanges.{is_mode_name, is_name_byte, is_short};
+ghost use Rattle.mode_values.specs.ModeRanges.{is_mode_name, is_name_byte, is_short};
 ghost use Rattle.as4_values.specs.Texts.{Spells};
 ghost use Rattle.pmodes.specs.Values.{text_value, text_of, name_of, address_of, natural, number_of};
 
@@ -13,15 +13,15 @@ use as4_values::{NoMemory, Text, TextRefusal, is_address};
 use std::alloc::Global;
 use toml::{Table, Value};
 
-/// What stands at a key.
+/// The value of a key.
 pub fn value_at<'a>(table: &'a Table, key: &str) -> Option<&'a Value>
     ensures { option_map (λ value. view value.now) result ≡ get_member key.now (table_view table.now) }
 {
     table.get(key)
 }
 
-// The text that a string is read as, where it has 1 to 255 bytes.
-#[tactic(auto, unfolding(as4_values::specs::ModeRanges::is_short))]
+// The text of a string, if it has 1 to 255 bytes.
+#[tactic(auto, unfolding(mode_values::specs::ModeRanges::is_short))]
 fn short_text(alloc: Global, bytes: &[u8]) -> Result<Option<Text>, NoMemory>
     ensures some { IfOk result (λ read. IfSome read (λ text. Spells bytes.now text × IsTrue (is_short text))) }
     ensures none { IfOk result (λ read. IfNone read ((text : List ℕ) → Spells bytes.now text → is_short text ≡ false)) }
@@ -69,7 +69,7 @@ pub fn name_of(alloc: Global, value: &Value) -> Result<Option<Text>, NoMemory>
     }
 }
 
-#[tactic(auto, unfolding(as4_values::specs::ModeRanges::is_mode_name))]
+#[tactic(auto, unfolding(mode_values::specs::ModeRanges::is_mode_name))]
 fn is_mode_name(name: &[u8]) -> bool
     ensures { result ≡ is_mode_name name.now }
 {

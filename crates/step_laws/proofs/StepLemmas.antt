@@ -1,4 +1,4 @@
--- The effects of each row of the table fit where those before them have led.
+-- The effects of each row of the table fit after those before them.
 use Rattle.std.proofs.Common.{◌≡◌, ℕ, suc, ◌<◌, ◌≤◌, ◌⊎◌, inl, inr, List, [], ◌∷◌, true, false, Option, Some, None, option_map, length, refl, ap, sym, subst, ◌∙◌, arith}
 use Rattle.std.specs.Prelude.{IsTrue, nat_le, nat_lt}
 use Rattle.std.specs.Option.{option_and_then}
@@ -8,12 +8,12 @@ use Rattle.as4_effects.specs.declared.effect.Effect.TheVariants as effect
 use Rattle.as4_effects.specs.declared.mark.Mark.TheVariants as mark
 use Rattle.as4_effects.specs.declared.queue.Queue.{Queue}
 use Rattle.as4_effects.specs.declared.queue.Queue.TheVariants as queue
-use Rattle.as4_values.specs.ModeMatch.{channel_mode, mode_named, mode_of}
+use Rattle.mode_values.specs.ModeMatch.{channel_mode, mode_named, mode_of}
 use Rattle.as4_values.specs.declared.header.UserHeader.{UserHeader}
 use Rattle.as4_values.specs.declared.message.Message.{Message}
 use Rattle.as4_values.specs.declared.message.Message.TheVariants as message
 use Rattle.as4_values.specs.declared.message.Pair.{Pair}
-use Rattle.as4_values.specs.declared.mode.Mode.{Mode}
+use Rattle.mode_values.specs.declared.mode.Mode.{Mode}
 use Rattle.as4_values.specs.declared.payload.Payload.{Payload}
 use Rattle.as4_values.specs.declared.route.Route.{Route}
 use Rattle.as4_values.specs.declared.route.Route.TheVariants as route
@@ -144,7 +144,7 @@ pending_fits : (end : End) (s : Sent) → AreNumberedFrom 0 end.sent → Has end
 unfolding is_fit
 pending_fits end s numbered has pending = ap (is_one is_pending) (itself 0 end.sent s numbered has) ∙ pending
 
--- what a reference names was handed in
+-- a reference that names a submission finds one of the endpoint's
 named_has : (ref_to : Option (List ℕ)) (sent : List Sent) (s : Sent) → option_and_then (λ ref. sent_of ref sent) ref_to ≡ Some s → Has sent s
 named_has None sent s e = absurd cc
 named_has (Some ref) sent s e = (sent_of_has ref sent s e).0
@@ -225,7 +225,7 @@ row_fits modes end event (what.Read n) outcome numbered h = rests_fit end _ outc
 row_fits modes end event (what.Confirm upto) outcome numbered h = confirms_fit end upto outcome h
 row_fits modes end event (what.Status id) outcome numbered h = rests_fit end _ outcome h
 
--- and so they do where the journal is full
+-- they fit too where the journal is full
 pub step_fits : (modes : List Mode) (end : End) (event : Event) (outcome : Outcome) → IsReached end → Step modes end event outcome → Fit end outcome
 step_fits modes end event outcome reached step =
     by_bool _ _ _ (has_room end step.row.effects) step.limited
@@ -233,7 +233,7 @@ step_fits modes end event outcome reached step =
     (row_fits modes end event event.what step.row (reached_sound end reached).sent.numbered step.decided))
     (λ _. rests_fit end _ outcome)
 
--- each happening leads on from a reached end
+-- each happening leads from a reached endpoint to a reached one
 pub leads_on : (all : List Happening) (end : End) → IsReached end → MayHappenTo all end → IsReached (end_after all end)
 leads_on [] end reached may = reached
 leads_on (Does act ∷ later) end reached may =

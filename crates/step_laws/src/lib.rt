@@ -1,4 +1,4 @@
-//! What a step gives fits the end, so each end that events and folds lead to can be folded.
+//! The effects of a step fit the endpoint, so each endpoint that events and compactions lead to can be compacted.
 #![tactic(auto)]
 
 mod laws;

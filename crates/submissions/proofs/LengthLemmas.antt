@@ -1,4 +1,4 @@
--- How many bytes a submission by a mode has at most in an effect.
+-- The most bytes that a submission by a mode has in an effect.
 use Rattle.std.proofs.Common.{◌≡◌, ℕ, ◌+◌, ◌*◌, ◌≤◌, List, [], ◌∷◌, ◌++◌, length, map, length-append, arith, refl, ap, ◌∙◌}
 use Rattle.std.specs.Prelude.{Option, Some, IsTrue, IfSome, codes}
 use Rattle.std.specs.List.{All, flat_map, sum_by}
@@ -7,11 +7,11 @@ use Rattle.std.proofs.lemmas.List.Elements.{All-nil, All-cons, All-head, All-tai
 use Rattle.std.proofs.lemmas.List.Sums.{sum_by-cons}
 use Rattle.as4_values.proofs.MomentTextLemmas.{of_moment}
 use Rattle.as4_values.proofs.PayloadLemmas.{media_limited}
-use Rattle.as4_values.specs.ModeRanges.{is_mode_route}
+use Rattle.mode_values.specs.ModeRanges.{is_mode_route}
 use Rattle.as4_values.specs.Moment.{IsStampOf}
 use Rattle.as4_values.specs.declared.header.PartInfo.{PartInfo}
 use Rattle.as4_values.specs.declared.header.UserHeader.{UserHeader}
-use Rattle.as4_values.specs.declared.mode.Mode.{Mode}
+use Rattle.mode_values.specs.declared.mode.Mode.{Mode}
 use Rattle.as4_values.specs.declared.payload.Load.{Load}
 use Rattle.as4_values.specs.declared.payload.Payload.{Payload}
 use Rattle.as4_values.specs.declared.route.Route.{Route}
@@ -24,7 +24,7 @@ use Rattle.submissions.proofs.ModeLengthLemmas.{text_length, text_within, option
 stamp_length : (ms : ℕ) (stamp : List ℕ) → IsStampOf ms stamp → length (text_body stamp) ≡ 28
 stamp_length ms stamp is = omega (arith, text_length stamp, (of_moment stamp (is.0, is.1, is.4)).len)
 
--- a part info of a reference alone
+-- a part info with only a reference
 part_length : (part : PartInfo) (cid : List ℕ) → part.href ≡ Some (codes "cid:" ++ cid) → part.properties ≡ [] → length cid ≤ 82 → length (part_body part) ≤ 95
 unfolding part_body
 part_length part cid href bare short =

@@ -1,15 +1,15 @@
--- What is made by a mode is sound.
+-- A submission that is made by a mode is sound.
 use Rattle.std.proofs.Common.{◌≡◌, ℕ, ◌^◌, ◌<◌, ◌≤◌, List, false, length, arith}
 use Rattle.std.specs.Prelude.{Option, IsTrue, IfSome}
 use Rattle.as4_values.specs.Identifiers.{submission_id}
-use Rattle.as4_values.specs.ModeRanges.{is_mode_route}
+use Rattle.mode_values.specs.ModeRanges.{is_mode_route}
 use Rattle.as4_values.specs.declared.header.UserHeader.{UserHeader}
-use Rattle.as4_values.specs.declared.mode.Mode.{Mode}
+use Rattle.mode_values.specs.declared.mode.Mode.{Mode}
 use Rattle.as4_values.specs.declared.payload.Load.{Load}
 use Rattle.as4_values.specs.declared.payload.Payload.{Payload}
 use Rattle.as4_values.specs.declared.route.Route.{Route}
 use Rattle.as4_values.specs.declared.route.Route.TheVariants.{Push, Pull}
-use Rattle.as4_effects.specs.Pairing.{pair}
+use Rattle.as4_values.specs.Pairing.{pair}
 use Rattle.as4_effects.specs.Sound.{is_id_of, is_route, submitted_body, fits_an_effect}
 use Rattle.exchange_model.specs.Submitting.{IsHeaderOf, ArePayloadsOf, are_too_large}
 use Rattle.submissions.specs.Names.{IsStem, ArePartsOf}
@@ -25,7 +25,7 @@ unfolding is_mode_route is_route
 route_is_one (Push address) is = is
 route_is_one (Pull mpc address) is = grind arith
 
--- what a submission is made of
+-- the parts of a submission
 pub record IsMadeOf (mode : Mode) (number ms nonce : ℕ) (conversation : Option (List ℕ)) (loads : List Load)
     (header : UserHeader) (payloads : List Payload) (route : Route) : Type 0 where
   pub numbered : number < 1048576
@@ -36,7 +36,7 @@ pub record IsMadeOf (mode : Mode) (number ms nonce : ℕ) (conversation : Option
   pub loaded : ArePayloadsOf (submission_id number nonce) loads payloads
   pub routed : route ≡ mode.route
 
--- what the ghost fields of a submission ask for
+-- the obligations of a submission's ghost fields
 pub record IsSound (number : ℕ) (header : UserHeader) (payloads : List Payload) (route : Route) : Type 0 where
   pub identified : IsTrue (is_id_of number header.id)
   pub paired : IsTrue (pair header.parts payloads)

@@ -1,4 +1,4 @@
--- How many bytes texts, and what a mode says, have at most in an effect.
+-- The most bytes that texts and the parts of a mode have in an effect.
 use Rattle.std.proofs.Common.{◌≡◌, ℕ, ◌+◌, ◌*◌, ◌≤◌, List, ◌++◌, Bool, true, length, length-append, arith, ◌∙◌}
 use Rattle.std.specs.Prelude.{Option, Some, None, IsTrue, IfSome, is_some, not, ◌&&◌}
 use Rattle.std.specs.List.{All, list_all, flat_map}
@@ -6,7 +6,7 @@ use Rattle.std.proofs.lemmas.Bool.Decides.{nat_tests}
 use Rattle.std.proofs.lemmas.List.Concat.{length-flat_map}
 use Rattle.std.proofs.lemmas.List.Sums.{AllPass-from_list_all, sum_by-le}
 use Rattle.as4_values.specs.Address.{is_address}
-use Rattle.as4_values.specs.ModeRanges.{is_short, is_short_if_some, is_short_party, is_short_side, is_short_service, is_mode_agreement, is_mode_route}
+use Rattle.mode_values.specs.ModeRanges.{is_short, is_short_if_some, is_short_party, is_short_side, is_short_service, is_mode_agreement, is_mode_route}
 use Rattle.as4_values.specs.declared.header.Party.{Party}
 use Rattle.as4_values.specs.declared.header.Side.{Side}
 use Rattle.as4_values.specs.declared.header.Agreement.{Agreement}
@@ -55,7 +55,7 @@ party_length p short =
       short_option p.kind (and_second (is_short p.id) (is_short_if_some p.kind) short),
     ))
 
--- items that are so short each
+-- items that each have a limit
 pub list_within : {X : Type 0} (body : X → List ℕ) (xs : List X) (count most : ℕ) → length xs ≤ count → All (λ x. length (body x) ≤ most) xs
     → length (list_body body xs) ≤ length xs * most + 4
 list_within body xs count most few each =

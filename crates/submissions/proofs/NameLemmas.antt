@@ -50,7 +50,7 @@ digits_are_stem_bytes (c ∷ cs) digits =
 decimal_of_stem_bytes : (n : ℕ) → n < 2 ^ 64 → All IsStemByte (decimal n)
 decimal_of_stem_bytes n fits = digits_are_stem_bytes (decimal n) (decimal_is_IsNumeral n fits).0.1
 
--- the identifier of a submission names payloads
+-- the identifier of a submission is short and needs no escape
 pub submission_id_is_stem : (number nonce : ℕ) → number < 2 ^ 64 → IsStem (submission_id number nonce)
 submission_id_is_stem number nonce fits =
     let digits : length (decimal number) ≤ 20 = length-decimal-le 20 number (omega arith) (omega arith) fits in
@@ -63,7 +63,7 @@ submission_id_is_stem number nonce fits =
           (literal_of_stem_bytes (codes "@as4") refl);
     }
 
--- what holds of a Content-ID
+-- the properties of a Content-ID
 pub record IsName (cid : List ℕ) : Type 0 where
   pub some : 0 < length cid
   pub limited : length cid ≤ 82

@@ -1,4 +1,4 @@
--- The nonce is read back from the identifier that is made of it.
+-- The nonce can be read from the identifier made of it.
 use Rattle.std.proofs.Common.{◌≡◌, ℕ, zero, suc, ◌+◌, ◌-◌, ◌*◌, ◌/◌, ◌%◌, ◌^◌, ◌<◌, List, [], ◌∷◌, ◌++◌, Bool, true, false, length, get_or, take, drop, append_assoc, add-one, arith, refl, ap, sym, ◌∙◌, if◌then◌else◌}
 use Rattle.std.specs.Prelude.{◌==◌, ◌&&◌, nat_lt, bytes_eq, codes}
 use Rattle.std.specs.Int.{w128, to_be_bytes, bytes_high_first, byte_at}
@@ -13,7 +13,7 @@ use Rattle.as4_values.proofs.IdentifierLemmas.{length-uuid_text}
 use Rattle.as4_values.specs.Identifiers.{uuid_text, submission_id}
 use Rattle.as4_effects.specs.Sound.{digit_of, number_in, nonce_in, is_id_of}
 
--- what the text of a UUID with these bytes has at a place
+-- the byte at a place of the text of a UUID with these bytes
 abbrev symbol : List ℕ → ℕ → ℕ
 symbol bytes k = if is_hyphen_place k then 45 else hex_digit lower (nibble bytes (digit_place k))
 
@@ -21,7 +21,7 @@ by_index_more : (n : ℕ) (f : ℕ → ℕ) → by_index (n + 1) f ≡ by_index 
 unfolding by_index
 by_index_more n f = rw add-one refl
 
--- one more symbol behind
+-- one more symbol at the end
 number_push : (n : ℕ) (text : List ℕ) (b : ℕ) → number_in n (text ++ b ∷ []) ≡ (if b == 45 then number_in n text else number_in n text * 16 + digit_of b)
 unfolding number_in
 number_push n [] b = refl
@@ -69,7 +69,7 @@ byte_from_front (suc k) n (suc i) within =
     let e : suc k - 1 - suc i ≡ k - 1 - i = omega arith in
     rw e (byte_from_front k n i (omega arith))
 
--- the digits in front of a place write the front of the number
+-- the digits before a place write the high part of the number
 abbrev Reads : ℕ → ℕ → ℕ → Type 0
 Reads nonce k i = number_in 0 (by_index k (symbol (to_be_bytes w128 nonce))) ≡ nonce / 256 ^ (16 - i)
 

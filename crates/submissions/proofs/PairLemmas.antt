@@ -1,4 +1,4 @@
--- References and payloads of the same Content-IDs pair.
+-- References and payloads with the same Content-IDs pair.
 use Rattle.std.proofs.Common.{◌≡◌, ◌≢◌, ℕ, zero, suc, ◌+◌, ◌<◌, ◌≤◌, List, [], ◌∷◌, ◌++◌, Bool, true, false, get_or, map, arith, refl, ap, ◌∙◌}
 use Rattle.std.specs.Prelude.{Some, bytes_eq, codes}
 use Rattle.std.specs.List.{All, list_all, range_with_len}
@@ -12,7 +12,7 @@ use Rattle.percent_encoding.specs.Percent.{percent_decode}
 use Rattle.percent_encoding.proofs.PercentLemmas.{percent_decode-nil, percent_decode_not_percent}
 use Rattle.as4_values.specs.declared.header.PartInfo.{PartInfo}
 use Rattle.as4_values.specs.declared.payload.Payload.{Payload}
-use Rattle.as4_effects.specs.Pairing.{cid_in, named_by, is_among, all_differ, are_paired, pair}
+use Rattle.as4_values.specs.Pairing.{cid_in, named_by, is_among, all_differ, are_paired, pair}
 use Rattle.exchange_model.specs.Submitting.{cids_of}
 use Rattle.submissions.specs.Names.{IsStemByte, IsStem, cid_at}
 use Rattle.submissions.proofs.NameLemmas.{cid_is_name, cids_differ}
@@ -30,12 +30,12 @@ name_stays (b ∷ rest) each =
 abbrev href : List ℕ → List ℕ
 href cid = codes "cid:" ++ cid
 
--- what a reference to a name names
+-- the name in a reference to a name
 named_in : (cid : List ℕ) → All IsStemByte cid → cid_in (href cid) ≡ Some cid
 unfolding cid_in
 named_in cid each = ap Some (name_stays cid each)
 
--- references to Content-IDs name these
+-- references to Content-IDs name them in order
 named_in_order : (parts : List PartInfo) (cids : List (List ℕ)) → map (λ (part : PartInfo). part.href) parts ≡ map (λ cid. Some (href cid)) cids
     → All (All IsStemByte) cids → named_by parts ≡ Some cids
 unfolding named_by
@@ -54,7 +54,7 @@ not_true false h = refl
 unequal : (a b : List ℕ) → a ≢ b → bytes_eq a b ≡ false
 unequal a b apart = not_true (bytes_eq a b) (λ same. apart ((bytes_eq-Decides a b).0 same))
 
--- a Content-ID is none of those behind it
+-- a Content-ID isn't one of the later ones
 not_behind : (id : List ℕ) (j a n : ℕ) → j < a → a + n ≤ 64 → is_among (map (cid_at id) (range_with_len a n)) (cid_at id j) ≡ false
 not_behind id j a zero less few = refl
 not_behind id j a (suc n) less few =

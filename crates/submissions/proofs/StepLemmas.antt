@@ -39,7 +39,7 @@ one_more_part id n parts part so_far href bare =
     map-append (λ (p : PartInfo). p.href) parts (part ∷ []) ∙ rw (so_far.hrefs, href) refl in
     record { hrefs = hrefs ∙ sym cids; bare = All-push (λ (p : PartInfo). p.properties ≡ []) parts part so_far.bare bare }
 
--- there are as many as there are Content-IDs
+-- there is a part info for each Content-ID
 pub parts_counted : (id : List ℕ) (n : ℕ) (parts : List PartInfo) → ArePartsOf id n parts → length parts ≡ n
 parts_counted id n parts are =
     sym (length-map parts (λ (p : PartInfo). p.href))

@@ -1,1 +1,2 @@
+-- The specs of submissions.
 pub mod Names

@@ -1,11 +1,11 @@
--- The names of the payloads of a submission, and what refers to them (RFC 2392).
+-- The names of the payloads of a submission, and the references to them (RFC 2392).
 use Rattle.std.specs.Prelude.{◌≡◌, ℕ, ◌+◌, ◌≤◌, List, [], ◌++◌, Bool, not, ◌&&◌, ◌||◌, ◌==◌, nat_le, Some, IsTrue, length, map, codes}
 use Rattle.std.specs.Fmt.{decimal}
 use Rattle.std.specs.List.{All}
 use Rattle.as4_values.specs.declared.header.PartInfo.{PartInfo}
 use Rattle.exchange_model.specs.Submitting.{cids_of}
 
--- a byte that stands in an identifier, in a document and in a URL as it is
+-- a byte that needs no escape in an identifier, in a document and in a URL
 abbrev pub is_stem_byte : ℕ → Bool
 is_stem_byte b = nat_le 33 b && nat_le b 126 && not ((b == 34) || (b == 37) || (b == 38) || (b == 60) || (b == 62))
 
@@ -21,7 +21,7 @@ pub record IsStem (id : List ℕ) : Type 0 where
 unfoldable pub cid_at : List ℕ → ℕ → List ℕ
 cid_at id k = decimal (k + 1) ++ codes "." ++ id
 
--- so many part infos, each with the reference to its payload and nothing else
+-- `count` part infos, each with the reference to its payload and nothing else
 pub record ArePartsOf (id : List ℕ) (count : ℕ) (parts : List PartInfo) : Type 0 where
   pub hrefs : map (λ (part : PartInfo). part.href) parts ≡ map (λ cid. Some (codes "cid:" ++ cid)) (cids_of id count)
   pub bare : All (λ (part : PartInfo). part.properties ≡ []) parts

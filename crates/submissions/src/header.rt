@@ -7,12 +7,13 @@ ghost use Rattle.submissions.specs.Names.{IsStem};
 
 use crate::parts::parts_of;
 use as4_values::{
-    Agreement, MAX_MOMENT, MessageId, Mode, NoMemory, PlainData, Route, Seq, Service, Side,
-    StampText, Text, UserHeader, stamp_text,
+    Agreement, MAX_MOMENT, MessageId, NoMemory, PlainData, Route, Seq, Service, Side, StampText,
+    Text, UserHeader, stamp_text,
 };
+use mode_values::Mode;
 use std::alloc::Global;
 
-/// The header of the message with this identifier, made at a moment, for so many payloads.
+/// The header of the message with this identifier, made at a moment, for this number of payloads.
 pub fn header_of(
     alloc: Global,
     mode: &Mode,
@@ -117,7 +118,7 @@ fn channel_of(alloc: Global, route: &Route) -> Result<Option<Text>, NoMemory>
     }
 }
 
-/// The identifier of a conversation has at most 65,536 bytes, as each text.
+/// A law: the identifier of a conversation has at most 65,536 bytes, as any text.
 pub fn conversation_is_limited(conversation: &Option<Text>)
     ensures { IfSome conversation.now (λ text. length text ≤ 65536) }
 {

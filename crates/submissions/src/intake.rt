@@ -1,22 +1,25 @@
+//! Makes submissions.
+
 ghost use Rattle.std.specs.Prelude.{◌≡◌, ◌<◌, ◌≤◌, false, IfOk};
 ghost use Rattle.exchange_model.specs.Submitting.{IsSubmissionOf, are_too_large};
 
 use crate::header::{conversation_is_limited, header_of};
 use crate::payloads::payloads_of;
 use as4_effects::Submission;
-use as4_values::{Load, MAX_MOMENT, MessageId, Mode, NoMemory, PlainData, Seq, Text};
+use as4_values::{Load, MAX_MOMENT, MessageId, NoMemory, PlainData, Seq, Text};
+use mode_values::Mode;
 use std::alloc::Global;
 
-/// Which submission is made, and when.
+/// The number of the submission to make, and its moments.
 #[derive(Clone, Copy, Debug)]
 pub struct Intake {
-    /// How many submissions came before it.
+    /// The number of submissions before it.
     pub number: u64,
-    /// When it is handed in, by the end's clock, in milliseconds since 1970-01-01T00:00:00Z.
+    /// When it is submitted, by the endpoint's clock, in milliseconds since 1970-01-01T00:00:00Z.
     pub now: u64,
-    /// The moment of the event, which the header tells, in milliseconds since 1970-01-01T00:00:00Z.
+    /// The moment of the event, written into the header, in milliseconds since 1970-01-01T00:00:00Z.
     pub stamp: u64,
-    /// What the identifier is made of, beside the number.
+    /// Makes the identifier, together with the number.
     pub nonce: u128,
 }
 
@@ -34,6 +37,7 @@ pub fn submission(
     requires small { are_too_large loads.now ≡ false }
     ensures { IfOk result (IsSubmissionOf mode.now intake.number intake.now intake.stamp intake.nonce conversation.now loads.now) }
 {
+    // Laws: the conversation is short enough for an effect.
     conversation_is_limited(conversation);
     let id = MessageId::of_submission(alloc, intake.number, intake.nonce)?;
     let loads = loads.items();

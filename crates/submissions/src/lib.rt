@@ -1,4 +1,4 @@
-//! What is handed in to be sent becomes a submission.
+//! Makes submissions of the data that a producer submits.
 #![tactic(auto)]
 
 mod header;

@@ -1,17 +1,16 @@
-//! How much may be handed in at once.
+//! The limits of one submission.
 
 ghost use Rattle.std.specs.Prelude.{◌≡◌, ◌-◌, ◌^◌, length, min};
 ghost use Rattle.std.specs.List.{list_all, sum_by};
 ghost use Rattle.as4_values.specs.Payload.{is_media_text};
 ghost use Rattle.exchange_model.specs.Submitting.{are_too_large};
 
-use as4_effects::is_media_text;
-use as4_values::Load;
+use as4_values::{Load, is_media_text};
 
-/// How many loads there are at most.
+/// The most loads of a submission.
 const MAX_LOADS: usize = 64;
 
-/// How many bytes the contents have at most, together.
+/// The most bytes of all contents together.
 const MAX_CONTENT: usize = 62_914_560;
 
 /// Whether there are more than 64 loads, or one with a media text that no part may have, or more than 62,914,560 bytes
@@ -30,7 +29,7 @@ fn have_media_texts(loads: &[Load]) -> bool
     loads.iter().all(|load| is_media_text(load.media.bytes()))
 }
 
-/// How many bytes the contents have together, or the greatest number where they are more.
+/// The number of bytes of all contents, at most `usize::MAX`.
 fn content_len(loads: &[Load]) -> usize
     ensures { result ≡ min (sum_by (λ load. length load.content) loads.now) (2 ^ 64 - 1) }
 {

@@ -7,7 +7,7 @@ use crate::naming::href_of;
 use as4_values::{MessageId, NoMemory, PartInfo, Seq};
 use std::alloc::Global;
 
-/// So many part infos, each with the reference to its payload and nothing else.
+/// `count` part infos, each with the reference to its payload and nothing else.
 #[tactic(auto, using(crate::proofs::StepLemmas::no_parts, crate::proofs::StepLemmas::one_more_part, crate::proofs::StepLemmas::parts_counted))]
 pub fn parts_of(alloc: Global, id: &MessageId, count: usize) -> Result<Seq<PartInfo>, NoMemory>
     requires few { count ≤ 64 }

@@ -10,7 +10,7 @@ use crate::naming::cid_of;
 use as4_values::{Load, MessageId, NoMemory, Payload, PlainData, Seq};
 use std::alloc::Global;
 
-/// Each load behind its Content-ID.
+/// Each load with its Content-ID.
 #[tactic(auto, using(crate::proofs::StepLemmas::no_payloads, crate::proofs::StepLemmas::all_payloads, crate::proofs::StepLemmas::typed_at))]
 pub fn payloads_of(alloc: Global, id: &MessageId, loads: &[Load]) -> Result<Seq<Payload>, NoMemory>
     requires few { length loads.now ≤ 64 }

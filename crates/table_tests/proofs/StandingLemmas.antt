@@ -1,4 +1,4 @@
--- What a standing tells of a submission.
+-- What the standing of a submission implies.
 use Rattle.std.proofs.Common.{refl, ◌≡◌, ℕ, ◌≤◌, Option, Some, None}
 use Rattle.std.specs.Prelude.{IsTrue, option_map}
 use Rattle.std.proofs.lemmas.Bool.{and_from, le-leb}

@@ -1,19 +1,21 @@
+//! Submissions made from modes and loads, and their limits.
 ghost use Rattle.std.specs.Prelude.{false, IsTrue};
-ghost use Rattle.as4_values.specs.ModeRanges.{is_mode_name, is_short, is_short_side, is_mode_route, may_collect};
+ghost use Rattle.mode_values.specs.ModeRanges.{is_mode_name, is_short, is_short_side, is_mode_route, may_collect};
 
 use as4_effects::Submission;
 use as4_values::{
-    Load, Mode, Octets, PartInfo, Party, Payload, Route, Seq, Service, Side, Text, is_address,
+    Load, Octets, PartInfo, Party, Payload, Route, Seq, Service, Side, Text, is_address,
 };
 use made_messages::octets;
+use mode_values::Mode;
 use std::alloc::Global;
 use std::process::Abort;
 use submissions::{Intake, are_too_large, submission};
 
-/// The identifier of the first submission, by the nonce 0.
+/// The identifier of the first submission, with the nonce 0.
 const ID: &[u8] = b"0.00000000-0000-0000-0000-000000000000@as4";
 
-#[tactic(auto, unfolding(as4_values::specs::ModeRanges::is_short))]
+#[tactic(auto, unfolding(mode_values::specs::ModeRanges::is_short))]
 fn short(rt: &(impl Abort + AllocGlobal), text: &[u8]) -> Text
     ensures { IsTrue (is_short result) }
 {
@@ -22,7 +24,7 @@ fn short(rt: &(impl Abort + AllocGlobal), text: &[u8]) -> Text
     text
 }
 
-#[tactic(auto, unfolding(as4_values::specs::ModeRanges::is_mode_name))]
+#[tactic(auto, unfolding(mode_values::specs::ModeRanges::is_mode_name))]
 fn name(rt: &(impl Abort + AllocGlobal)) -> Text
     ensures { IsTrue (is_mode_name result) }
 {
@@ -31,7 +33,7 @@ fn name(rt: &(impl Abort + AllocGlobal)) -> Text
     text
 }
 
-#[tactic(auto, unfolding(as4_values::specs::ModeRanges::is_short_side, as4_values::specs::ModeRanges::is_short_party))]
+#[tactic(auto, unfolding(mode_values::specs::ModeRanges::is_short_side, mode_values::specs::ModeRanges::is_short_party))]
 fn side(rt: &(impl Abort + AllocGlobal), id: &[u8]) -> Side
     ensures { IsTrue (is_short_side result.parties result.role) }
 {
@@ -46,7 +48,7 @@ fn side(rt: &(impl Abort + AllocGlobal), id: &[u8]) -> Side
 }
 
 /// A push, or a pull from the channel `c`.
-#[tactic(auto, unfolding(as4_values::specs::ModeRanges::is_mode_route, as4_values::specs::ModeRanges::may_collect))]
+#[tactic(auto, unfolding(mode_values::specs::ModeRanges::is_mode_route, mode_values::specs::ModeRanges::may_collect))]
 fn route(rt: &(impl Abort + AllocGlobal), is_pulled: bool) -> Route
     ensures right { IsTrue (is_mode_route result) }
     ensures waits { IsTrue (may_collect result false) }
@@ -63,7 +65,7 @@ fn route(rt: &(impl Abort + AllocGlobal), is_pulled: bool) -> Route
     }
 }
 
-#[tactic(auto, unfolding(as4_values::specs::ModeRanges::is_short_service, as4_values::specs::ModeRanges::is_mode_agreement))]
+#[tactic(auto, unfolding(mode_values::specs::ModeRanges::is_short_service, mode_values::specs::ModeRanges::is_mode_agreement))]
 fn mode(rt: &(impl Abort + AllocGlobal), is_pulled: bool) -> Mode {
     Mode {
         name: name(rt),
@@ -82,7 +84,7 @@ fn mode(rt: &(impl Abort + AllocGlobal), is_pulled: bool) -> Mode {
     }
 }
 
-/// So many loads of three bytes with this media text.
+/// This many loads of three bytes with this media text.
 fn loads(rt: &(impl Abort + AllocGlobal), count: usize, media: &[u8]) -> Seq<Load> {
     let mut loads = Vec::new(rt.alloc());
     for _ in 0..count {
@@ -95,7 +97,7 @@ fn loads(rt: &(impl Abort + AllocGlobal), count: usize, media: &[u8]) -> Seq<Loa
     Seq::of(loads)
 }
 
-/// Whether so many loads with this media text are too large.
+/// Whether this many loads with this media text are too large.
 fn too_large(rt: &(impl Abort + AllocGlobal), count: usize, media: &[u8]) -> bool {
     let loads = loads(rt, count, media);
     let are_too_large = are_too_large(loads.items());
@@ -103,7 +105,7 @@ fn too_large(rt: &(impl Abort + AllocGlobal), count: usize, media: &[u8]) -> boo
     are_too_large
 }
 
-/// The first submission, by the mode and of the loads, at the moment 1 by the end's clock and 2 by the event's.
+/// The first submission with this mode and these loads, at the moment 1 by the endpoint's clock and 2 by the event's.
 fn made_of(alloc: Global, mode: &Mode, loads: &Seq<Load>) -> Option<Submission> {
     if are_too_large(loads.items()) {
         return None;
@@ -117,7 +119,7 @@ fn made_of(alloc: Global, mode: &Mode, loads: &Seq<Load>) -> Option<Submission> 
     submission(alloc, mode, intake, &None, loads).ok()
 }
 
-/// The same, of so many loads, pushed or pulled.
+/// The same with this many loads, pushed or pulled.
 fn made(rt: &(impl Abort + AllocGlobal), is_pulled: bool, count: usize) -> Submission {
     let mode = mode(rt, is_pulled);
     let loads = loads(rt, count, b"t/x");
@@ -127,7 +129,7 @@ fn made(rt: &(impl Abort + AllocGlobal), is_pulled: bool, count: usize) -> Submi
     made.expect(rt, "a submission")
 }
 
-/// The bytes of a text, and none where there is no text.
+/// The bytes of a text; empty if there is no text.
 fn bytes(text: &Option<Text>) -> &[u8] {
     match text {
         Some(text) => text.bytes(),
@@ -135,8 +137,8 @@ fn bytes(text: &Option<Text>) -> &[u8] {
     }
 }
 
-/// Whether it has the identifier, the moment and the stamp of the first submission, and is without a channel, a part
-/// and a payload.
+/// Whether it has the identifier, the moment and the stamp of the first submission, and has no channel, no part and no
+/// payload.
 fn told_of_a_push(made: &Submission) -> [bool; 6] {
     let header = &made.header;
     [
@@ -193,7 +195,7 @@ fn two_payloads_wait_in_the_channel(rt: HostRuntime) {
     assert_eq!(rt; told, (true, [true; 2]));
 }
 
-/// Whether a load whose media text has so many bytes is too large.
+/// Whether a load with a media text of this length is too large.
 fn long_is_too_large(rt: &(impl Abort + AllocGlobal), length: usize) -> bool {
     let mut media = Vec::from_slice(rt.alloc(), b"t/x").expect(rt, "memory");
     media.resize(length, b'x').expect(rt, "memory");
@@ -217,7 +219,7 @@ fn there_are_64_loads(rt: HostRuntime) {
     assert!(rt; too_large(&rt, 65, b""));
 }
 
-/// So many zeros, with no media text.
+/// This many zeros, without a media text.
 fn zeros(alloc: Global, length: usize) -> Option<Load> {
     Some(Load {
         media: Octets::of(Vec::new(alloc)),
@@ -225,7 +227,7 @@ fn zeros(alloc: Global, length: usize) -> Option<Load> {
     })
 }
 
-/// Whether two loads of so many bytes are too large.
+/// Whether two loads of these lengths are too large.
 fn are_too_long(alloc: Global, lengths: [usize; 2]) -> Option<bool> {
     match (zeros(alloc, lengths[0]), zeros(alloc, lengths[1])) {
         (Some(one), Some(other)) => {

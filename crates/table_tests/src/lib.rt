@@ -1,4 +1,4 @@
-//! Tests of `outbox`, `channels`, `inbox`, `end_tables`, `submissions`, by what they make public.
+//! Tests of the public interfaces of `outbox`, `channels`, `inbox`, `end_tables` and `submissions`.
 #![tactic(auto)]
 
 #[cfg(test)]

@@ -1,3 +1,4 @@
+//! The inbox: messages that were received, confirmed and kept.
 ghost use Rattle.std.specs.Prelude.{◌≡◌, IfSome, length};
 
 use as4_values::{MessageId, Octets, Payload, Seq, UserHeader};
@@ -5,12 +6,12 @@ use inbox::{Held, Inbox};
 use made_messages::{header, octets};
 use std::alloc::Global;
 
-/// The header of a message of this identifier.
+/// The header of a message with this identifier.
 fn header_of(alloc: Global, id: &[u8]) -> Option<UserHeader> {
     header(alloc, MessageId::read(alloc, id).ok()?)
 }
 
-/// The payload of no bytes with this Content-ID.
+/// An empty payload with this Content-ID.
 #[tactic(auto, unfolding(as4_values::specs::Payload::is_media_text))]
 fn payload(alloc: Global, name: &MessageId) -> Option<Payload> {
     Some(Payload {
@@ -20,7 +21,7 @@ fn payload(alloc: Global, name: &MessageId) -> Option<Payload> {
     })
 }
 
-/// One payload of no bytes.
+/// One empty payload.
 fn payloads(alloc: Global) -> Option<Seq<Payload>> {
     let name = MessageId::read(alloc, b"p").ok()?;
     let payload = payload(alloc, &name);
@@ -28,8 +29,8 @@ fn payloads(alloc: Global) -> Option<Seq<Payload>> {
     Some(Seq::of(vec![in alloc; payload?].ok()?))
 }
 
-/// An inbox to which this message came. (What was made is let go by name, which is proved sooner than where its scope
-/// ends.)
+/// An inbox that has received this message. (The values are dropped explicitly: that is proved faster than drops at the
+/// end of their scope.)
 #[tactic(auto, unfolding(exchange_model::specs::Questions::is_known))]
 fn filled(alloc: Global, header: UserHeader, payloads: Seq<Payload>) -> Option<Inbox>
     ensures { IfSome result (λ inbox. (length inbox.entries ≡ 1) × (inbox.confirmed ≡ 0)) }
@@ -62,7 +63,7 @@ fn one_message(alloc: Global) -> Option<Inbox>
     }
 }
 
-/// Whether a message of this identifier came.
+/// Whether a message with this identifier was received.
 fn holds(alloc: Global, inbox: &Inbox, id: &[u8]) -> Option<bool> {
     Some(inbox.holds(&MessageId::read(alloc, id).ok()?))
 }
@@ -79,8 +80,8 @@ fn is_the_message(held: Held<'_>) -> bool {
     }
 }
 
-/// How many messages came, how many were taken over, and whether the first can be read, is gone, and is the last; of an
-/// inbox of one message, and of the same once it is taken over.
+/// The numbers of messages received and confirmed, and whether the first can be read, is gone, and is the last; for an
+/// inbox of one message, before and after its confirmation.
 fn told(alloc: Global) -> Option<[(u64, u64, [bool; 3]); 2]> {
     let mut inbox = one_message(alloc)?;
     let before = told_of(&inbox);
@@ -103,7 +104,8 @@ fn a_message_is_read_until_it_is_taken_over(rt: HostRuntime) {
     assert_eq!(rt; told(rt.alloc()), Some(wanted));
 }
 
-/// Whether the identifiers `m1` and `m2` are held where `m1` came, and whether `m1` is once it is taken over.
+/// Whether the identifiers `m1` and `m2` are held after `m1` was received, and whether `m1` is held after its
+/// confirmation.
 fn held_ids(alloc: Global) -> Option<[Option<bool>; 3]> {
     let mut inbox = one_message(alloc)?;
     let one = holds(alloc, &inbox, b"m1");
@@ -122,7 +124,7 @@ fn an_identifier_is_held_for_good(rt: HostRuntime) {
     );
 }
 
-/// Adds a message of this identifier that came and was taken over, where all that came were.
+/// Adds a message with this identifier that was received and confirmed, if all received messages are confirmed.
 fn keep(inbox: &mut Inbox, header: UserHeader) -> Option<()> {
     if inbox.holds(&header.id) || inbox.confirmed() != inbox.len() {
         drop(header);
@@ -140,13 +142,13 @@ fn keep(inbox: &mut Inbox, header: UserHeader) -> Option<()> {
     }
 }
 
-/// Whether the header of this number is that of a message of this identifier.
+/// Whether the header of this number is that of a message with this identifier.
 fn is_headed(inbox: &Inbox, n: u64, id: &[u8]) -> bool {
     matches!(inbox.header(n), Some(header) if header.id.bytes() == id)
 }
 
-/// How many messages came and were taken over, whether they have their headers, and whether the first is gone and its
-/// identifier is held, of an inbox in which two messages are kept.
+/// The numbers of messages received and confirmed, whether they have their headers, whether the first is gone, and
+/// whether its identifier is held; for an inbox in which two messages are kept.
 fn told_of_kept(alloc: Global) -> Option<(u64, u64, [bool; 4], Option<bool>)> {
     let mut inbox = Inbox::new(alloc);
     let kept = keep_two(alloc, &mut inbox);
@@ -180,7 +182,7 @@ fn one_that_is_kept_was_taken_over(rt: HostRuntime) {
     );
 }
 
-/// Whether the header of a message can be read, before it is taken over and behind that.
+/// Whether the header of a message can be read, before and after its confirmation.
 fn told_of_header(alloc: Global) -> Option<[bool; 2]> {
     let mut inbox = one_message(alloc)?;
     let before = is_headed(&inbox, 0, b"m1");

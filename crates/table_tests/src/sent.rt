@@ -1,3 +1,4 @@
+//! The outbox: submissions, their tries and how they are settled.
 ghost use Rattle.std.specs.Prelude.{IsTrue};
 ghost use Rattle.exchange_model.specs.Questions.{is_pending, is_waiting, sent_at};
 ghost use Rattle.exchange_model.specs.Apply.{is_one};
@@ -9,7 +10,7 @@ use made_messages::{carried, submission};
 use outbox::Outbox;
 use std::alloc::Global;
 
-/// What was made is let go by name, which is proved sooner than where its scope ends.
+/// Values are dropped explicitly: that is proved faster than drops at the end of their scope.
 fn submit(outbox: &mut Outbox, submission: Submission) -> Option<()> {
     if outbox.len() != submission.number || outbox.number_of(&submission.header.id).is_some() {
         drop(submission);
@@ -27,7 +28,7 @@ fn submit(outbox: &mut Outbox, submission: Submission) -> Option<()> {
     }
 }
 
-/// The same of a submission as it was carried over.
+/// The same for a submission that is carried over.
 fn carry(outbox: &mut Outbox, carried: Carried) -> Option<()> {
     let (number, id) = (carried.submission.number, &carried.submission.header.id);
     if outbox.len() != number || outbox.number_of(id).is_some() {
@@ -46,7 +47,7 @@ fn carry(outbox: &mut Outbox, carried: Carried) -> Option<()> {
     }
 }
 
-/// An outbox of submissions that are sent again so often.
+/// An outbox of submissions with these numbers of retries.
 fn outbox_of(alloc: Global, retries: &[u32]) -> Option<Outbox> {
     let mut outbox = Outbox::new(alloc);
     match submit_all(alloc, &mut outbox, retries) {
@@ -65,7 +66,7 @@ fn submit_all(alloc: Global, outbox: &mut Outbox, retries: &[u32]) -> Option<()>
     Some(())
 }
 
-/// The number that is told of the identifier of this number and nonce.
+/// The number that the outbox returns for the identifier of this number and nonce.
 fn number_of(alloc: Global, outbox: &Outbox, number: u64, nonce: u128) -> Option<Option<u64>> {
     let id = MessageId::of_submission(alloc, number, nonce).ok()?;
     Some(outbox.number_of(&id))
@@ -125,7 +126,7 @@ fn refuse_by_code(alloc: Global, outbox: &mut Outbox, number: u64) -> bool {
     }
 }
 
-/// Whether this code is told of the submission.
+/// Whether the outbox returns this code for the submission.
 fn has_code(outbox: &Outbox, number: u64, code: &[u8]) -> bool {
     match outbox.refused_code(number) {
         Some(told) => told.bytes() == code,
@@ -133,7 +134,7 @@ fn has_code(outbox: &Outbox, number: u64, code: &[u8]) -> bool {
     }
 }
 
-/// What is done with an outbox, or asked of it.
+/// A change of an outbox, or a question to it.
 #[derive(Clone, Copy)]
 enum Step {
     Try { number: u64, moment: u64 },
@@ -144,14 +145,14 @@ enum Step {
     NumberOf { number: u64, nonce: u128 },
     Status(u64),
     Due(u64),
-    /// How often, and when last.
+    /// The number of tries, and the moment of the last.
     Tried(u64),
     Mark(u64),
     HasNoCode(u64),
     HasCode(u64),
 }
 
-/// What it says.
+/// The result of a step.
 #[derive(Clone, Copy, PartialEq, Eq)]
 enum Said {
     Done,
@@ -205,7 +206,7 @@ fn answer(alloc: Global, outbox: &mut Outbox, step: Step) -> Option<Said> {
     })
 }
 
-/// How many rows, from the first on, say what they should.
+/// The number of leading rows with the right result.
 fn right_of(alloc: Global, outbox: &mut Outbox, rows: &[(Step, Said)]) -> usize {
     for (at, (step, wanted)) in rows.iter().enumerate() {
         if answer(alloc, outbox, *step) != Some(*wanted) {
@@ -215,7 +216,7 @@ fn right_of(alloc: Global, outbox: &mut Outbox, rows: &[(Step, Said)]) -> usize 
     rows.len()
 }
 
-/// The same, at a new outbox of submissions that are sent again so often.
+/// The same for a new outbox of submissions with these numbers of retries.
 fn right(alloc: Global, retries: &[u32], rows: &[(Step, Said)]) -> Option<usize> {
     let mut outbox = outbox_of(alloc, retries)?;
     let count = right_of(alloc, &mut outbox, rows);
@@ -295,7 +296,7 @@ fn tries_receipts_and_errors_are_kept(rt: HostRuntime) {
     assert_eq!(rt; right(rt.alloc(), &[0, 0], &MARKED), Some(MARKED.len()));
 }
 
-/// A submission without retries that is tried.
+/// A submission without retries, after its try.
 const SPENT: [(Step, Said); 6] = [
     (
         Step::Try {
@@ -353,7 +354,7 @@ fn one_with_tries_left_or_a_receipt_is_not_given_up(rt: HostRuntime) {
     );
 }
 
-/// Carries over a submission that is sent again three times.
+/// Carries over a submission with three retries.
 fn carry_one(
     alloc: Global,
     outbox: &mut Outbox,
@@ -371,7 +372,7 @@ fn carry_one(
     }
 }
 
-/// Carries over one that is pending, one that is receipted, one that was given up and one that was refused.
+/// Carries over a pending, a receipted, an expired and a refused submission.
 fn carry_all(alloc: Global, outbox: &mut Outbox) -> Option<()> {
     carry_one(alloc, outbox, 0, 2, 5000, Mark::Pending)?;
     carry_one(alloc, outbox, 1, 1, 7000, Mark::Receipted)?;
@@ -380,7 +381,7 @@ fn carry_all(alloc: Global, outbox: &mut Outbox) -> Option<()> {
     carry_one(alloc, outbox, 3, 0, 0, Mark::Refused { code })
 }
 
-/// What an outbox tells of submissions that were carried over.
+/// The results of an outbox for submissions that were carried over.
 const CARRIED: [(Step, Said); 13] = [
     (Step::Len, Said::Count(4)),
     (Step::Status(0), TRIED_TWICE),

@@ -1,3 +1,4 @@
+//! The tables of an endpoint, over effects.
 use as4_effects::{Effect, Mark, Queue, Tick};
 use as4_values::MessageId;
 use end_tables::{EndTables, Held, Totals};
@@ -12,7 +13,7 @@ fn tick(tables: &mut EndTables, moment: u64) -> Option<()> {
     act(tables, Effect::Ticked(Tick { moment }))
 }
 
-/// The tables with a submission that is sent again so often, which was tried at 1,000 ms.
+/// The tables with a submission that has this number of retries, and was tried at 1,000 ms.
 fn tried_once(alloc: Global, retries: u32) -> Option<EndTables> {
     let mut tables = EndTables::new(alloc);
     match try_once(alloc, &mut tables, retries) {
@@ -31,13 +32,13 @@ fn try_once(alloc: Global, tables: &mut EndTables, retries: u32) -> Option<()> {
     act(tables, Effect::Tried { number: 0 })
 }
 
-/// The head of those that are pushed at this moment.
+/// The head of the push queue at this moment.
 fn head_at(tables: &mut EndTables, moment: u64) -> Option<Option<u64>> {
     tick(tables, moment)?;
     Some(tables.head(&Queue::Push))
 }
 
-/// How many rows, from the first on, name the head of those that are pushed at their moment.
+/// The number of leading rows that name the head of the push queue at their moment.
 fn right_of(tables: &mut EndTables, rows: &[(u64, Option<u64>)]) -> usize {
     for (at, (moment, head)) in rows.iter().enumerate() {
         if head_at(tables, *moment) != Some(*head) {
@@ -47,7 +48,7 @@ fn right_of(tables: &mut EndTables, rows: &[(u64, Option<u64>)]) -> usize {
     rows.len()
 }
 
-/// The same, where one was tried that is sent again once.
+/// The same after one try of a submission with one retry.
 fn right(alloc: Global, rows: &[(u64, Option<u64>)]) -> Option<usize> {
     let mut tables = tried_once(alloc, 1)?;
     let count = right_of(&mut tables, rows);
@@ -61,7 +62,7 @@ fn a_try_moves_a_submission_on(rt: HostRuntime) {
     assert_eq!(rt; right(rt.alloc(), &rows), Some(rows.len()));
 }
 
-/// The head and the totals once the receipt came of one that was tried.
+/// The head and the totals after the receipt of a submission that was tried.
 fn receipted(alloc: Global) -> Option<(Option<u64>, Totals)> {
     let mut tables = tried_once(alloc, 1)?;
     let told = receipt(&mut tables);
@@ -87,8 +88,8 @@ fn a_receipt_takes_a_submission_out_of_its_queue(rt: HostRuntime) {
     assert_eq!(rt; receipted(rt.alloc()), Some((None, totals)));
 }
 
-/// How many are spent at two moments, and the head and how the first stands after a tick, where one was tried that isn't
-/// sent again.
+/// The numbers of expired submissions at two moments, and the head and the standing of the first after a tick, for a
+/// submission without retries that was tried.
 fn given_up(alloc: Global) -> Option<(u64, u64, Option<u64>, Option<Standing>)> {
     let mut tables = tried_once(alloc, 0)?;
     let (early, late) = (tables.spent(60_999), tables.spent(61_000));
@@ -104,7 +105,7 @@ fn a_tick_gives_up_what_is_spent(rt: HostRuntime) {
     assert_eq!(rt; given_up(rt.alloc()), Some(wanted));
 }
 
-/// A message comes and is taken over.
+/// Delivers a message and confirms it.
 fn take_one(alloc: Global, tables: &mut EndTables) -> Option<()> {
     act(tables, Effect::Delivered(delivery(alloc)?))?;
     act(tables, Effect::Confirmed { upto: 0 })
@@ -120,7 +121,7 @@ fn holds_it(alloc: Global, tables: &EndTables) -> Option<bool> {
     Some(tables.holds(&id))
 }
 
-/// Whether a message came and was taken over, is gone, and its identifier is held.
+/// Whether a message was delivered and confirmed, is gone, and its identifier is held.
 fn taken_over(alloc: Global) -> (Option<()>, bool, Option<bool>) {
     let mut tables = EndTables::new(alloc);
     let taken = take_one(alloc, &mut tables);
@@ -135,7 +136,7 @@ fn a_message_that_came_is_held_for_good(rt: HostRuntime) {
     assert_eq!(rt; taken_over(rt.alloc()), (Some(()), true, Some(true)));
 }
 
-/// A submission is carried over that is sent again once, after so many tries.
+/// Carries over a submission with one retry, after this number of tries.
 fn carry(
     alloc: Global,
     tables: &mut EndTables,
@@ -156,15 +157,15 @@ fn carry(
     }
 }
 
-/// One that was tried at 5,000 ms, one that is spent and one that was given up are carried over.
+/// Carries over a submission tried at 5,000 ms, one that is spent, and one that expired.
 fn carry_three(alloc: Global, tables: &mut EndTables) -> Option<()> {
     carry(alloc, tables, 0, 1, 5000, Mark::Pending)?;
     carry(alloc, tables, 1, 2, 5000, Mark::Pending)?;
     carry(alloc, tables, 2, 2, 5000, Mark::Failed)
 }
 
-/// How often a submission was tried, when last, and the totals; and the head at three moments and how the second stands
-/// at the last of them.
+/// The number of tries of a submission, the last moment, and the totals; the head at three moments, and the standing of
+/// the second at the last of them.
 fn told_of_carried(
     alloc: Global,
     tables: &mut EndTables,
@@ -206,8 +207,8 @@ fn mark_of(marked: Marked) -> Mark {
     }
 }
 
-/// Whether the clock was set before, the number of a submission that is sent again once, how often and when last it was
-/// sent, and how it stands; and whether it can be carried over to a new end.
+/// Whether the clock was set before; the number of a submission with one retry, the number of its tries, the last
+/// moment and its standing; and whether it can be carried over to a new endpoint.
 type Carrying = (bool, u64, u32, u64, Marked, bool);
 
 const CARRYINGS: [Carrying; 9] = [
@@ -215,7 +216,7 @@ const CARRYINGS: [Carrying; 9] = [
     (false, 0, 2, 1000, Marked::Pending, true),
     (false, 0, 0, 0, Marked::Receipted, true),
     (false, 0, 2, 1000, Marked::Failed, true),
-    // It was sent too often, was given up too early, or was sent at a moment and never.
+    // It was tried too often, expired too early, or has a last moment without a try.
     (false, 0, 3, 1000, Marked::Pending, false),
     (false, 0, 1, 1000, Marked::Failed, false),
     (false, 0, 0, 1000, Marked::Pending, false),
@@ -257,7 +258,7 @@ fn keep(alloc: Global, tables: &mut EndTables, number: u64) -> Option<()> {
     act(tables, Effect::Kept(kept(alloc, number)?))
 }
 
-/// Whether a header is kept at a new end, is so again, and is gone with its identifier held.
+/// Whether a header can be kept at a new endpoint, can be kept again, and is gone with its identifier held.
 fn kept_at(alloc: Global) -> [bool; 4] {
     let mut tables = EndTables::new(alloc);
     let first = keep(alloc, &mut tables, 0).is_some();
@@ -273,7 +274,7 @@ fn one_that_is_kept_is_gone_and_held(rt: HostRuntime) {
     assert_eq!(rt; kept_at(rt.alloc()), [true, false, true, true]);
 }
 
-/// Whether a header is kept behind a message that came, and behind the same once it is taken over.
+/// Whether a header can be kept after a message was delivered, before and after its confirmation.
 fn kept_behind(alloc: Global) -> Option<[bool; 2]> {
     let mut tables = EndTables::new(alloc);
     let came = comes(alloc, &mut tables);
@@ -295,7 +296,7 @@ fn one_is_kept_behind_those_that_were_taken_over(rt: HostRuntime) {
     assert_eq!(rt; kept_behind(rt.alloc()), Some([false, true]));
 }
 
-/// Two submissions wait in the channel `c`, and one is pushed. The first was tried.
+/// Submits two messages to the channel `c`, and one to be pushed. The first is tried.
 fn wait_in_two(alloc: Global, tables: &mut EndTables) -> Option<()> {
     act(tables, Effect::Submitted(pulled(alloc, 0, 1)?))?;
     act(tables, Effect::Submitted(pulled(alloc, 1, 1)?))?;
@@ -304,7 +305,7 @@ fn wait_in_two(alloc: Global, tables: &mut EndTables) -> Option<()> {
     act(tables, Effect::Tried { number: 0 })
 }
 
-/// The head behind the receipt of this submission, where it is pending.
+/// The head after the receipt of this submission, if it is pending.
 fn head_behind(tables: &EndTables, queue: &Queue, number: u64) -> Option<u64> {
     let receipt = Effect::Receipted { number };
     if tables.fits(&receipt) {
@@ -315,8 +316,8 @@ fn head_behind(tables: &EndTables, queue: &Queue, number: u64) -> Option<u64> {
     None
 }
 
-/// The heads of the channel behind the receipts of the two that wait there and of the one that is pushed, and the head
-/// of those that are pushed behind its own receipt.
+/// The heads of the channel after the receipts of the two that wait there and of the one to be pushed, and the head of
+/// the push queue after its own receipt.
 fn heads_behind(tables: &EndTables, channel: &Queue) -> [Option<u64>; 4] {
     [
         head_behind(tables, channel, 0),
@@ -326,7 +327,7 @@ fn heads_behind(tables: &EndTables, channel: &Queue) -> [Option<u64>; 4] {
     ]
 }
 
-/// The same, once the first was tried, and where it is due again.
+/// The same after a try of the first, and again once it is due.
 fn heads_behind_receipts(alloc: Global) -> Option<[[Option<u64>; 4]; 2]> {
     let channel = Queue::Channel(text(alloc, b"c")?);
     let mut tables = EndTables::new(alloc);

@@ -1,3 +1,4 @@
+//! The queues of waiting submissions.
 ghost use Rattle.std.specs.Prelude.{[], ◌≡◌, ◌<◌, None, OnOk};
 ghost use Rattle.channels.specs.Queues.{inserted, waiting_at};
 
@@ -17,7 +18,7 @@ fn add(channels: &mut Channels, queue: &Queue, due: u64, number: u64) -> Result<
     Ok(())
 }
 
-/// The heads at three moments of three that are pushed, and the head once it is taken out.
+/// The heads at three moments of three in the push queue, and the head after one is removed.
 #[tactic(auto, unfolding(channels::specs::Queues::inserted))]
 fn heads_of_one(channels: &mut Channels) -> Result<[Option<u64>; 4], NoMemory>
     requires { channels.old.waiting ≡ [] }
@@ -40,7 +41,7 @@ fn the_head_is_due_first_and_has_the_least_number(rt: HostRuntime) {
     assert_eq!(rt; heads, Some([None, Some(5), Some(5), Some(7)]));
 }
 
-/// The heads of two channels and of those that are pushed, where one waits in the first and one is pushed.
+/// The heads of two channels and of the push queue, with one entry in the first channel and one in the push queue.
 #[tactic(auto, unfolding(channels::specs::Queues::inserted))]
 fn heads_of_each(
     channels: &mut Channels,
@@ -58,7 +59,7 @@ fn heads_of_each(
     ])
 }
 
-/// The same, of two channels of these names.
+/// The same for two channels with these names.
 fn heads_in_new(alloc: Global, orders: &[u8], bills: &[u8]) -> Option<[Option<u64>; 3]> {
     match (Text::read(alloc, orders), Text::read(alloc, bills)) {
         (Ok(orders), Ok(bills)) => {
@@ -84,8 +85,8 @@ fn queues_do_not_mix(rt: HostRuntime) {
     assert_eq!(rt; heads, Some([Some(1), None, Some(2)]));
 }
 
-/// The heads at one moment of two that are pushed and one that is pulled: where the first waits no more, where the
-/// second doesn't, where the one that is pulled doesn't, and where one doesn't that there isn't.
+/// The heads at one moment, with two entries in the push queue and one in a channel: without the first, without the
+/// second, without the pulled one, and without a number that isn't there.
 #[tactic(auto, unfolding(channels::specs::Queues::inserted))]
 fn heads_without(channels: &mut Channels, bills: &Queue) -> Result<[Option<u64>; 5], NoMemory>
     requires { channels.old.waiting ≡ [] }
@@ -102,7 +103,7 @@ fn heads_without(channels: &mut Channels, bills: &Queue) -> Result<[Option<u64>;
     ])
 }
 
-/// The same, of a channel of this name.
+/// The same for a channel with this name.
 fn heads_without_in_new(alloc: Global, bills: &[u8]) -> Option<[Option<u64>; 5]> {
     let bills = Queue::Channel(Text::read(alloc, bills).ok()?);
     let mut channels = Channels::new(alloc);

@@ -1,5 +1,8 @@
-use as4_effects::{Carried, Effect, Mark, Queue, Tick, is_id_of, is_media_text, is_route, pairs};
-use as4_values::{Code, MessageId, Octets, PartInfo, Payload, PlainData, Route, Seq, Text};
+//! Values of effects: pairs of part infos and payloads, identifiers, routes, media texts, and copies.
+use as4_effects::{Carried, Effect, Mark, Queue, Tick, is_id_of, is_route};
+use as4_values::{
+    Code, MessageId, Octets, PartInfo, Payload, PlainData, Route, Seq, Text, is_media_text, pairs,
+};
 use made_messages::{carried, delivery, kept, octets, submission};
 use std::process::Abort;
 
@@ -11,7 +14,7 @@ fn message_id(rt: &(impl Abort + AllocGlobal), id: &[u8]) -> MessageId {
     MessageId::read(rt.alloc(), id).expect(rt, "an identifier")
 }
 
-/// A part info with this reference, and without one where it is `-`.
+/// A part info with this reference, or without one if it is `-`.
 fn part(rt: &(impl Abort + AllocGlobal), href: &[u8]) -> PartInfo {
     let href = if href == b"-".as_slice() {
         None
@@ -34,7 +37,7 @@ fn payload(rt: &(impl Abort + AllocGlobal), cid: &[u8]) -> Payload {
     }
 }
 
-/// A part info for each of the references.
+/// A part info for each reference.
 fn parts_of(rt: &(impl Abort + AllocGlobal), hrefs: &str) -> Vec<PartInfo> {
     let mut parts = Vec::new(rt.alloc());
     for href in hrefs.split_whitespace() {
@@ -43,7 +46,7 @@ fn parts_of(rt: &(impl Abort + AllocGlobal), hrefs: &str) -> Vec<PartInfo> {
     parts
 }
 
-/// A payload for each of the Content-IDs.
+/// A payload for each Content-ID.
 fn payloads_of(rt: &(impl Abort + AllocGlobal), cids: &str) -> Vec<Payload> {
     let mut payloads = Vec::new(rt.alloc());
     for cid in cids.split_whitespace() {
@@ -54,7 +57,7 @@ fn payloads_of(rt: &(impl Abort + AllocGlobal), cids: &str) -> Vec<Payload> {
     payloads
 }
 
-/// Whether part infos of these references and payloads of these Content-IDs pair.
+/// Whether part infos with these references and payloads with these Content-IDs pair.
 fn are_paired(rt: &(impl Abort + AllocGlobal), hrefs: &str, cids: &str) -> bool {
     let (parts, payloads) = (parts_of(rt, hrefs), payloads_of(rt, cids));
     let paired = pairs(rt.alloc(), parts.as_slice(), payloads.as_slice());
@@ -86,7 +89,7 @@ const REFERENCES: [(&str, &str, bool); 19] = [
     ("#a", "a", false),
 ];
 
-/// The first row that pairs though it shouldn't, or doesn't though it should.
+/// The first row with another result.
 fn first_other_pairing(rt: &(impl Abort + AllocGlobal)) -> Option<usize> {
     for (row, (hrefs, cids, wanted)) in REFERENCES.iter().enumerate() {
         if are_paired(rt, hrefs, cids) != *wanted {
@@ -123,7 +126,7 @@ const IDENTIFIERS: [(u64, &[u8], bool); 10] = [
     (7, b"7", false),
 ];
 
-/// The first row that is told otherwise.
+/// The first row with another result.
 fn first_other_id(rt: &(impl Abort + AllocGlobal)) -> Option<usize> {
     for (row, (number, id, wanted)) in IDENTIFIERS.iter().enumerate() {
         if is_of(rt, *number, id) != *wanted {
@@ -138,7 +141,7 @@ fn identifiers_of_submissions_are_told_from_others(rt: HostRuntime) {
     assert_eq!(rt; first_other_id(&rt), None);
 }
 
-/// Whether both routes have an address that is one.
+/// Whether the address is valid, in a push and in a pull.
 fn are_routes(rt: &(impl Abort + AllocGlobal), address: &[u8]) -> (bool, bool) {
     let push = Route::Push {
         address: text(rt, address),
@@ -153,14 +156,14 @@ fn are_routes(rt: &(impl Abort + AllocGlobal), address: &[u8]) -> (bool, bool) {
     told
 }
 
-/// Addresses, and whether they are a route's.
+/// Addresses, and whether they are valid in a route.
 const ADDRESSES: [(&[u8], bool); 3] = [
     (b"http://host:8080/in", true),
     (b"https://host/", false),
     (b"http://", false),
 ];
 
-/// The first row that is told otherwise of one of the routes.
+/// The first row with another result for one of the routes.
 fn first_other_route(rt: &(impl Abort + AllocGlobal)) -> Option<usize> {
     for (row, (address, wanted)) in ADDRESSES.iter().enumerate() {
         if are_routes(rt, address) != (*wanted, *wanted) {
@@ -175,7 +178,7 @@ fn the_address_of_a_route_is_one(rt: HostRuntime) {
     assert_eq!(rt; first_other_route(&rt), None);
 }
 
-/// Bytes, and whether they are one line without blanks at its ends.
+/// Bytes, and whether they are a single line without blanks at its ends.
 const MEDIA_TEXTS: [(&[u8], bool); 7] = [
     (b"", true),
     (b"text/xml; charset=utf-8", true),
@@ -186,7 +189,7 @@ const MEDIA_TEXTS: [(&[u8], bool); 7] = [
     (b"text/xml\r", false),
 ];
 
-/// The first row that is told otherwise.
+/// The first row with another result.
 fn first_other_media() -> Option<usize> {
     for (row, (text, wanted)) in MEDIA_TEXTS.iter().enumerate() {
         if is_media_text(text) != *wanted {
@@ -201,7 +204,7 @@ fn media_texts_are_one_line(rt: HostRuntime) {
     assert_eq!(rt; first_other_media(), None);
 }
 
-/// Whether each copy equals its source, and no value another.
+/// Whether each copy equals its source, and no two values are equal.
 fn are_told_apart<T: PlainData + Drop>(rt: &(impl Abort + AllocGlobal), values: &[T]) -> bool {
     for (at, value) in values.iter().enumerate() {
         let copy = value.try_clone(rt.alloc()).expect(rt, "memory");

@@ -1,4 +1,4 @@
-//! Tests of `as4_values`, `as4_effects`, `pmodes`, by what they make public.
+//! Tests of the public interfaces of `as4_values`, `as4_effects` and `pmodes`.
 #![tactic(auto)]
 
 #[cfg(test)]

@@ -1,7 +1,8 @@
+//! How P-Modes are read from a file and found for messages.
 use as4_values::{
-    Agreement, MessageId, Mode, PlainData, Seq, Service, Side, StampText, Text, UserHeader,
-    stamp_text,
+    Agreement, MessageId, PlainData, Seq, Service, Side, StampText, Text, UserHeader, stamp_text,
 };
+use mode_values::Mode;
 use pmodes::{Key, ModeRefusal, Modes};
 use std::alloc::{AllocError, Global};
 
@@ -10,7 +11,7 @@ mod wrong_parts;
 mod wrong_routes;
 mod wrong_sides;
 
-/// The lines of a right table, each with its key.
+/// The lines of a valid table, each with its key.
 const LINES: [(&str, &str); 8] = [
     ("name", "name = \"m\"\n"),
     (
@@ -25,7 +26,7 @@ const LINES: [(&str, &str); 8] = [
     ("period", "period = 3000\n"),
 ];
 
-/// What a file is said to be.
+/// The result of reading a file.
 #[derive(Clone, Copy, Debug, PartialEq, Eq)]
 enum Said {
     Modes(u64),
@@ -70,7 +71,7 @@ fn outcome(read: Result<Modes, ModeRefusal>) -> Said {
     }
 }
 
-/// The lines of the right table without that of one key.
+/// The lines of the valid table except that of one key.
 fn lines_without(alloc: Global, without: &str) -> Result<String, AllocError> {
     let mut lines = String::new(alloc);
     for (key, line) in &LINES {
@@ -81,13 +82,13 @@ fn lines_without(alloc: Global, without: &str) -> Result<String, AllocError> {
     Ok(lines)
 }
 
-/// The right table without one key, and with a line of its own.
+/// The valid table without one key, and with a further line.
 fn table(alloc: Global, without: &str, line: &str) -> Result<String, AllocError> {
     let lines = lines_without(alloc, without)?;
     format!(in alloc; "[[mode]]\n{lines}{line}\n")
 }
 
-/// What is said of such a table.
+/// The result of reading such a table.
 fn read_table(alloc: Global, without: &str, line: &str) -> Said {
     match table(alloc, without, line) {
         Ok(text) => outcome(Modes::read(alloc, text.as_bytes())),
@@ -95,10 +96,10 @@ fn read_table(alloc: Global, without: &str, line: &str) -> Said {
     }
 }
 
-/// The key that a table is without, its own line, and what is said of it.
+/// The key that a table omits, its further line, and the result.
 type Row = (&'static str, &'static str, Said);
 
-/// The first row of whose table something else is said.
+/// The first row whose table gives another result.
 fn first_other(alloc: Global, rows: &[Row]) -> Option<usize> {
     for (row, (without, line, said)) in rows.iter().enumerate() {
         if read_table(alloc, without, line) != *said {
@@ -108,7 +109,7 @@ fn first_other(alloc: Global, rows: &[Row]) -> Option<usize> {
     None
 }
 
-/// The first line that in place of the one of this name is not refused for the key's range.
+/// The first line that isn't refused for the key's range when it replaces the one of this name.
 fn first_in_range(alloc: Global, name: &str, key: Key, lines: &[&str]) -> Option<usize> {
     for (row, line) in lines.iter().enumerate() {
         if read_table(alloc, name, line) != Said::Range(0, key) {
@@ -118,14 +119,14 @@ fn first_in_range(alloc: Global, name: &str, key: Key, lines: &[&str]) -> Option
     None
 }
 
-/// The right table with this in place of its name, and behind it one without one key and with a line of its own.
+/// The valid table with another name, followed by one that omits a key and has a further line.
 fn two_tables(alloc: Global, name: &str, without: &str, line: &str) -> Result<String, AllocError> {
     let first = table(alloc, "name", name)?;
     let second = table(alloc, without, line)?;
     format!(in alloc; "{first}{second}")
 }
 
-/// What is said of such a table behind the right one of the name `n`.
+/// The result of reading such a table after the valid one of the name `n`.
 fn read_two(alloc: Global, without: &str, line: &str) -> Said {
     match two_tables(alloc, "name = \"n\"", without, line) {
         Ok(text) => outcome(Modes::read(alloc, text.as_bytes())),
@@ -162,7 +163,7 @@ fn right_tables_are_read(rt: HostRuntime) {
     assert_eq!(rt; other, None);
 }
 
-/// What is said of an action with blanks before so many letters, and this behind them.
+/// The result for an action with blanks before this many letters, followed by `back`.
 fn read_action(alloc: Global, count: usize, back: &str) -> Option<Said> {
     let letters = "x".repeat(alloc, count).ok()?;
     let line = format!(in alloc; "action = \" \\t{letters}{back}\"").ok()?;
@@ -189,7 +190,7 @@ fn sides_of(alloc: Global, mode: &Mode) -> Option<(Side, Side)> {
     }
 }
 
-/// What the mode is for.
+/// The agreement, the service and the action of the mode.
 fn business_of(alloc: Global, mode: &Mode) -> Option<(Option<Agreement>, Service, Text)> {
     match (
         mode.agreement.try_clone(alloc),
@@ -213,7 +214,7 @@ fn stamp_and_id(alloc: Global) -> Option<(StampText, MessageId)> {
     Some((stamp, id))
 }
 
-/// A header that the mode takes.
+/// A header that fits the mode.
 fn header(alloc: Global, mode: &Mode) -> Option<UserHeader> {
     match (
         stamp_and_id(alloc),
@@ -245,7 +246,7 @@ fn header(alloc: Global, mode: &Mode) -> Option<UserHeader> {
     }
 }
 
-/// A push `n` and a pull `m` of another action.
+/// A push `n` and a pull `m` with another action.
 fn push_and_pull(alloc: Global) -> Option<Modes> {
     let name = "name = \"n\"\nagreement = \"g\"";
     let pull = "pull = \"c\"\naddress = \"http://h\"";
@@ -261,12 +262,12 @@ fn is_named(found: Option<&Mode>, name: &[u8]) -> bool {
     }
 }
 
-/// Whether the push stands first, the pull behind it, and nothing behind both.
+/// Whether the push comes first, then the pull, and nothing after both.
 fn are_in_places(modes: &Modes) -> bool {
     is_named(modes.get(0), b"n") && is_named(modes.get(1), b"m") && modes.get(2).is_none()
 }
 
-/// Whether the push is found by its name, and by no channel of it.
+/// Whether the push is found by its name, and by no channel.
 fn is_found_by_name(alloc: Global, modes: &Modes) -> bool {
     let Ok(name) = Text::read(alloc, b"n") else {
         return false;
@@ -276,7 +277,7 @@ fn is_found_by_name(alloc: Global, modes: &Modes) -> bool {
     is_found
 }
 
-/// Whether the pull is found by its channel, and by no name of it.
+/// Whether the pull is found by its channel, and by no name.
 fn is_found_by_channel(alloc: Global, modes: &Modes) -> bool {
     let Ok(channel) = Text::read(alloc, b"c") else {
         return false;
@@ -286,7 +287,7 @@ fn is_found_by_channel(alloc: Global, modes: &Modes) -> bool {
     is_found
 }
 
-/// Whether the modes are found by place, by name and by channel.
+/// Whether the modes are found by index, by name and by channel.
 fn are_found(alloc: Global) -> Option<[bool; 3]> {
     let modes = push_and_pull(alloc)?;
     let by_name = is_found_by_name(alloc, &modes);
@@ -301,7 +302,7 @@ fn modes_are_found_by_place_name_and_channel(rt: HostRuntime) {
     assert_eq!(rt; are_found(rt.alloc()), Some([true, true, true]));
 }
 
-/// Whether a message with the terms of the mode at this place finds the mode of this name.
+/// Whether a message with the terms of the mode at this index finds the mode of this name.
 fn finds(alloc: Global, modes: &Modes, place: u64, name: &[u8]) -> Option<bool> {
     let header = header(alloc, modes.get(place)?)?;
     let is_found = is_named(modes.of(&header), name);
@@ -309,7 +310,7 @@ fn finds(alloc: Global, modes: &Modes, place: u64, name: &[u8]) -> Option<bool> 
     Some(is_found)
 }
 
-/// Whether a message finds the push by its terms, and one the pull.
+/// Whether a message with its terms finds the push, and one the pull.
 fn finds_both(alloc: Global) -> Option<(bool, bool)> {
     let modes = push_and_pull(alloc)?;
     let (push, pull) = (finds(alloc, &modes, 0, b"n"), finds(alloc, &modes, 1, b"m"));
@@ -344,12 +345,12 @@ fn two_pushes(alloc: Global) -> Option<Vec<Mode>> {
     vec![in alloc; one, two].ok()
 }
 
-/// What is said of an empty list.
+/// The result for an empty list.
 fn said_of_none(alloc: Global) -> Said {
     outcome(Modes::of_list(alloc, Seq::of(Vec::new(alloc))))
 }
 
-/// What is said of the list of two.
+/// The result for the list of two.
 fn said_of_two(alloc: Global) -> Option<Said> {
     let list = two_pushes(alloc)?;
     Some(outcome(Modes::of_list(alloc, Seq::of(list))))

@@ -1,3 +1,4 @@
+//! Texts, words, stamps and identifiers, and copies of values.
 ghost use Rattle.std.specs.Prelude.{◌≡◌, IfSome};
 
 mod headers;
@@ -8,7 +9,7 @@ mod words;
 use as4_values::{Load, MessageId, NoMemory, Octets, Payload, PlainData};
 use std::alloc::{AllocError, Global};
 
-/// These bytes, then so many letters, and then those bytes.
+/// These bytes, then this many letters, and then those bytes.
 fn letters(alloc: Global, front: &[u8], count: usize, back: &[u8]) -> Result<Vec<u8>, AllocError> {
     let letters = vec![in alloc; b'a'; count]?;
     [front, letters.as_slice(), back].concat(alloc)

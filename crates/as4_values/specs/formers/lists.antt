@@ -1,1 +1,2 @@
+-- The formers of the types of `lists`.
 pub mod Seq

@@ -1,11 +1,11 @@
-//! Messages that were made from one that another end sent.
+//! Messages that are made from one of the other endpoint.
 
 use super::rig::Rig;
 use super::steps::Said;
 use as4_values::{Message, PlainData, Text, UserHeader};
 
 impl Rig {
-    /// The message comes that the other end sent last, with another action.
+    /// Receives the last message of the other endpoint, with another action.
     pub fn hears_of_another_action(&mut self, sender: &Rig) -> Option<Said> {
         let action = Text::read(self.alloc, b"order").ok()?;
         match sender.sent.as_ref()?.try_clone(self.alloc) {

@@ -1,4 +1,4 @@
-//! An end whose journal is filled. The payloads of a message go once it is taken over, so that memory stays low.
+//! An endpoint whose journal is filled. Confirmed messages lose their payloads, which limits the memory needed.
 
 use super::rig::{Rig, may_come};
 use super::steps::Said;
@@ -6,19 +6,19 @@ use as4_values::{Message, MessageId, Octets, Payload, PlainData, Seq, UserHeader
 use msh_core::{Event, What};
 use std::alloc::Global;
 
-/// How many large messages there are, and how many bytes the payload of each has: its record has 292 more, and 20 are
-/// of its confirmation.
+/// The number of large messages, and the size of the payload of each. A record has 292 more bytes, and its confirmation
+/// 20.
 const LARGE_COUNT: u64 = 136;
 
 const LARGE: usize = 31_457_280;
 
-/// How many bytes the payload of the last message has. The journal had 381 before the large ones:
+/// The size of the last message's payload. The journal had 381 bytes before the large ones:
 /// 381 + 136 * (31,457,280 + 292 + 20) + 16,734,091 + 292 = 4,294,967,276.
 const LAST: usize = 16_734_091;
 
 impl Rig {
-    /// Messages come until twenty bytes are left in the journal, and all but the last are taken over. No other end makes
-    /// these effects again: they are too large.
+    /// Receives messages until twenty bytes are left in the journal, and confirms all except the last. No follower
+    /// replays these effects: they are too large.
     pub fn fills(&mut self, sender: &Rig) -> Option<Said> {
         drop(self.follower.take());
         let sent = sender.sent.as_ref()?;
@@ -32,7 +32,7 @@ impl Rig {
         Some(Said::Count(self.core.size()))
     }
 
-    /// The message comes under this number and is taken over. It is given back.
+    /// Receives the message under this number and confirms it. Returns the message.
     #[tactic(auto, unfolding(exchange_model::specs::Coming::may_come))]
     fn takes_over(&mut self, message: Message, n: u64) -> Option<Message> {
         let message = self.hears_under(message, n)?;
@@ -45,7 +45,7 @@ impl Rig {
         }
     }
 
-    /// The message comes under this number, with an identifier of its own, and is given back.
+    /// Receives the message under this number, with its own identifier, and returns it.
     fn hears_under(&mut self, message: Message, n: u64) -> Option<Message> {
         let message = under(self.alloc, message, n)?;
         if !may_come(self.alloc, &message) {
@@ -90,7 +90,7 @@ fn named(header: UserHeader, id: MessageId) -> UserHeader {
     other
 }
 
-/// The message with so many bytes in its payload.
+/// The message with a payload of this length.
 fn large(alloc: Global, message: &Message, len: usize) -> Option<Message> {
     let Message::User { header, payloads } = message else {
         return None;
@@ -106,7 +106,7 @@ fn large(alloc: Global, message: &Message, len: usize) -> Option<Message> {
     }
 }
 
-/// The payload with so many bytes.
+/// The payload, with this length.
 fn payloads_of(alloc: Global, payload: &Payload, len: usize) -> Option<Seq<Payload>> {
     match payload_of(alloc, payload, len) {
         Some(payload) => Some(Seq::of(vec![in alloc; payload].ok()?)),

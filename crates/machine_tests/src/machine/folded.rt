@@ -1,4 +1,4 @@
-//! An end is written again: a new core that makes the effects of its fold again stands where it does.
+//! Compaction: a new core that replays the effects of the fold reaches the same state.
 
 use super::replayed::replays;
 use super::rig::new_core;
@@ -7,7 +7,7 @@ use as4_values::Seq;
 use msh_core::{Core, MAX_JOURNAL};
 use std::alloc::Global;
 
-/// Whether the fold gives the end back, in a journal of the folded size.
+/// Whether the fold restores the endpoint, in a journal of the compacted size.
 pub fn is_given_back(alloc: Global, core: &Core) -> bool {
     match new_core(alloc) {
         Some(mut other) => {
@@ -22,7 +22,7 @@ pub fn is_given_back(alloc: Global, core: &Core) -> bool {
     }
 }
 
-/// Whether the end can be folded, and its journal has the fold's size then.
+/// Whether the endpoint can be compacted, and its journal then has the size of the fold.
 pub fn is_folded(core: &mut Core) -> bool {
     let size = core.folded_size();
     if size > MAX_JOURNAL {
@@ -32,7 +32,7 @@ pub fn is_folded(core: &mut Core) -> bool {
     core.size() == size
 }
 
-/// Whether all effects of the fold are made again, each in a record of its own, and nothing stands behind them.
+/// Whether all effects of the fold can be replayed, each in a separate record, and no more effects follow them.
 fn is_written_again(alloc: Global, core: &Core, other: &mut Core) -> bool {
     let totals = core.totals();
     let parts = totals.submitted.saturating_add(totals.inbox);
@@ -45,7 +45,7 @@ fn is_written_again(alloc: Global, core: &Core, other: &mut Core) -> bool {
     clock == (core.moment() != 0)
 }
 
-/// Whether there is an effect at this place of the fold, and the other makes it.
+/// Whether the fold has an effect at this index, and the other core replays it.
 fn is_made_again(alloc: Global, core: &Core, other: &mut Core, part: u64) -> bool {
     match core.folded(part) {
         Ok(Some(effect)) => match one(alloc, effect) {

@@ -1,4 +1,4 @@
-//! Many messages between two ends: all are handed in, and then each is sent, delivered and receipted.
+//! Many messages between two endpoints: all are submitted, and then each is sent, delivered and receipted.
 
 use super::rig::{Rig, new_end};
 use super::steps::{Said, Step};
@@ -6,8 +6,8 @@ use as4_values::{Seq, Text};
 use msh_core::What;
 use std::alloc::Global;
 
-/// How many submissions have their receipt at one end, and how many messages came at the other, once so many were
-/// exchanged.
+/// The numbers of receipted submissions at one endpoint and of delivered messages at the other, after the exchange of
+/// this many messages.
 pub fn exchanged(alloc: Global, count: u64) -> Option<(u64, u64)> {
     match (new_end(alloc), new_end(alloc)) {
         (Some(mut a), Some(mut b)) => {
@@ -53,7 +53,7 @@ fn are_delivered(a: &mut Rig, b: &mut Rig, count: u64) -> bool {
 }
 
 impl Rig {
-    /// A message without payloads is handed in.
+    /// Submits a message without payloads.
     #[tactic(auto, unfolding(exchange_model::specs::Coming::may_come))]
     fn submits_nothing(&mut self) -> Option<Said> {
         let mode = Text::read(self.alloc, b"invoice").ok()?;

@@ -1,3 +1,4 @@
+//! Records that a new endpoint replays or refuses.
 ghost use Rattle.std.specs.Prelude.{◌≡◌};
 
 use super::rig::new_core;
@@ -9,7 +10,7 @@ use event_code::{body_len, read_body};
 use msh_core::{Core, MAX_JOURNAL, ReplayRefusal};
 use std::alloc::Global;
 
-/// The effects of a record, and the place of the first that can't stand where those before it have led.
+/// The effects of a record, and the index of the first effect that doesn't fit the state before it.
 type Record = (&'static [Change], Option<usize>);
 
 const RECORDS: [Record; 15] = [
@@ -53,8 +54,8 @@ const RECORDS: [Record; 15] = [
         ],
         None,
     ),
-    // An end that was written again: no clock is set before all are carried over, no message waits before all that were
-    // taken over are kept, and no identifier is kept twice.
+    // A compacted journal: the clock is set only after all submissions are carried over, a message is delivered only
+    // after all confirmed ones are kept, and each identifier is kept once.
     (
         &[
             Change::Carried(0, 2, 1000),
@@ -71,7 +72,7 @@ const RECORDS: [Record; 15] = [
     (&[Change::Kept(0), Change::Delivered], Some(1)),
 ];
 
-/// Makes the effects again as one record, where there are any and the journal has room.
+/// Replays the effects as one record, if there are any and the journal has room.
 #[tactic(auto, unfolding(exchange_model::specs::Apply::record_len))]
 pub fn replays(core: &mut Core, effects: Seq<Effect>) -> Option<Result<(), ReplayRefusal>> {
     let count = effects.items().len();
@@ -83,7 +84,7 @@ pub fn replays(core: &mut Core, effects: Seq<Effect>) -> Option<Result<(), Repla
     Some(core.replay(effects))
 }
 
-/// What a new end answers to these effects.
+/// The result of a new endpoint for these effects.
 fn answer_to(alloc: Global, changes: &[Change]) -> Option<Result<(), ReplayRefusal>> {
     match (new_core(alloc), effects_of(alloc, changes)) {
         (Some(mut core), Some(effects)) => {
@@ -99,7 +100,7 @@ fn answer_to(alloc: Global, changes: &[Change]) -> Option<Result<(), ReplayRefus
     }
 }
 
-/// The place of the first record that is answered in another way.
+/// The index of the first record with another result.
 fn first_other(alloc: Global) -> Option<usize> {
     for (at, (changes, unfit)) in RECORDS.iter().enumerate() {
         let answer = match unfit {
@@ -118,8 +119,8 @@ fn the_first_unfit_effect_is_named(rt: HostRuntime) {
     assert_eq!(rt; first_other(rt.alloc()), None);
 }
 
-/// A body of two effects: the submission 0, which was sent twice, the last time at 1,000, and was receipted; and the
-/// header of a message `m1` that came and was taken over. The header of either goes from `a` to `b`.
+/// A body of two effects: the submission 0, which was tried twice, the last time at 1,000, and was receipted; and the
+/// header of a message `m1` that was confirmed. Both headers go from `a` to `b`.
 const BODY: &[u8] = b"\x00\x02\
     \x08\x00\x00\x00\x00\x00\x00\x00\x00\
     \x00\x00\x00\x00\x142025-01-02T03:04:05Z\x00\x00\x00\x2a0.00000000-0000-0000-0000-000000000001@as4\x00\
@@ -131,10 +132,10 @@ const BODY: &[u8] = b"\x00\x02\
     \x00\x00\x00\x01\x00\x00\x00\x01a\x00\x00\x00\x00\x01r\x00\x00\x00\x01\x00\x00\x00\x01b\x00\x00\x00\x00\x01r\
     \x00\x00\x00\x00\x01s\x00\x00\x00\x00\x03act\x00\x00\x00\x00\x00\x00\x00\x00\x00";
 
-/// The nine bytes of a new journal, the nine of a record's head, and the body: 2 + 185 + 86 bytes.
+/// The nine bytes of a new journal, the nine of a record's head, and the 273 of the body: 2 + 185 + 86.
 const BODY_SIZE: u64 = 291;
 
-/// The totals and the size of a new end that makes this body's effects again.
+/// The totals and the size of a new endpoint after it replays this body.
 fn end_of(alloc: Global, body: &[u8]) -> Option<(Totals, u64)> {
     match (new_core(alloc), read_body(alloc, body)) {
         (Some(mut core), Ok(effects)) => {

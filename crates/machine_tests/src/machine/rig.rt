@@ -1,4 +1,4 @@
-//! An end with four modes, of which tests ask short questions.
+//! An endpoint with four modes, for short steps of tests.
 ghost use Rattle.std.specs.Prelude.{◌≡◌, ◌≤◌, IfOk, IsSome, IsTrue};
 ghost use Rattle.exchange_model.specs.Coming.{may_come};
 ghost use Rattle.as4_codes.specs.ErrorCodes.{error_row};
@@ -10,10 +10,10 @@ use super::replayed::replays;
 use super::said::summary;
 use super::steps::{End, Said, Step};
 use as4_codes::{error_signal, pull_request, receipt};
-use as4_effects::{Effect, delivery_fits, pairs};
+use as4_effects::{Effect, delivery_fits};
 use as4_values::{
     Load, MAX_MOMENT, Message, MessageId, NoMemory, PlainData, Seq, Signal, SignalBody, Text,
-    UserHeader, stamp_text,
+    UserHeader, pairs, stamp_text,
 };
 use made_messages::octets;
 use msh_core::{Core, Event, Plan, Reply, SmallPlan, What};
@@ -62,21 +62,21 @@ retries = 3
 period = 1000
 ";
 
-/// An end, and how many events it has met.
+/// An endpoint, and the number of events so far.
 #[derive(Drop)]
 pub struct Rig {
     pub(super) core: Core,
     pub(super) alloc: Global,
     nonce: u128,
-    /// The user message that it sent last.
+    /// The last user message that it sent.
     pub(super) sent: Option<Message>,
-    /// The request that it sent last.
+    /// The last request that it sent.
     asked: Option<Message>,
-    /// An end that makes the same effects again, from their records.
+    /// An endpoint that replays the same effects from their records.
     pub(super) follower: Option<Core>,
 }
 
-/// How many steps two new ends answer as they should, up to the first that they don't.
+/// The number of leading steps that two new endpoints answer right.
 pub fn right_steps(alloc: Global, steps: &[(End, Step, Said)]) -> usize {
     match (new_end(alloc), new_end(alloc)) {
         (Some(mut a), Some(mut b)) => {
@@ -93,7 +93,7 @@ pub fn right_steps(alloc: Global, steps: &[(End, Step, Said)]) -> usize {
     }
 }
 
-/// How many steps these two answer as they should, up to the first that they don't.
+/// The number of leading steps that these two answer right.
 fn right_steps_of(a: &mut Rig, b: &mut Rig, steps: &[(End, Step, Said)]) -> usize {
     for place in 0..steps.len() {
         let (end, step, said) = steps[place];
@@ -137,7 +137,7 @@ pub fn new_core(alloc: Global) -> Option<Core> {
 }
 
 impl Rig {
-    /// What it says to a step.
+    /// The reply to a step.
     #[tactic(auto, unfolding(exchange_model::specs::Coming::may_come))]
     pub(super) fn does(&mut self, step: Step, other: &Rig) -> Option<Said> {
         match step {
@@ -167,7 +167,7 @@ impl Rig {
         }
     }
 
-    /// What it says to a signal that comes.
+    /// The reply to a signal.
     #[tactic(auto, unfolding(as4_codes::specs::ErrorCodes::error_row, as4_codes::specs::ErrorCodes::error_table))]
     fn hears_of(&mut self, signal: Step) -> Option<Said> {
         match signal {
@@ -182,7 +182,7 @@ impl Rig {
         }
     }
 
-    /// What it says to an event.
+    /// The reply to an event.
     pub(super) fn says(&mut self, what: What) -> Option<Said>
         requires { IsTrue (may_come what) }
     {
@@ -204,7 +204,7 @@ impl Rig {
         self.hands_out_if(prepared)
     }
 
-    /// A nonce of its own.
+    /// A new nonce.
     pub(super) fn next_nonce(&mut self) -> u128
         ensures { self.new.core ≡ self.old.core }
     {
@@ -228,7 +228,7 @@ impl Rig {
         }
     }
 
-    /// The follower makes the effects again, where there are any.
+    /// The follower replays the effects, if there are any.
     fn is_followed(&mut self, effects: &Seq<Effect>)
         ensures { self.new.core ≡ self.old.core }
     {
@@ -241,14 +241,14 @@ impl Rig {
         }
     }
 
-    /// Whether its records, and its fold, lead where it stands, and its journal can be written again so.
+    /// Whether the records and the fold lead to the current state, and the journal can be compacted.
     fn is_well_kept(&mut self) -> bool {
         self.has_its_follower()
             && is_given_back(self.alloc, &self.core)
             && is_folded(&mut self.core)
     }
 
-    /// Whether the follower, where it has one, stands where this end does.
+    /// Whether the follower, if there is one, is in the same state.
     fn has_its_follower(&self) -> bool {
         match &self.follower {
             Some(follower) => {
@@ -269,7 +269,7 @@ impl Rig {
         said
     }
 
-    /// Keeps the message or the request that is sent.
+    /// Keeps the message or the request of the reply.
     fn keep(&mut self, reply: Reply) {
         match reply {
             Reply::Push { address, message } => {
@@ -325,7 +325,7 @@ impl Rig {
         said
     }
 
-    /// The follower does lightly what the end is about to do.
+    /// The follower does the same without memory, before the endpoint does.
     fn is_followed_lightly(&mut self, plan: &SmallPlan)
         ensures { self.new.core ≡ self.old.core }
     {
@@ -353,7 +353,7 @@ impl Rig {
         said
     }
 
-    /// These bytes are handed in by this mode.
+    /// Submits these bytes by this mode.
     #[tactic(auto, unfolding(exchange_model::specs::Coming::may_come))]
     fn submits(&mut self, mode: &str, bytes: &[u8]) -> Option<Said> {
         match (
@@ -375,7 +375,7 @@ impl Rig {
 }
 
 impl Rig {
-    /// The header of the message that it sent last.
+    /// The header of the last message that it sent.
     fn header(&self) -> Option<&UserHeader> {
         match &self.sent {
             Some(Message::User { header, .. }) => Some(header),
@@ -383,7 +383,7 @@ impl Rig {
         }
     }
 
-    /// The message comes, where there is one.
+    /// Receives the message, if there is one.
     fn hears(&mut self, message: &Option<Message>) -> Option<Said> {
         match message.as_ref()?.try_clone(self.alloc) {
             Ok(message) => self.hears_message(message),
@@ -394,7 +394,7 @@ impl Rig {
         }
     }
 
-    /// The message comes, where it can.
+    /// Receives the message, if it is a valid event.
     pub(super) fn hears_message(&mut self, message: Message) -> Option<Said> {
         if may_come(self.alloc, &message) {
             return self.says(What::Came(message));
@@ -403,7 +403,7 @@ impl Rig {
         None
     }
 
-    /// The signal comes, where it was made.
+    /// Receives the signal, if it was made.
     #[tactic(auto, unfolding(exchange_model::specs::Coming::may_come))]
     fn hears_signal(&mut self, made: Result<Signal, NoMemory>) -> Option<Said> {
         match made {
@@ -421,7 +421,7 @@ impl Rig {
         self.hears_signal(signal)
     }
 
-    /// A receipt comes of the message that it sent last, with a copy of its header or without.
+    /// Receives a receipt for the last message that it sent, with or without a copy of its header.
     fn is_answered(&mut self, with_copy: bool) -> Option<Said> {
         let header = self.header()?;
         let signal = if with_copy {
@@ -432,21 +432,21 @@ impl Rig {
         self.hears_signal(signal)
     }
 
-    /// A receipt comes whose copy has another action.
+    /// Receives a receipt whose copy has another action.
     fn is_answered_for_another_action(&mut self) -> Option<Said> {
         let header = self.header()?;
         let signal = receipt_for_another_action(self.alloc, header);
         self.hears_signal(signal)
     }
 
-    /// A receipt comes of a message of this identifier.
+    /// Receives a receipt for a message with this identifier.
     fn is_answered_for(&mut self, id: &str) -> Option<Said> {
         let id = MessageId::read(self.alloc, id.as_bytes()).ok()?;
         let signal = bare_receipt(self.alloc, &id);
         self.hears_signal(signal)
     }
 
-    /// An error with this code comes, about the message that it sent last.
+    /// Receives an error with this code, about the last message that it sent.
     fn is_refused(&mut self, code: u16) -> Option<Said>
         requires { IsSome (error_row code) }
     {
@@ -455,7 +455,7 @@ impl Rig {
         self.hears_signal(signal)
     }
 
-    /// How the message that it sent last stands.
+    /// The status of the last message that it sent.
     #[tactic(auto, unfolding(exchange_model::specs::Coming::may_come))]
     fn status(&mut self) -> Option<Said> {
         let id = self.header()?.id.try_clone(self.alloc).ok()?;
@@ -483,7 +483,7 @@ fn loads_of(alloc: Global, bytes: &[u8]) -> Option<Seq<Load>> {
     }
 }
 
-/// A receipt of the message of this identifier, without a copy of its header.
+/// A receipt for the message with this identifier, without a copy of its header.
 fn bare_receipt(alloc: Global, id: &MessageId) -> Result<Signal, NoMemory> {
     let stamp = stamp_text(alloc, 0)?;
     let ref_to = Some(id.try_clone(alloc)?);
@@ -496,7 +496,7 @@ fn bare_receipt(alloc: Global, id: &MessageId) -> Result<Signal, NoMemory> {
     })
 }
 
-/// A receipt of the message of this header, with a copy that has another action.
+/// A receipt for the message with this header, with a copy that has another action.
 fn receipt_for_another_action(alloc: Global, header: &UserHeader) -> Result<Signal, NoMemory> {
     let Ok(action) = Text::read(alloc, b"order") else {
         return Err(NoMemory);
@@ -516,7 +516,7 @@ fn receipt_for_another_action(alloc: Global, header: &UserHeader) -> Result<Sign
     }
 }
 
-/// Whether an end takes the message as an event.
+/// Whether the message is a valid event for an endpoint.
 #[tactic(auto, unfolding(exchange_model::specs::Coming::may_come, exchange_model::specs::Coming::is_deliverable))]
 pub fn may_come(alloc: Global, message: &Message) -> bool
     ensures { IsTrue result → IsTrue (may_come (What.Came message.now)) }

@@ -1,10 +1,10 @@
-//! Replies in short.
+//! Replies in a short form.
 
 use super::steps::Said;
 use as4_values::{ErrorItem, Message, Payload, SignalBody};
 use exchange_model::Reply;
 
-/// What a reply says, without its texts.
+/// The reply without its texts.
 pub fn summary(reply: &Reply) -> Said {
     match reply {
         Reply::Submitted { number, .. } => Said::Submitted(*number),

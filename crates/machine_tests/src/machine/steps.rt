@@ -1,15 +1,15 @@
-//! What happens at an end, and what it says.
+//! Steps at an endpoint, and their replies.
 
-/// What an end said, without its texts.
+/// A reply without its texts.
 #[derive(Clone, Copy, PartialEq, Eq)]
 pub enum Said {
     Submitted(u64),
     Ticked(u64),
     Push,
     Nothing,
-    /// A pull request goes out.
+    /// A pull request is sent.
     Request,
-    /// A pull request goes out, bundled with the receipt of the message whose identifier begins with this digit.
+    /// A pull request is sent, bundled with the receipt for the message whose identifier begins with this digit.
     RequestWith(u8),
     /// A user message, whose identifier begins with this digit.
     User(u8),
@@ -17,7 +17,7 @@ pub enum Said {
     /// An error signal with this code.
     Error(u16),
     Quiet,
-    /// So many bytes in the first payload.
+    /// The size of the first payload.
     Entry(usize),
     NoEntry,
     Pending(u32),
@@ -26,71 +26,71 @@ pub enum Said {
     Refused,
     Unknown,
     Gone,
-    /// The messages up to this one are taken over.
+    /// The messages up to this one are confirmed.
     Confirmed(u64),
     NoMode,
     TooLarge,
-    /// The journal has no room for so many bytes.
+    /// The journal has no room for this many bytes.
     Full(u64),
-    /// So many messages in the inbox, submissions with a receipt, or bytes in the journal.
+    /// The number of messages in the inbox, of receipted submissions, or of bytes in the journal.
     Count(u64),
     Other,
 }
 
-/// What happens at an end.
+/// A step at an endpoint.
 #[derive(Clone, Copy)]
 pub enum Step {
-    /// The bytes `hello` are handed in by this mode.
+    /// Submits the bytes `hello` by this mode.
     Submit(&'static str),
-    /// A byte more is handed in by this mode than a message can hold.
+    /// Submits one byte more than a message can hold by this mode.
     SubmitTooMuch(&'static str),
     Tick(u64),
     /// The same, without memory.
     TickLightly(u64),
     Take,
-    /// A pull request by this mode is asked for.
+    /// Requests a pull by this mode.
     Ask(&'static str),
-    /// The same, bundled with the receipt of the message of this number in the inbox.
+    /// The same, bundled with the receipt for the message of this number in the inbox.
     AskWith(&'static str, u64),
-    /// The message comes that the other end sent last.
+    /// Receives the last message of the other endpoint.
     Hear,
     /// The same with another action, for which there is no mode.
     HearOfAnotherAction,
-    /// The request comes that the other end sent last.
+    /// Receives the last request of the other endpoint.
     HearRequest,
-    /// Messages come until twenty bytes are left in the journal, and all but the last are taken over.
+    /// Receives messages until twenty bytes are left in the journal, and confirms all except the last.
     Fill,
-    /// A pull request for this channel comes.
+    /// Receives a pull request for this channel.
     Pull(&'static str),
-    /// A receipt comes of the message that it sent last.
+    /// Receives a receipt for the last message that it sent.
     Receipt,
     /// The same, without a copy of the header.
     BareReceipt,
     /// The same, with a copy that has another action.
     OtherReceipt,
-    /// A receipt comes of the message of this identifier.
+    /// Receives a receipt for the message with this identifier.
     ReceiptOf(&'static str),
-    /// The error 0006, a warning, comes about the message that it sent last.
+    /// Receives the error 0006, a warning, about the last message that it sent.
     Warning,
-    /// The error 0301, a failure, comes about it.
+    /// Receives the error 0301, a failure, about it.
     Failure,
     Read(u64),
     Confirm(u64),
     /// The same, without memory.
     ConfirmLightly(u64),
-    /// How the message that it sent last stands is asked.
+    /// The status of the last message that it sent.
     Status,
-    /// How the message of this identifier stands is asked.
+    /// The status of the message with this identifier.
     StatusOf(&'static str),
-    /// How many messages its inbox has.
+    /// The number of messages in the inbox.
     Inbox,
-    /// How many submissions have their receipts.
+    /// The number of receipted submissions.
     Receipts,
-    /// How many bytes its journal has.
+    /// The size of the journal in bytes.
     Size,
 }
 
-/// One of two ends.
+/// One of two endpoints.
 #[derive(Clone, Copy)]
 pub enum End {
     A,

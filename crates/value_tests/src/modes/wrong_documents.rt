@@ -1,3 +1,4 @@
+//! Files that aren't lists of P-Modes.
 use super::{Row, Said, first_other, outcome, read_two};
 use pmodes::{Key, Modes};
 use std::alloc::Global;
@@ -16,7 +17,7 @@ const DOCUMENTS: [(&[u8], Said); 11] = [
     (b"", Said::Modes(0)),
 ];
 
-/// The first document of which something else is said.
+/// The first document with another result.
 fn first_other_document(alloc: Global) -> Option<usize> {
     for (row, (bytes, said)) in DOCUMENTS.iter().enumerate() {
         if outcome(Modes::read(alloc, bytes)) != *said {
@@ -31,7 +32,7 @@ fn a_document_has_an_array_of_tables(rt: HostRuntime) {
     assert_eq!(rt; first_other_document(rt.alloc()), None);
 }
 
-/// Tables with more than one fault.
+/// Tables with more than one error.
 const TWO_FAULTS: [Row; 2] = [
     (
         "name",
@@ -48,7 +49,7 @@ fn the_first_fault_is_named(rt: HostRuntime) {
     assert_eq!(rt; (first, second), (None, Said::Range(1, Key::Retries)));
 }
 
-/// Tables behind the right one, and what is said of both.
+/// Tables after the valid one, and the result for both.
 const SECOND_TABLES: [Row; 6] = [
     ("name", "name = \"n\"", Said::Twice),
     ("action", "action = \"d\"", Said::Modes(2)),
@@ -58,7 +59,7 @@ const SECOND_TABLES: [Row; 6] = [
     ("action", "action = \" c \"", Said::Ambiguous),
 ];
 
-/// The first row of whose table behind the right one something else is said.
+/// The first row whose table after the valid one gives another result.
 fn first_other_second(alloc: Global) -> Option<usize> {
     for (row, (without, line, said)) in SECOND_TABLES.iter().enumerate() {
         if read_two(alloc, without, line) != *said {

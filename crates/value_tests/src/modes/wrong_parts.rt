@@ -1,3 +1,4 @@
+//! Wrong services, actions, agreements, retries, periods and collections of P-Modes.
 use super::{Row, Said, first_other};
 use pmodes::Key;
 

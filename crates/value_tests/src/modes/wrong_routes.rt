@@ -1,3 +1,4 @@
+//! Wrong routes of P-Modes.
 use super::{Row, Said, first_in_range, first_other};
 use pmodes::Key;
 

@@ -1,3 +1,4 @@
+//! Copies of headers.
 use as4_values::{MessageId, PlainData, UserHeader};
 use made_messages::{header, text};
 use std::alloc::Global;

@@ -1,3 +1,4 @@
+//! How stamps are written and read.
 use as4_values::{MAX_MOMENT, StampRefusal, is_moment_stamp, read_stamp, stamp_text};
 use std::alloc::Global;
 
@@ -6,7 +7,7 @@ const IN_UTC: &[u8] = b"2025-01-02T03:04:05.006Z";
 
 const AHEAD: &[u8] = b"2025-01-02T03:04:05+06:07";
 
-/// Whether the bytes are no stamp for this place, or are one where there is none.
+/// Whether the bytes are refused as a stamp at this place, or are read if there is none.
 fn is_refused_at(alloc: Global, bytes: &[u8], place: Option<usize>) -> bool {
     match (read_stamp(alloc, bytes).err(), place) {
         (None, None) => true,
@@ -15,7 +16,7 @@ fn is_refused_at(alloc: Global, bytes: &[u8], place: Option<usize>) -> bool {
     }
 }
 
-/// The first row whose bytes are not refused at its place.
+/// The first row whose bytes aren't refused at its place.
 fn first_other(alloc: Global, rows: &[(&[u8], usize)]) -> Option<usize> {
     for (row, (bytes, at)) in rows.iter().enumerate() {
         if !is_refused_at(alloc, bytes, Some(*at)) {
@@ -60,7 +61,7 @@ fn a_moment_has_its_stamp(rt: HostRuntime) {
     assert_eq!(rt; first_other_moment(rt.alloc()), None);
 }
 
-/// Whether the bytes are a stamp that keeps them.
+/// Whether the bytes are read as a stamp that keeps them.
 fn is_kept(alloc: Global, bytes: &[u8]) -> Option<bool> {
     let stamp = read_stamp(alloc, bytes).ok()?;
     let is_same = stamp.bytes() == bytes;
@@ -108,7 +109,7 @@ const STAMPS: [&[u8]; 37] = [
     b"2025-01-02T03:04:05.123456789-14:00",
 ];
 
-/// The first row that is not kept.
+/// The first row that isn't kept.
 fn first_lost(alloc: Global) -> Option<usize> {
     for (row, bytes) in STAMPS.iter().enumerate() {
         if is_kept(alloc, bytes) != Some(true) {
@@ -123,7 +124,7 @@ fn a_stamp_is_read_as_it_stands(rt: HostRuntime) {
     assert_eq!(rt; first_lost(rt.alloc()), None);
 }
 
-/// Stamps with a field out of range, and the first one's place.
+/// Stamps with a field out of range, and the place of the first such field.
 const WRONG_FIELDS: [(&[u8], usize); 35] = [
     (b"0000-01-01T00:00:00", 0),
     (b"0000-13-01T00:00:00", 0),
@@ -190,7 +191,7 @@ fn an_offset_is_at_most_fourteen_hours(rt: HostRuntime) {
     assert_eq!(rt; other, None);
 }
 
-/// Bytes of no form, and the first that fits none.
+/// Malformed stamps, and the first place that fits no form.
 const WRONG_FORMS: [(&[u8], usize); 38] = [
     (b"", 0),
     (b" 2025-01-01T00:00:00", 0),
@@ -249,7 +250,7 @@ fn is_refused_with_x(alloc: Global, stamp: &[u8], at: usize) -> bool {
     is_refused_at(alloc, bytes.as_slice(), Some(at))
 }
 
-/// The first place of the stamp where an `x` is not refused.
+/// The first place of the stamp where an `x` isn't refused.
 fn first_free(alloc: Global, stamp: &[u8]) -> Option<usize> {
     for at in 0..stamp.len() {
         if !is_refused_with_x(alloc, stamp, at) {
@@ -268,7 +269,7 @@ fn each_byte_of_a_stamp_counts(rt: HostRuntime) {
     assert_eq!(rt; free, (None, None));
 }
 
-/// The first end of the stamp at which its front is one, or is none where it is among these ends.
+/// The first length at which a prefix of the stamp is a stamp without being among these lengths, or conversely.
 fn first_other_end(alloc: Global, stamp: &[u8], ends: &[usize]) -> Option<usize> {
     for end in 0..=stamp.len() {
         let place = if ends.contains(&end) { None } else { Some(end) };
@@ -286,7 +287,7 @@ fn a_stamp_that_is_cut_ends_too_soon(rt: HostRuntime) {
     assert_eq!(rt; (in_utc, ahead), (None, None));
 }
 
-/// Whether a stamp with this byte as its zone is refused at this place, or is one where there is none.
+/// Whether a stamp with this byte as its zone is refused at this place, or is read if there is none.
 fn is_zone_refused_at(alloc: Global, zone: u8, place: Option<usize>) -> bool {
     let Ok(mut bytes) = Vec::from_slice(alloc, b"2025-01-02T03:04:05") else {
         return false;
@@ -294,7 +295,7 @@ fn is_zone_refused_at(alloc: Global, zone: u8, place: Option<usize>) -> bool {
     bytes.push(zone).is_ok() && is_refused_at(alloc, bytes.as_slice(), place)
 }
 
-/// The first byte that as a zone is not refused at its place.
+/// The first byte that as a zone isn't refused at its place.
 fn first_other_zone(alloc: Global) -> Option<u8> {
     for byte in 0..=255 {
         let place = match byte {
@@ -314,7 +315,7 @@ fn each_byte_at_the_zone(rt: HostRuntime) {
     assert_eq!(rt; first_other_zone(rt.alloc()), None);
 }
 
-/// Stamps and other bytes, and whether they are the form of a moment.
+/// Stamps and other bytes, and whether they have the form of a moment.
 const FORMS: [(&[u8], bool); 10] = [
     (b"1970-01-01T00:00:00.000Z", true),
     (b"9999-12-31T23:59:59.999Z", true),
@@ -328,7 +329,7 @@ const FORMS: [(&[u8], bool); 10] = [
     (b"2025-01-02T03:04:05.006ZZ", false),
 ];
 
-/// The first row that is told otherwise.
+/// The first row with another result.
 fn first_other_form() -> Option<usize> {
     for (row, (text, is)) in FORMS.iter().enumerate() {
         if is_moment_stamp(text) != *is {

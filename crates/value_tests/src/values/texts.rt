@@ -1,8 +1,9 @@
+//! How texts are read.
 use super::letters;
 use as4_values::{Text, TextRefusal};
 use std::alloc::Global;
 
-/// Whether the bytes are no text for this place, or are one where there is none.
+/// Whether the bytes are refused as a text at this place, or are read if there is none.
 fn is_refused_at(alloc: Global, bytes: &[u8], place: Option<usize>) -> bool {
     match (Text::read(alloc, bytes).err(), place) {
         (None, None) => true,
@@ -11,7 +12,7 @@ fn is_refused_at(alloc: Global, bytes: &[u8], place: Option<usize>) -> bool {
     }
 }
 
-/// The first row whose bytes are not refused at its place.
+/// The first row whose bytes aren't refused at its place.
 fn first_other(alloc: Global, rows: &[(&[u8], usize)]) -> Option<usize> {
     for (row, (bytes, at)) in rows.iter().enumerate() {
         if !is_refused_at(alloc, bytes, Some(*at)) {
@@ -61,7 +62,7 @@ const TEXTS: [(&[u8], &[u8]); 28] = [
     (b"\xc2\x85x\xe2\x80\xa8", b"\xc2\x85x\xe2\x80\xa8"),
 ];
 
-/// The first row whose text is another.
+/// The first row with another text.
 fn first_other_text(alloc: Global) -> Option<usize> {
     for (row, (bytes, text)) in TEXTS.iter().enumerate() {
         if is_read_as(alloc, bytes, text) != Some(true) {
@@ -76,7 +77,7 @@ fn what_stands_between_blanks_is_read(rt: HostRuntime) {
     assert_eq!(rt; first_other_text(rt.alloc()), None);
 }
 
-/// Bytes, and the place of the first character that is none of a text.
+/// Bytes, and the place of the first character that a text may not contain.
 const FORBIDDEN: [(&[u8], usize); 20] = [
     (b"", 0),
     (b" ", 1),
@@ -106,7 +107,7 @@ fn a_character_that_xml_forbids_is_named(rt: HostRuntime) {
     assert_eq!(rt; other, None);
 }
 
-/// Bytes, and the place where they are no UTF-8.
+/// Bytes, and the first place that isn't UTF-8.
 const BROKEN: [(&[u8], usize); 31] = [
     (b"\x80", 0),
     (b"a\xbf", 1),
@@ -147,11 +148,11 @@ fn a_broken_sequence_is_named_by_its_first_byte(rt: HostRuntime) {
     assert_eq!(rt; other, None);
 }
 
-/// The bytes that are a text alone.
+/// The bytes that are a text by themselves.
 const ALLOWED: &[u8] =
     b"!\"#$%&'()*+,-./0123456789:;<=>?@ABCDEFGHIJKLMNOPQRSTUVWXYZ[\\]^_`abcdefghijklmnopqrstuvwxyz{|}~\x7f";
 
-/// The first byte that alone is not refused at its place.
+/// The first byte that by itself isn't refused at its place.
 fn first_other_byte(alloc: Global) -> Option<u8> {
     for byte in 0..=255 {
         let place = if ALLOWED.contains(&byte) {
@@ -173,7 +174,7 @@ fn each_byte_alone(rt: HostRuntime) {
     assert_eq!(rt; first_other_byte(rt.alloc()), None);
 }
 
-/// Bytes, so many letters and bytes, and the place for which they are no text.
+/// Bytes, the number of letters and further bytes, and the place where they are refused.
 type LongRow = (&'static [u8], usize, &'static [u8], Option<usize>);
 
 const LONG: [LongRow; 7] = [
@@ -195,7 +196,7 @@ fn is_long_refused(alloc: Global, row: &LongRow) -> bool {
     }
 }
 
-/// The first such row whose bytes are not refused at its place.
+/// The first such row whose bytes aren't refused at its place.
 fn first_other_long(alloc: Global) -> Option<usize> {
     for (at, row) in LONG.iter().enumerate() {
         if !is_long_refused(alloc, row) {

@@ -1,15 +1,16 @@
+//! How identifiers and codes are read.
 use super::letters;
 use as4_values::{Code, IdRefusal, MessageId};
 use std::alloc::Global;
 
-/// What bytes are read as.
+/// How bytes are read.
 #[derive(Clone, Copy)]
 enum Kind {
     Id,
     Code,
 }
 
-/// Whether the bytes are nothing of the kind for this place, or are of it where there is none.
+/// Whether the bytes are refused as this kind at this place, or are read if there is none.
 fn is_refused_at(alloc: Global, kind: Kind, bytes: &[u8], place: Option<usize>) -> bool {
     let refusal = match kind {
         Kind::Id => MessageId::read(alloc, bytes).err(),
@@ -22,10 +23,10 @@ fn is_refused_at(alloc: Global, kind: Kind, bytes: &[u8], place: Option<usize>) 
     }
 }
 
-/// Bytes, and the place for which they are nothing of a kind.
+/// Bytes, and the place where they are refused.
 type Row = (&'static [u8], Option<usize>);
 
-/// The first row whose bytes are not refused at its place.
+/// The first row whose bytes aren't refused at its place.
 fn first_other(alloc: Global, kind: Kind, rows: &[Row]) -> Option<usize> {
     for (row, (bytes, place)) in rows.iter().enumerate() {
         if !is_refused_at(alloc, kind, bytes, *place) {
@@ -35,7 +36,7 @@ fn first_other(alloc: Global, kind: Kind, rows: &[Row]) -> Option<usize> {
     None
 }
 
-/// Bytes, so many letters and bytes, and the place for which they are nothing of a kind.
+/// Bytes, the number of letters and further bytes, and the place where they are refused.
 type LongRow = (&'static [u8], usize, &'static [u8], Option<usize>);
 
 /// Whether the bytes of the row are refused at its place.
@@ -47,7 +48,7 @@ fn is_long_refused(alloc: Global, kind: Kind, row: &LongRow) -> bool {
     }
 }
 
-/// The first such row whose bytes are not refused at its place.
+/// The first such row whose bytes aren't refused at its place.
 fn first_other_long(alloc: Global, kind: Kind, rows: &[LongRow]) -> Option<usize> {
     for (at, row) in rows.iter().enumerate() {
         if !is_long_refused(alloc, kind, row) {
@@ -57,7 +58,7 @@ fn first_other_long(alloc: Global, kind: Kind, rows: &[LongRow]) -> Option<usize
     None
 }
 
-/// The first byte that alone is of the kind and not among these, or the other way round.
+/// The first byte that by itself is of the kind but not among these, or conversely.
 fn first_other_byte(alloc: Global, kind: Kind, allowed: &[u8]) -> Option<u8> {
     for byte in 0..=255 {
         let place = if allowed.contains(&byte) {

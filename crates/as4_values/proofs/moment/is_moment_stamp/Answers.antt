@@ -26,7 +26,7 @@ returns-then-year_of-lt1970 c = (
   λ is. let told = of_moment c.args.bytes.now is in let since = told.since in absurd (omega (arith, c.year_of.ensures.value)),
 )
 
--- in form, and since 1970
+-- of the form, and since 1970
 pub returns : goal.returns
 returns c =
     let all : c.matching.result ≡ 24 = omega (arith, c.matching.ensures.fits.in_form) in

@@ -10,7 +10,7 @@ pub returns-then-fitting-lt19-clause-stop : goal.returns-then-fitting-lt19-claus
 returns-then-fitting-lt19-clause-stop c =
     seconds_stop c.args.text.now c.matching-fitting.result c.matching-fitting.ensures.fits c.matching-fitting.ensures.no_more c.if-fitting-lt19.true
 
--- what follows them
+-- after the seconds
 pub returns-in_err-tail_end-clause-whole : goal.returns-in_err-tail_end-clause-whole
 returns-in_err-tail_end-clause-whole c = λ none.
     let all : c.matching-fitting.result ≡ 19 = omega (arith, c.matching-fitting.ensures.fits.in_form) in

@@ -24,7 +24,7 @@ returns-then-places-eq0-clause-stop c =
     c.if-tail-ne46.false
     (λ digit. c.matching-places.ensures.no_more (rw (c.if-places-eq0.true, take_rest c.args.tail.now 1) digit))
 
--- the zone behind the places
+-- the zone after the places
 pub returns-in_err-zone_end-clause-whole : goal.returns-in_err-zone_end-clause-whole
 returns-in_err-zone_end-clause-whole c = λ none.
     let some : 0 < length c.args.tail.now = not_empty (length c.args.tail.now) c.is_empty.result c.is_empty.ensures c.if-is_empty.false in

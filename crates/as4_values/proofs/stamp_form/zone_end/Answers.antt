@@ -5,7 +5,7 @@ use Rattle.as4_values.proofs.FormLemmas.{Sign, is_plus, is_hyphen, mark_stops, u
 use Rattle.as4_values.proofs.stamp_form.zone_end.Goals as goal
 use Rattle.as4_values.proofs.stamp_form.zone_end.Goals.{else-zone-ne43-via-then-zone-ne43+else-zone-ne45, else-zone-ne43-via-else-zone-ne43}
 
--- no zone begins so
+-- no zone begins with this byte
 pub returns-then-zone-ne45-clause-stop : goal.returns-then-zone-ne45-clause-stop
 returns-then-zone-ne45-clause-stop c =
     let some : 0 < length c.args.zone.now = not_empty (length c.args.zone.now) c.is_empty.result c.is_empty.ensures c.if-is_empty.false in

@@ -1,5 +1,5 @@
--- `Seq` as a type that may hold the type that holds it, as an element its children: where the values lie
--- in it, which a recursive type has to know.
+-- The former of `Seq`: lets a recursive type hold a `Seq` of itself, as an element holds its children. It says where in
+-- a `Seq` its values are.
 use mathlib.Core.Path.{◌≡◌, refl, sym}
 use mathlib.Core.List.{List, []}
 use mathlib.Core.Former.{Former, this, list, via, children}

@@ -3,7 +3,7 @@ use Rattle.std.specs.List.{range_with_len}
 use Rattle.std.specs.Vec.{vec_len, vec_capacity}
 use Rattle.drill_texts.proofs.loads.pattern.Given as goal
 
--- those so far, and room for all
+-- the bytes so far, and room for all
 abbrev pub invariant-loop-place : goal.invariant-loop-place
 invariant-loop-place l = record {
   so_far : l.bytes.items ≡ map (λ i. i % 251) (range_with_len 0 l.place);

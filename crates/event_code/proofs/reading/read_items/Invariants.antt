@@ -3,7 +3,7 @@ use Rattle.std.specs.List.{flat_map}
 use Rattle.byte_forms.specs.Forms.{Each}
 use Rattle.event_code.proofs.reading.read_items.Given as goal
 
--- so many items are read
+-- the number of items that are read
 abbrev pub invariant-loop : goal.invariant-loop
 invariant-loop g l =
     (length l.items.items ≡ l.counter) × Each g.T.Readable.is_one l.items.items

@@ -4,7 +4,7 @@ use Rattle.exchange_model.specs.Apply.{after_all}
 use Rattle.msh_core.proofs.PlanLemmas.{CanGo}
 use Rattle.msh_core.proofs.applying.apply_all.Given as goal
 
--- what is left of the plan can be carried out, and leads where the whole does
+-- the rest of the plan can be carried out, and leads to the same endpoint as the whole
 abbrev pub invariant-loop-effect : goal.invariant-loop-effect
 invariant-loop-effect l = record {
   can : CanGo l.tables.end l.tables.rooms (into_iter_items l.effect-iterator) (drop l.index l.queues);

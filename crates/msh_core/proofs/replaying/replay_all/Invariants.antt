@@ -3,7 +3,7 @@ use Rattle.fold_laws.specs.Reached.{IsReached}
 use Rattle.msh_core.proofs.ReplayLemmas.{IsBehind}
 use Rattle.msh_core.proofs.replaying.replay_all.Given as goal
 
--- those so far were made, and each fitted
+-- those so far were applied, and each fitted
 abbrev pub invariant-loop-effect : goal.invariant-loop-effect
 invariant-loop-effect l = record {
   behind : IsBehind l.fn.effects l.initial.tables.end l.index (into_iter_items l.effect-iterator) l.tables.end;

@@ -1,7 +1,7 @@
 use Rattle.std.proofs.Common.{◌≡◌, Some, None, take, sym, ◌∙◌}
 use Rattle.std.specs.List.{find}
-use Rattle.as4_values.specs.ModeMatch.{mode_terms, are_same_terms}
-use Rattle.as4_values.specs.declared.mode.Mode.{Mode}
+use Rattle.mode_values.specs.ModeMatch.{mode_terms, are_same_terms}
+use Rattle.mode_values.specs.declared.mode.Mode.{Mode}
 use Rattle.pmodes.proofs.ListLemmas.{no_repeat_here, repeat_here}
 use Rattle.pmodes.proofs.lookup.first_ambiguous.Goals as goal
 

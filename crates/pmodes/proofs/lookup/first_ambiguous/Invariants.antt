@@ -1,7 +1,7 @@
 use Rattle.std.proofs.Common.{◌≡◌, [], take, drop}
-use Rattle.as4_values.specs.ModeMatch.{mode_terms, are_same_terms}
+use Rattle.mode_values.specs.ModeMatch.{mode_terms, are_same_terms}
 use Rattle.pmodes.specs.ModeList.{first_repeat}
-use Rattle.as4_values.specs.declared.mode.Mode.{Mode}
+use Rattle.mode_values.specs.declared.mode.Mode.{Mode}
 use Rattle.pmodes.proofs.lookup.first_ambiguous.Given as goal
 
 -- the modes so far repeat nothing

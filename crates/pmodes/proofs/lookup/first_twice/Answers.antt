@@ -1,7 +1,7 @@
 use Rattle.std.proofs.Common.{◌≡◌, Some, None, take, sym, ◌∙◌}
 use Rattle.std.specs.Str.{bytes_eq}
-use Rattle.as4_values.specs.ModeMatch.{mode_named}
-use Rattle.as4_values.specs.declared.mode.Mode.{Mode}
+use Rattle.mode_values.specs.ModeMatch.{mode_named}
+use Rattle.mode_values.specs.declared.mode.Mode.{Mode}
 use Rattle.pmodes.proofs.ListLemmas.{no_repeat_here, repeat_here}
 use Rattle.pmodes.proofs.lookup.first_twice.Goals as goal
 

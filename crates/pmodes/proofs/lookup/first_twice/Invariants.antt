@@ -1,7 +1,7 @@
 use Rattle.std.proofs.Common.{◌≡◌, [], take, drop}
 use Rattle.std.specs.Str.{bytes_eq}
 use Rattle.pmodes.specs.ModeList.{first_repeat}
-use Rattle.as4_values.specs.declared.mode.Mode.{Mode}
+use Rattle.mode_values.specs.declared.mode.Mode.{Mode}
 use Rattle.pmodes.proofs.lookup.first_twice.Given as goal
 
 -- the modes so far repeat nothing

@@ -1,4 +1,4 @@
-use Rattle.as4_values.proofs.MatchLemmas.{parties_tested}
+use Rattle.mode_values.proofs.MatchLemmas.{parties_tested}
 use Rattle.pmodes.proofs.matching.are_same_parties.Goals as goal
 
 pub returns : goal.returns

@@ -1,7 +1,7 @@
 use Rattle.std.proofs.Common.{◌≡◌, length, drop, map}
 use Rattle.std.specs.Vec.{vec_len, vec_capacity}
 use Rattle.toml.specs.View.{view}
-use Rattle.as4_values.specs.ModeFields.{mode_fields}
+use Rattle.mode_values.specs.ModeFields.{mode_fields}
 use Rattle.pmodes.specs.ModeFile.{modes_from}
 use Rattle.pmodes.proofs.TableLemmas.{go_on}
 use Rattle.pmodes.proofs.reading.modes_in.Given as goal

@@ -2,7 +2,7 @@ use Rattle.std.proofs.Common.{◌≡◌, length, drop, map, IsTrue}
 use Rattle.std.specs.List.{list_all}
 use Rattle.std.specs.Vec.{vec_len, vec_capacity}
 use Rattle.toml.specs.View.{view}
-use Rattle.as4_values.specs.ModeRanges.{is_short_party}
+use Rattle.mode_values.specs.ModeRanges.{is_short_party}
 use Rattle.pmodes.specs.ModeParts.{parties_in}
 use Rattle.pmodes.proofs.TableLemmas.{go_on}
 use Rattle.pmodes.proofs.sides.parties_in.Given as goal

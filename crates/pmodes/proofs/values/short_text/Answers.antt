@@ -1,6 +1,6 @@
 use Rattle.std.proofs.Common.{◌≡◌, ◌<◌, length}
 use Rattle.std.proofs.lemmas.Bool.{lt-leb}
-use Rattle.as4_values.specs.ModeRanges.{is_short}
+use Rattle.mode_values.specs.ModeRanges.{is_short}
 use Rattle.as4_values.proofs.TextLemmas.{one_text_of}
 use Rattle.pmodes.proofs.values.short_text.Goals as goal
 

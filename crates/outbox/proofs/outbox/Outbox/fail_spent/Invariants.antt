@@ -4,7 +4,7 @@ use Rattle.exchange_model.specs.Apply.{failed_if_spent}
 use Rattle.exchange_model.specs.Questions.{is_spent}
 use Rattle.outbox.proofs.outbox.Outbox.fail_spent.Given as goal
 
--- those that are given up so far were spent, and are counted
+-- those that have expired so far were spent, and are counted
 abbrev pub invariant-loop-number : goal.invariant-loop-number
 invariant-loop-number l = record {
   sent : map (failed_if_spent l.moment) l.self.sent ≡ map (failed_if_spent l.moment) l.fn.self.sent;

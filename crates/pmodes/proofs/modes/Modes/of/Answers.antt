@@ -1,6 +1,6 @@
 use Rattle.std.proofs.Common.{◌≡◌, rules}
 use Rattle.std.specs.Prelude.{option_copied}
-use Rattle.as4_values.specs.ModeMatch.{mode_of}
+use Rattle.mode_values.specs.ModeMatch.{mode_of}
 use Rattle.pmodes.proofs.ListLemmas.{found_matches, none_matches}
 use Rattle.pmodes.proofs.modes.Modes.of.Goals as goal
 

@@ -1,7 +1,7 @@
 use Rattle.std.proofs.Common.{◌≡◌, ◌≤◌, [], Some, None, length}
 use Rattle.std.specs.Str.{bytes_eq}
-use Rattle.as4_values.specs.ModeMatch.{mode_terms, are_same_terms}
-use Rattle.as4_values.specs.declared.mode.Mode.{Mode}
+use Rattle.mode_values.specs.ModeMatch.{mode_terms, are_same_terms}
+use Rattle.mode_values.specs.declared.mode.Mode.{Mode}
 use Rattle.pmodes.specs.ModeList.{first_repeat}
 use Rattle.pmodes.proofs.ListLemmas.{pair, past_limit, refused_twice, refused_ambiguous, not_refused, are_modes}
 use Rattle.pmodes.proofs.modes.Modes.of_list.Goals as goal

@@ -6,12 +6,12 @@ use Rattle.percent_encoding.specs.Percent.{percent_decode}
 use Rattle.as4_values.specs.declared.header.PartInfo.{PartInfo}
 use Rattle.as4_values.specs.declared.payload.Payload.{Payload}
 
--- the Content-ID that a reference names: what follows `cid:`, in any case, without its escapes
+-- the Content-ID that a reference names: the bytes after `cid:` (in any case), with their escapes resolved
 unfoldable pub cid_in : List ℕ → Option (List ℕ)
 cid_in href =
     if str_eq_ignore_ascii_case (take 4 href) (codes "cid:") then Some (percent_decode (drop 4 href)) else None
 
--- the Content-IDs that the part infos name, and nothing where one of them names none
+-- the Content-IDs that the part infos name; None where a part info names none
 unfoldable pub named_by : List PartInfo → Option (List (List ℕ))
 named_by [] = Some []
 named_by (part ∷ parts) =

@@ -1,4 +1,4 @@
--- What a processing mode may hold (P-Modes, ebMS 3.0 Core, section 4); the limits are this handler's own.
+-- The values that a processing mode may hold (P-Modes, ebMS 3.0 Core, section 4); the limits are this handler's own.
 use Rattle.std.specs.Prelude.{ℕ, ◌≤◌, List, Bool, true, not, ◌&&◌, ◌||◌, ◌==◌, nat_le, Option, Some, None, is_some, length}
 use Rattle.std.specs.List.{list_all}
 use Rattle.as4_values.specs.Address.{is_address}
@@ -18,7 +18,7 @@ is_name_byte b =
 unfoldable pub is_mode_name : List ℕ → Bool
 is_mode_name name = nat_le 1 (length name) && nat_le (length name) 64 && list_all is_name_byte name
 
--- a text of a mode, which is shorter than others
+-- a text of a mode: shorter than other texts
 unfoldable pub is_short : List ℕ → Bool
 is_short text = nat_le (length text) 255
 
@@ -36,7 +36,7 @@ is_short_side parties role = is_short role && list_all is_short_party parties
 unfoldable pub is_short_service : Service → Bool
 is_short_service service = is_short service.value && is_short_if_some service.kind
 
--- a mode names no P-Mode within its agreement
+-- the agreement of a mode has no `pmode`
 unfoldable pub is_mode_agreement : Option Agreement → Bool
 is_mode_agreement None = true
 is_mode_agreement (Some agreement) =
@@ -46,7 +46,7 @@ unfoldable pub is_mode_route : Route → Bool
 is_mode_route (Push address) = is_address address
 is_mode_route (Pull mpc address) = is_short mpc && is_address address
 
--- only what is pulled is collected
+-- only a mode that is pulled may be collected
 unfoldable pub may_collect : Route → Bool → Bool
 may_collect (Push address) collect = not collect
 may_collect (Pull mpc address) collect = true

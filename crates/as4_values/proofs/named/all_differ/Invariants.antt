@@ -1,6 +1,6 @@
 use Rattle.std.proofs.Common.{◌≡◌, map, drop}
-use Rattle.as4_effects.specs.Pairing.{all_differ}
-use Rattle.as4_effects.proofs.named.all_differ.Given as goal
+use Rattle.as4_values.specs.Pairing.{all_differ}
+use Rattle.as4_values.proofs.named.all_differ.Given as goal
 
 -- those so far differ from all others
 abbrev pub invariant-loop-at : goal.invariant-loop-at

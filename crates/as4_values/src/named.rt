@@ -1,12 +1,12 @@
-//! What has a Content-ID, and what a list of it names.
+//! Items with a Content-ID, and lists of them.
 
 ghost use Rattle.std.specs.Prelude.{◌≡◌, ℕ, List, map};
 ghost use Rattle.std.specs.List.{list_all};
-ghost use Rattle.as4_effects.specs.Pairing.{is_among, all_differ};
+ghost use Rattle.as4_values.specs.Pairing.{is_among, all_differ};
 
-use as4_values::{Octets, Payload};
+use crate::{Octets, Payload};
 
-/// What has a Content-ID (RFC 2392).
+/// An item with a Content-ID (RFC 2392).
 pub trait Named {
     ghost name: { Self → List ℕ };
 
@@ -41,7 +41,7 @@ fn is_among<T: Named>(items: &[T], cid: &[u8]) -> bool
     false
 }
 
-/// Whether no two of the items have one Content-ID.
+/// Whether no two of the items have the same Content-ID.
 #[tactic(auto, using(crate::proofs::PairingLemmas::all_differ_step), unfolding(crate::specs::Pairing::all_differ))]
 pub fn all_differ<T: Named>(items: &[T]) -> bool
     ensures { result ≡ all_differ (map T.name items.now) }
@@ -54,7 +54,7 @@ pub fn all_differ<T: Named>(items: &[T]) -> bool
     true
 }
 
-/// Whether each Content-ID of the items is one of the others.
+/// Whether the Content-ID of each item is also that of one of the others.
 pub fn are_among<T: Named, U: Named>(items: &[T], others: &[U]) -> bool
     ensures { result ≡ list_all (is_among (map U.name others.now)) (map T.name items.now) }
 {

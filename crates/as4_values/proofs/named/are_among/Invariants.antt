@@ -1,7 +1,7 @@
 use Rattle.std.proofs.Common.{◌≡◌, map, drop}
 use Rattle.std.specs.List.{list_all}
-use Rattle.as4_effects.specs.Pairing.{is_among}
-use Rattle.as4_effects.proofs.named.are_among.Given as goal
+use Rattle.as4_values.specs.Pairing.{is_among}
+use Rattle.as4_values.proofs.named.are_among.Given as goal
 
 -- those so far are among the others
 abbrev pub invariant-loop-item : goal.invariant-loop-item

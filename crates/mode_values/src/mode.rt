@@ -1,15 +1,13 @@
-ghost use Rattle.std.specs.Prelude.{IsTrue};
-ghost use Rattle.as4_values.specs.ModeRanges.{is_mode_name, is_short, is_short_side, is_short_service, is_mode_agreement, is_mode_route, may_collect, IsRetries, IsPeriod};
+//! Processing modes.
 
-use crate::header::{Agreement, Service, Side};
-use crate::memory::NoMemory;
-use crate::plain_data::{PlainData, try_clone_four};
-use crate::route::Route;
-use crate::text::Text;
+ghost use Rattle.std.specs.Prelude.{IsTrue};
+ghost use Rattle.mode_values.specs.ModeRanges.{is_mode_name, is_short, is_short_side, is_short_service, is_mode_agreement, is_mode_route, may_collect, IsRetries, IsPeriod};
+
+use as4_values::{Agreement, NoMemory, PlainData, Route, Service, Side, Text, try_clone_four};
 use std::alloc::Global;
 
-/// A processing mode (P-Mode, ebMS 3.0 Core, section 4 and appendix D): what two parties have agreed on for
-/// one kind of user message. Its texts have at most 255 bytes.
+/// A processing mode (P-Mode, ebMS 3.0 Core, section 4 and appendix D): what two parties have agreed on for one kind of
+/// user message. Its texts have at most 255 bytes.
 #[derive(Drop)]
 pub struct Mode {
     /// 1 to 64 letters, digits, `-`, `_` and `.`.
@@ -25,7 +23,7 @@ pub struct Mode {
     pub retries: u32,
     /// The time between two tries, 1 to 1,000,000,000 milliseconds.
     pub period: u64,
-    /// Whether this end sends the pull requests; only where the route is a pull.
+    /// Whether this endpoint sends the pull requests; true only where the route is a pull.
     pub collect: bool,
     pub ghost named: { IsTrue (is_mode_name name) },
     pub ghost from_short: { IsTrue (is_short_side from.parties from.role) },

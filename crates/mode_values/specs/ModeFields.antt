@@ -1,10 +1,10 @@
--- What a side and a mode hold, without the facts that their types keep: two with the same are the same.
+-- The fields of a side and of a mode, without the facts that their types keep: values with the same fields are equal.
 use Rattle.std.specs.Prelude.{ℕ, List, Bool, Option}
 use Rattle.as4_values.specs.declared.header.Party.{Party}
 use Rattle.as4_values.specs.declared.header.Side.{Side}
 use Rattle.as4_values.specs.declared.header.Agreement.{Agreement}
 use Rattle.as4_values.specs.declared.header.Service.{Service}
-use Rattle.as4_values.specs.declared.mode.Mode.{Mode}
+use Rattle.mode_values.specs.declared.mode.Mode.{Mode}
 use Rattle.as4_values.specs.declared.route.Route.{Route}
 
 pub record SideFields : Type 0 where

@@ -3,21 +3,21 @@ use Rattle.std.specs.Prelude.{◌≡◌, ℕ, List, Bool, true, false, ◌&&◌,
 use Rattle.std.specs.Cmp.Lexicographic.{pointwise}
 use Rattle.std.specs.List.{find}
 use Rattle.std.specs.Str.{bytes_eq}
-use Rattle.as4_values.specs.ModeFields.{SideFields, ModeFields, side_fields, mode_fields}
+use Rattle.mode_values.specs.ModeFields.{SideFields, ModeFields, side_fields, mode_fields}
 use Rattle.as4_values.specs.declared.header.Party.{Party}
 use Rattle.as4_values.specs.declared.header.Agreement.{Agreement}
 use Rattle.as4_values.specs.declared.header.Service.{Service}
 use Rattle.as4_values.specs.declared.header.UserHeader.{UserHeader}
-use Rattle.as4_values.specs.declared.mode.Mode.{Mode}
+use Rattle.mode_values.specs.declared.mode.Mode.{Mode}
 use Rattle.as4_values.specs.declared.route.Route.{Route}
 use Rattle.as4_values.specs.declared.route.Route.TheVariants.{Push, Pull}
 
--- what is matched of an agreement
+-- the fields of an agreement that are matched
 pub record Agreed : Type 0 where
   pub value : List ℕ
   pub kind : Option (List ℕ)
 
--- what a mode and a header are matched by
+-- the fields by which a mode and a header are matched
 pub record Terms : Type 0 where
   pub from : SideFields
   pub to : SideFields
@@ -54,7 +54,7 @@ header_terms header = record {
 abbrev pub Matches : Mode → UserHeader → Type 0
 Matches mode header = mode_terms mode ≡ header_terms header
 
--- equality, as a test
+-- equality, as a Boolean test
 abbrev pub is_same_kind : Option (List ℕ) → Option (List ℕ) → Bool
 is_same_kind None None = true
 is_same_kind (Some a) (Some b) = bytes_eq a b

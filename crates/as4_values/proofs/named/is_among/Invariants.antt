@@ -1,6 +1,6 @@
 use Rattle.std.proofs.Common.{◌≡◌, map, drop}
-use Rattle.as4_effects.specs.Pairing.{is_among}
-use Rattle.as4_effects.proofs.named.is_among.Given as goal
+use Rattle.as4_values.specs.Pairing.{is_among}
+use Rattle.as4_values.proofs.named.is_among.Given as goal
 
 -- none of the items so far has it
 abbrev pub invariant-loop-item : goal.invariant-loop-item

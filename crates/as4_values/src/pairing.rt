@@ -1,10 +1,10 @@
 //! Which payloads a header names (ebMS 3.0 Core, section 5.2.2.13; RFC 2392).
 
 ghost use Rattle.std.specs.Prelude.{◌≡◌, IfOk, option_map, option_and_then};
-ghost use Rattle.as4_effects.specs.Pairing.{cid_in, named_by, pair};
+ghost use Rattle.as4_values.specs.Pairing.{cid_in, named_by, pair};
 
 use crate::named::{all_differ, are_among};
-use as4_values::{NoMemory, Octets, PartInfo, Payload};
+use crate::{NoMemory, Octets, PartInfo, Payload};
 use percent_encoding::percent_decode;
 use std::alloc::Global;
 
@@ -26,7 +26,7 @@ pub fn pairs(alloc: Global, parts: &[PartInfo], payloads: &[Payload]) -> Result<
     )
 }
 
-/// The Content-IDs that the part infos name, and nothing where one of them names none.
+/// The Content-IDs that the part infos name; None where a part info names none.
 #[tactic(auto, unfolding(crate::specs::Pairing::named_by))]
 fn names_of(alloc: Global, parts: &[PartInfo]) -> Result<Option<Vec<Octets>>, NoMemory>
     ensures { IfOk result (λ names. option_map (λ list. list.items) names ≡ named_by parts.now) }
@@ -50,7 +50,7 @@ fn name_of(alloc: Global, part: &PartInfo) -> Result<Option<Octets>, NoMemory>
     }
 }
 
-/// The Content-ID that a reference names: what follows `cid:`, in any case, with its escapes resolved (RFC 2392).
+/// The Content-ID that a reference names: the bytes after `cid:` (in any case), with their escapes resolved (RFC 2392).
 #[tactic(auto, unfolding(crate::specs::Pairing::cid_in))]
 pub fn cid_in(alloc: Global, href: &[u8]) -> Result<Option<Octets>, NoMemory>
     ensures { IfOk result (λ cid. cid ≡ cid_in href.now) }

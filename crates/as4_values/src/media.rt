@@ -1,13 +1,18 @@
+//! Media texts: the Content-Type of a payload.
+
 ghost use Rattle.std.specs.Prelude.{◌≡◌, ◌-◌, ◌&&◌, ◌||◌, ◌==◌, nat_lt, not, length, slice_index};
 ghost use Rattle.std.specs.List.{list_all};
-ghost use Rattle.as4_values.specs.Payload.{is_media_text, is_space};
+ghost use Rattle.as4_values.specs.Payload.{is_media_text};
+ghost use Rattle.byte_forms.specs.Classes.{is_space};
 
-/// How many bytes a media text has at most.
+use byte_forms::is_space;
+
+/// The most bytes of a media text.
 const MAX_MEDIA: usize = 1024;
 
-/// Whether the bytes are a media text (RFC 2045, section 5.1): one line of at most 1,024 bytes without a space
-/// or tab at either end, or nothing.
-#[tactic(auto, unfolding(as4_values::specs::Payload::is_media_text))]
+/// Whether the bytes are a media text (RFC 2045, section 5.1): empty, or one line of at most 1,024 bytes without a
+/// space or tab at either end.
+#[tactic(auto, unfolding(crate::specs::Payload::is_media_text))]
 pub fn is_media_text(bytes: &[u8]) -> bool
     ensures { result ≡ is_media_text bytes.now }
 {
@@ -29,10 +34,4 @@ fn has_space_at_end(bytes: &[u8]) -> bool
         return false;
     }
     is_space(bytes[0]) || is_space(bytes[bytes.len() - 1])
-}
-
-fn is_space(byte: u8) -> bool
-    ensures { result ≡ is_space byte }
-{
-    byte == b' ' || byte == b'\t'
 }

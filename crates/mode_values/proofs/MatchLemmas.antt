@@ -6,8 +6,8 @@ use Rattle.std.specs.Str.{bytes_eq}
 use Rattle.std.proofs.lemmas.Bool.{false≢true}
 use Rattle.std.proofs.lemmas.Bool.Decides.{Decides-and, Decides-like, same_from_decides}
 use Rattle.std.proofs.lemmas.Slice.Eq.{slice_eq-Decides, bytes_eq-Decides}
-use Rattle.as4_values.specs.ModeFields.{SideFields}
-use Rattle.as4_values.specs.ModeMatch.{Agreed, Terms, is_same_kind, is_same_party, are_same_parties, is_same_side, is_same_service, is_same_agreed, are_same_terms}
+use Rattle.mode_values.specs.ModeFields.{SideFields}
+use Rattle.mode_values.specs.ModeMatch.{Agreed, Terms, is_same_kind, is_same_party, are_same_parties, is_same_side, is_same_service, is_same_agreed, are_same_terms}
 use Rattle.as4_values.specs.declared.header.Party.{Party}
 use Rattle.as4_values.specs.declared.header.Service.{Service}
 
@@ -79,7 +79,7 @@ decides_agreed (Some a) (Some b) = let d : Decides (is_same_agreed (Some a) (Som
 decides_agreed None (Some b) = (λ h. absurd (false≢true h), λ e. cc)
 decides_agreed (Some a) None = (λ h. absurd (false≢true h), λ e. cc)
 
--- the test of the match is equality of what is matched
+-- the test of the match decides equality of the matched fields
 pub decides_terms : (a b : Terms) → Decides (are_same_terms a b) (a ≡ b)
 unfolding are_same_terms
 decides_terms a b =
@@ -89,7 +89,7 @@ decides_terms a b =
     (Decides-and _ _ (bytes_eq-Decides a.action b.action) (Decides-and _ _ (decides_service a.service b.service) (Decides-and _ _ (decides_side a.from b.from)
     (Decides-and _ _ (decides_side a.to b.to) (decides_agreed a.agreement b.agreement)))))
 
--- what is known of `same` is what the tests say
+-- a result that decides equality agrees with the test
 pub kind_tested : (a b : Option (List ℕ)) (r : Bool) → (IsTrue r ↔ (a ≡ b)) → r ≡ is_same_kind a b
 kind_tested a b r known = same_from_decides r (is_same_kind a b) (known.0, known.1) (decides_kind a b)
 
