@@ -1,5 +1,5 @@
-//! The program `as4`: the words behind its name and the system's streams, given to `as4_tool`.
-//! `as4 --help` shows the words.
+//! The program `as4`: passes the words after its name and the system's streams to `as4_tool`. `as4 --help` shows the
+//! words.
 #![tactic(auto)]
 
 use as4_flow::{ReaderSource, Sink, WriterSink};
@@ -23,7 +23,7 @@ fn main(rt: HostRuntime) -> ExitCode {
     ExitCode::from(run(rt.alloc(), &words, &mut input, &mut output, &mut errors))
 }
 
-// The words behind the program's name. One that isn't UTF-8 makes them bad words.
+// The words after the program's name. `BadWords` if one of them isn't UTF-8.
 fn words_of<R: Env + AllocGlobal>(rt: &R) -> Result<Seq<Octets>, Status> {
     let args = match env::args(rt) {
         Ok(args) => args,
@@ -39,7 +39,7 @@ fn words_of<R: Env + AllocGlobal>(rt: &R) -> Result<Seq<Octets>, Status> {
     Ok(Seq::of(words))
 }
 
-// Tells what came before the run.
+// Reports a failure before the run.
 fn refused<E: Sink>(errors: &mut E, status: Status) -> ExitCode {
     status.tell(errors);
     ExitCode::from(status.code())

@@ -1,5 +1,5 @@
-//! Runs the example scripts of `data`, as `as4 drill` does, and checks its messages, as `as4 check` does, and compares what
-//! each writes with the text beside it. Prints a line for each, and ends with 1 where one of them differs.
+//! Runs the example scripts of `data` like `as4 drill`, checks the example messages like `as4 check`, and compares each
+//! output with the expected text. Prints a line for each, and exits with 1 if any of them differs.
 #![tactic(auto)]
 
 use as4_flow::{MemorySink, MemorySource};
@@ -10,8 +10,8 @@ use std::process::ExitCode;
 use std::rt::Files;
 use std::{fs, io};
 
-/// The names of the files, their endings, and the commands that read them. `NAME.ENDING` leads to `NAME.txt`. The messages
-/// are as other handlers write them.
+/// The names of the files, their extensions, and the commands that read them. `NAME.txt` is the expected output for
+/// `NAME.EXTENSION`. The messages are in the form that other handlers write.
 const EXAMPLES: [(&str, &str, &str); 11] = [
     ("both-ends-crash", "drill", "drill"),
     ("bundled-pulls", "drill", "drill"),
@@ -37,7 +37,7 @@ fn main(rt: HostRuntime) -> io::Result<ExitCode> {
     Ok(ExitCode::from(u8::from(!all_agree)))
 }
 
-// Whether the command writes of the file the text beside it.
+// Whether the command's output for the file is the expected text.
 fn agrees<R: Files + AllocGlobal>(
     rt: &R,
     name: &str,
@@ -49,7 +49,7 @@ fn agrees<R: Files + AllocGlobal>(
     Ok(writes(rt, command, file, &text)?)
 }
 
-// Whether the command writes this text of the input, tells nothing on the errors and ends with 0.
+// Whether the command writes this text for the input, reports nothing on the errors, and ends with 0.
 fn writes<R: AllocGlobal>(
     rt: &R,
     command: &str,

@@ -1,11 +1,11 @@
--- Which part infos refer to a part, and which to something else.
+-- Which part infos refer to a part of the package, and which refer to something else.
 use Rattle.std.proofs.Common.{◌≡◌, ℕ, List, [], ◌∷◌, Bool, true, false, Option, Some, None, Result, Ok, Err, map, refl, sym, ap, ◌∙◌, inl, inr, cond}
 use Rattle.std.specs.Prelude.{◌||◌, option_and_then}
 use Rattle.std.specs.Option.{is_none}
 use Rattle.std.specs.List.{list_any}
 use Rattle.std.proofs.lemmas.Simd.{map-map}
 use Rattle.as4_values.specs.declared.header.PartInfo.{PartInfo}
-use Rattle.as4_effects.specs.Pairing.{cid_in, named_by, are_paired}
+use Rattle.as4_values.specs.Pairing.{cid_in, named_by, are_paired}
 use Rattle.mime_fields.specs.Fields.{PartValue}
 use Rattle.byte_forms.proofs.CutLemmas.{cases_option}
 use Rattle.as4_message.specs.Attached.{AttachedValue, is_inside, is_outside, all_attached, paired, attach, attached_value}
@@ -20,7 +20,7 @@ none_of_rest : (cid : List ℕ) (rest : Option (List (List ℕ))) → is_none (o
 none_of_rest cid None = refl
 none_of_rest cid (Some cids) = refl
 
--- where all refer to something that may be a part, names are given exactly where none is outside
+-- if each part info refers to something that may be a part, a name is read from each exactly where none is outside
 outside_is : (infos : List PartInfo) → list_any is_inside infos ≡ false → list_any is_outside infos ≡ is_none (named_by infos)
 unfolding named_by
 outside_is [] none = refl
@@ -34,7 +34,7 @@ outside_is (info ∷ infos) none =
       ]
     ]
 
--- the answers of the first two rows, and of the others
+-- the result of `attach` in the first two cases, and in the others
 pub attach_inside : (infos : List PartInfo) (parts : List PartValue) → list_any is_inside infos ≡ true → attach infos parts ≡ Err NOT_SUPPORTED
 unfolding attach
 attach_inside infos parts inside = rw inside refl

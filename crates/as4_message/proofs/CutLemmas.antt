@@ -1,4 +1,4 @@
--- The first place of a needle is where the bytes are cut.
+-- The bytes are cut at the first occurrence of the needle.
 use Rattle.std.proofs.Common.{◌≡◌, ℕ, zero, suc, true, nat_eq, subst, ◌+◌, ◌<◌, ◌≤◌, List, [], ◌∷◌, ◌++◌, Some, None, length, take, drop, arith, refl, ap, sym, ◌∙◌, length-append, inl, inr}
 use Rattle.std.proofs.lemmas.Bool.{cases_Bool}
 use Rattle.std.specs.Prelude.{slice_index}
@@ -16,7 +16,7 @@ occurs_here front needle back = record {
   reads = λ j below. get_or-append-add front (needle ++ back) j 0 ∙ get_or_append_left needle back 0 j below;
 }
 
--- a place in the tail is the next place in the whole
+-- an occurrence in the tail is one place later in the whole
 shifted : (x : ℕ) (xs needle : List ℕ) (k : ℕ) → OccursAt (x ∷ xs) needle (suc k) → OccursAt xs needle k
 shifted x xs needle k occurs = record {
   fits = omega (arith, occurs.fits);
@@ -29,7 +29,7 @@ unshifted x xs needle k occurs = record {
   reads = λ j below. let place : suc k + j ≡ suc (k + j) = omega arith in ap (λ i. slice_index (x ∷ xs) i) place ∙ occurs.reads j below;
 }
 
--- at place 0 the needle stands where the bytes start with it
+-- the needle occurs at place 0 where the bytes start with it
 at_start : (hay needle : List ℕ) → OccursAt hay needle 0 → starts_with nat_eq hay needle ≡ true
 at_start hay needle occurs =
     let tail = at_from_reads 0 hay needle 0 occurs.fits occurs.reads in

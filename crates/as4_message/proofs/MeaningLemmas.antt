@@ -1,11 +1,16 @@
--- One meaning, and the errors by which something is refused.
+-- Each input has one meaning, and each refusal has a code of the table.
 use Rattle.std.proofs.Common.{◌≡◌, ℕ, List, [], ◌∷◌, Bool, true, false, Option, Some, None, Result, Ok, Err, refl, sym, ap, ◌∙◌, inl, inr, map, cond, subst}
-use Rattle.std.specs.Prelude.{IsSome}
+use Rattle.std.specs.Prelude.{IfOk, IsSome, IsTrue}
 use Rattle.std.specs.List.{list_any}
 use Rattle.as4_envelope.specs.declared.tree.Element.{Element}
 use Rattle.as4_values.specs.declared.header.PartInfo.{PartInfo}
 use Rattle.as4_values.specs.declared.header.UserHeader.{UserHeader}
-use Rattle.as4_effects.specs.Pairing.{named_by, are_paired}
+use Rattle.std.proofs.lemmas.Simd.{map-map}
+use Rattle.as4_values.specs.Pairing.{named_by, are_paired, pair as parts_pair}
+use Rattle.as4_values.specs.declared.message.Message.{Message}
+use Rattle.as4_values.specs.declared.message.Pair.{Pair}
+use Rattle.as4_values.specs.declared.payload.Payload.{Payload}
+use Rattle.as4_values.specs.declared.signal.Signal.{Signal}
 use Rattle.as4_values.specs.declared.message.Unit.{Unit as MessageUnit}
 use Rattle.as4_values.specs.declared.message.Unit.TheVariants as unit
 use Rattle.as4_codes.specs.ErrorCodes.{error_row, error_table}
@@ -18,8 +23,8 @@ use Rattle.mime_package.specs.Reading.{PackageValue, package_of}
 use Rattle.mime_package.specs.declared.read.MimeRefusal.{MimeRefusal}
 use Rattle.mime_package.specs.declared.read.MimeRefusal.TheVariants as mime
 use Rattle.as4_message.specs.Attached.{AttachedValue, is_inside, is_outside, all_attached, attach, paired}
-use Rattle.as4_message.specs.Meaning.{ReceivedValue, signal, pair, RootMeans, PackageMeans, Means, refused, package_code, unit_or_code, user_with, alone, unit_with, root_with, AnswersBy, received_value}
-use Rattle.as4_message.specs.declared.error_codes.TheConstants.{INVALID_HEADER}
+use Rattle.as4_message.specs.Meaning.{ReceivedValue, user, signal, pair, HasItsParts, ArePaired, IsMessage, payload_value, RootMeans, PackageMeans, Means, refused, package_code, unit_or_code, user_with, alone, unit_with, root_with, AnswersBy, received_value}
+use Rattle.as4_message.specs.declared.error_codes.TheConstants.{EXTERNAL, INCONSISTENT, INVALID_HEADER, NOT_SUPPORTED}
 use Rattle.as4_message.specs.declared.received.Received.{Received}
 use Rattle.as4_message.specs.declared.received.Refusal.{Refusal}
 use Rattle.as4_message.specs.declared.received.MessageRefusal.{MessageRefusal}
@@ -51,7 +56,7 @@ some_of_package (Ok whole) none = some_root whole.root (λ root means. none (roo
 pub some_meaning : (media body : List ℕ) → ((meant : Result ReceivedValue Refusal) → Means media body meant → ⊥) → ⊥
 some_meaning media body none = some_of_package (package_of media body) none
 
--- the table of errors has each code by which something is refused
+-- the table of errors has each code of a refusal
 
 abbrev IsKnown : {X : Type 0} → Result X ℕ → Type 0
 IsKnown (Ok x) = Unit {0}
@@ -136,3 +141,67 @@ refusal_is_known media body refusal means = known_meaning (package_of media body
 pub known_of : (media body : List ℕ) (r : Result Received MessageRefusal) → AnswersBy received_value r (Means media body) → (refusal : Refusal) → r ≡ Err (Refused refusal) → IsSome (error_row refusal.code)
 known_of media body r answers refusal is =
     refusal_is_known media body refusal (subst (λ (x : Result Received MessageRefusal). AnswersBy received_value x (Means media body)) is answers)
+
+-- a user message has the parts that its header names
+
+taken : {X : Type 0} (b : Bool) (x y : X) (code : ℕ) → cond b (Ok x) (Err code) ≡ Ok y → (b ≡ true) × (x ≡ y)
+taken true x y code e = (refl, cc)
+taken false x y code e = absurd cc
+
+not_refused : {X : Type 0} (b : Bool) (code : ℕ) (other : Result X ℕ) (y : X) → cond b (Err code) other ≡ Ok y → other ≡ Ok y
+not_refused true code other y e = absurd cc
+not_refused false code other y e = e
+
+pairing_holds : (names : Option (List (List ℕ))) (parts : Option (List AttachedValue)) (found : List AttachedValue) → paired names parts ≡ Ok found → are_paired names (map (λ part. part.cid) found) ≡ true
+pairing_holds names None found e = absurd cc
+pairing_holds names (Some parts) found e =
+    let both = taken (are_paired names (map (λ part. part.cid) parts)) parts found INCONSISTENT e in
+    subst (λ (l : List AttachedValue). are_paired names (map (λ part. part.cid) l) ≡ true) both.1 both.0
+
+attached_are_paired : (infos : List PartInfo) (parts : List PartValue) (found : List AttachedValue) → attach infos parts ≡ Ok found → are_paired (named_by infos) (map (λ part. part.cid) found) ≡ true
+unfolding attach
+attached_are_paired infos parts found e =
+    pairing_holds (named_by infos) (all_attached parts) found
+    (not_refused (list_any is_outside infos) EXTERNAL _ found (not_refused (list_any is_inside infos) NOT_SUPPORTED _ found e))
+
+abbrev IfReceived : Result ReceivedValue Refusal → Type 0
+IfReceived (Ok received) = HasItsParts received
+IfReceived (Err refusal) = Unit {0}
+
+user_has_parts : (header : UserHeader) (read : Result (List AttachedValue) ℕ) → ((found : List AttachedValue) → read ≡ Ok found → are_paired (named_by header.parts) (map (λ part. part.cid) found) ≡ true) → IfReceived (user_with header read)
+user_has_parts header (Ok parts) each = each parts refl
+user_has_parts header (Err code) each = tt
+
+signal_has_parts : (parts : List PartValue) (s : Signal) → IfReceived (alone parts s.id (signal s))
+signal_has_parts [] s = tt
+signal_has_parts (part ∷ parts) s = tt
+
+pair_has_parts : (parts : List PartValue) (p : Pair) → IfReceived (alone parts p.receipt.id (pair p))
+pair_has_parts [] p = tt
+pair_has_parts (part ∷ parts) p = tt
+
+root_has_parts : (parts : List PartValue) (read : Result MessageUnit ℕ) → IfReceived (root_with parts read)
+root_has_parts parts (Ok (unit.User header)) = user_has_parts header (attach header.parts parts) (attached_are_paired header.parts parts)
+root_has_parts parts (Ok (unit.Signal s)) = signal_has_parts parts s
+root_has_parts parts (Ok (unit.Pair p)) = pair_has_parts parts p
+root_has_parts parts (Err code) = tt
+
+package_has_parts : (read : Result PackageValue MimeRefusal) (meant : Result ReceivedValue Refusal) → PackageMeans read meant → IfReceived meant
+package_has_parts (Err refusal) meant is = subst IfReceived (sym is) tt
+package_has_parts (Ok whole) meant is = subst IfReceived (sym is.2) (root_has_parts whole.parts is.0)
+
+pub parts_of : (media body : List ℕ) (r : Result Received MessageRefusal) → AnswersBy received_value r (Means media body) → IfOk r (λ received. HasItsParts (received_value received))
+parts_of media body (Ok received) answers = package_has_parts (package_of media body) (Ok (received_value received)) answers
+parts_of media body (Err refusal) answers = tt
+
+ids_of : (payloads : List Payload) → map (λ part. part.cid) (map payload_value payloads) ≡ map (λ payload. payload.cid) payloads
+ids_of payloads = map-map (λ part. part.cid) payload_value payloads
+
+-- and so does its copy
+pub copy_is_paired : (received : ReceivedValue) (m : Message) → HasItsParts received → IsMessage received m → ArePaired m
+unfolding parts_pair
+copy_is_paired (user header parts) m has is =
+    let ids : map (λ part. part.cid) parts ≡ map (λ payload. payload.cid) is.0 = ap (map (λ part. part.cid)) is.1 ∙ ids_of is.0 in
+    subst ArePaired (sym is.2) (subst (λ (l : List (List ℕ)). are_paired (named_by header.parts) l ≡ true) ids has)
+copy_is_paired (signal s) m has is = subst ArePaired (sym is) tt
+copy_is_paired (pair p) m has is = subst ArePaired (sym is) tt

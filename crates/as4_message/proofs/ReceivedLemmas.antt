@@ -1,4 +1,4 @@
--- What is no package, and what an envelope's bytes mean.
+-- The meaning of a body that is not a package, and of an envelope's bytes.
 use Rattle.std.proofs.Common.{◌≡◌, ℕ, List, Option, Some, None, Result, Ok, Err, refl, sym, ap, ◌∙◌}
 use Rattle.mime_package.specs.Answers.{Answers}
 use Rattle.mime_package.specs.Reading.{package_of}

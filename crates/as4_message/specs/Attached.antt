@@ -1,9 +1,9 @@
--- How a header refers to the parts of its package (ebMS 3.0 Core, section 5.2.2.13; RFC 2392), and by which error it is
--- refused where it doesn't (ebMS 3.0 Core, section 6.7.1).
+-- How a header refers to the parts of its package (ebMS 3.0 Core, section 5.2.2.13; RFC 2392), and the error that
+-- refuses it otherwise (ebMS 3.0 Core, section 6.7.1).
 use Rattle.std.specs.Prelude.{ℕ, List, [], ◌∷◌, Bool, true, false, if◌then◌else◌, Option, Some, None, option_map, Result, Ok, Err, nat_eq, codes, map, is_none}
 use Rattle.std.specs.List.{list_any, starts_with}
 use Rattle.as4_values.specs.declared.header.PartInfo.{PartInfo}
-use Rattle.as4_effects.specs.Pairing.{cid_in, named_by, are_paired}
+use Rattle.as4_values.specs.Pairing.{cid_in, named_by, are_paired}
 use Rattle.byte_forms.specs.Cuts.{◌>>=◌}
 use Rattle.mime_fields.specs.Fields.{PartValue}
 use Rattle.as4_message.specs.declared.attachment.Attachment.{Attachment}
@@ -15,33 +15,33 @@ pub record AttachedValue : Type 0 where
   pub media : List ℕ
   pub content : List ℕ
 
--- what is lent, without where it lies in memory
+-- a borrowed part as a value, without its address in memory
 abbrev pub attached_value : Attachment → AttachedValue
 attached_value part = record { cid = part.cid; media = part.media; content = part.content.now }
 
 abbrev pub attached : PartValue → Option AttachedValue
 attached part = option_map (λ cid. record { cid = cid; media = part.media; content = part.content }) part.id
 
--- all parts, and nothing where one has no Content-ID
+-- all parts, or `None` if one has no Content-ID
 unfoldable pub all_attached : List PartValue → Option (List AttachedValue)
 all_attached [] = Some []
 all_attached (part ∷ parts) = attached part >>= λ first. option_map (λ others. first ∷ others) (all_attached parts)
 
--- a part info has no reference, which means the SOAP body (section 5.2.2.13), or one to something in the envelope itself
+-- a part info without a reference, which means the SOAP body (section 5.2.2.13), or with one into the envelope itself
 abbrev pub is_inside : PartInfo → Bool
 is_inside info = elim info.href [
   | None ↦ true
   | Some href ↦ starts_with nat_eq href (codes "#")
 ]
 
--- it refers to something that no part of a package can be
+-- a part info whose reference names no Content-ID
 abbrev pub is_outside : PartInfo → Bool
 is_outside info = elim info.href [
   | None ↦ false
   | Some href ↦ is_none (cid_in href)
 ]
 
--- the parts, of which each is named once, each by its own Content-ID
+-- the parts, if each is named exactly once by its Content-ID; else INCONSISTENT
 abbrev pub paired : Option (List (List ℕ)) → Option (List AttachedValue) → Result (List AttachedValue) ℕ
 paired names None = Err INCONSISTENT
 paired names (Some parts) = if are_paired names (map (λ part. part.cid) parts) then Ok parts else Err INCONSISTENT

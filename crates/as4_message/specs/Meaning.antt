@@ -1,7 +1,8 @@
--- What a media text and a body mean: a message, or a refusal, by the first of the errors below that is one (ebMS 3.0 Core,
--- section 6.7.1). And what a reader of them answers.
-use Rattle.std.specs.Prelude.{◌≡◌, ◌⊎◌, ℕ, List, [], ◌∷◌, Option, Some, None, Result, Ok, Err, map}
+-- The meaning of a media text and a body: a message, or a refusal with the first of the errors below that applies (ebMS
+-- 3.0 Core, section 6.7.1). And the result of a reader.
+use Rattle.std.specs.Prelude.{◌≡◌, ◌⊎◌, ℕ, List, [], ◌∷◌, Option, Some, None, Result, Ok, Err, IsTrue, map}
 use Rattle.as4_envelope.specs.declared.tree.Element.{Element}
+use Rattle.as4_values.specs.Pairing.{named_by, are_paired, pair as parts_pair}
 use Rattle.as4_values.specs.declared.header.UserHeader.{UserHeader}
 use Rattle.as4_values.specs.declared.payload.Payload.{Payload}
 use Rattle.as4_values.specs.declared.signal.Signal.{Signal}
@@ -26,13 +27,13 @@ use Rattle.as4_message.specs.declared.received.Refusal.{Refusal}
 use Rattle.as4_message.specs.declared.received.MessageRefusal.{MessageRefusal}
 use Rattle.as4_message.specs.declared.received.MessageRefusal.TheVariants.{Refused, NoMemory}
 
--- a message as it came: a header and the parts that it refers to, a signal, or a pair
+-- a message as received: a header and the parts that it refers to, a signal, or a pair
 pub data ReceivedValue : Type 0 where
   user : UserHeader → List AttachedValue → ReceivedValue
   signal : Signal → ReceivedValue
   pair : Pair → ReceivedValue
 
--- what is lent, without where it lies in memory
+-- a borrowed message as a value, without its address in memory
 abbrev pub received_value : Received → ReceivedValue
 received_value (lent.User header parts) = user header (map attached_value parts.items)
 received_value (lent.Signal s) = signal s
@@ -41,7 +42,7 @@ received_value (lent.Pair p) = pair p
 abbrev pub refused : {X : Type 0} → ℕ → Option (List ℕ) → Result X Refusal
 refused code about = Err (record { code = code; about = about })
 
--- what is no package: MimeInconsistency, or FeatureNotSupported where a part is encoded for transfer
+-- the code of a body that is not a package: MimeInconsistency, or FeatureNotSupported if a part has a transfer encoding
 abbrev pub package_code : MimeRefusal → ℕ
 package_code mime_refusal.BadType = INCONSISTENT
 package_code mime_refusal.NoBoundary = INCONSISTENT
@@ -50,7 +51,7 @@ package_code mime_refusal.NoRoot = INCONSISTENT
 package_code (mime_refusal.Encoding index) = NOT_SUPPORTED
 package_code mime_refusal.NoMemory = INCONSISTENT
 
--- what is no envelope of a unit: InvalidHeader, or FeatureNotSupported
+-- the code of an envelope that holds no unit: InvalidHeader or FeatureNotSupported
 abbrev pub envelope_code : HeaderRefusal → ℕ
 envelope_code header_refusal.Invalid = INVALID_HEADER
 envelope_code header_refusal.Unsupported = NOT_SUPPORTED
@@ -60,13 +61,13 @@ abbrev pub unit_or_code : Result MessageUnit HeaderRefusal → Result MessageUni
 unit_or_code (Ok u) = Ok u
 unit_or_code (Err refusal) = Err (envelope_code refusal)
 
--- what the root means: the unit of its tree, or the code by which it is refused
+-- the meaning of the root: the unit of its tree, or the code that refuses it
 abbrev pub RootMeans : List ℕ → Result MessageUnit ℕ → Type 0
 RootMeans root meant =
     ((meant ≡ Err INVALID_HEADER) × ((tree : Element) → ¬ (IsDocument root tree)))
     ⊎ ((tree : Element) × IsDocument root tree × (meant ≡ unit_or_code (unit_of tree)))
 
--- a header with the parts that it refers to; a signal or a pair has no parts
+-- a header with the parts that it refers to, or the refusal of this code
 abbrev pub user_with : UserHeader → Result (List AttachedValue) ℕ → Result ReceivedValue Refusal
 user_with header (Ok parts) = Ok (user header parts)
 user_with header (Err code) = refused code (Some header.id)
@@ -84,16 +85,16 @@ abbrev pub root_with : List PartValue → Result MessageUnit ℕ → Result Rece
 root_with parts (Ok u) = unit_with parts u
 root_with parts (Err code) = refused code None
 
--- what a package means
+-- the meaning of a package
 abbrev pub PackageMeans : Result PackageValue MimeRefusal → Result ReceivedValue Refusal → Type 0
 PackageMeans (Err refusal) meant = meant ≡ refused (package_code refusal) None
 PackageMeans (Ok whole) meant = (root : Result MessageUnit ℕ) × RootMeans whole.root root × (meant ≡ root_with whole.parts root)
 
--- what a media text and a body mean
+-- the meaning of a media text and a body
 abbrev pub Means : List ℕ → List ℕ → Result ReceivedValue Refusal → Type 0
 Means media body meant = PackageMeans (package_of media body) meant
 
--- the message itself, with its parts as payloads
+-- a payload of the message as a value
 abbrev pub payload_value : Payload → AttachedValue
 payload_value payload = record { cid = payload.cid; media = payload.media; content = payload.content }
 
@@ -102,18 +103,30 @@ IsMessage (user header parts) m = (payloads : List Payload) × (parts ≡ map pa
 IsMessage (signal s) m = m ≡ message.Signal s
 IsMessage (pair p) m = m ≡ message.Pair p
 
--- what a reader returned, of which something holds; for want of memory nothing is said
+-- for a user message: each part info names one of its payloads, each payload is named, and none is named twice
+abbrev pub HasItsParts : ReceivedValue → Type 0
+HasItsParts (user header parts) = IsTrue (are_paired (named_by header.parts) (map (λ part. part.cid) parts))
+HasItsParts (signal s) = Unit {0}
+HasItsParts (pair p) = Unit {0}
+
+-- the same for the message itself
+abbrev pub ArePaired : Message → Type 0
+ArePaired (message.User header payloads) = IsTrue (parts_pair header.parts payloads)
+ArePaired (message.Signal s) = Unit {0}
+ArePaired (message.Pair p) = Unit {0}
+
+-- the reader's result has this property; nothing is said where memory ran out
 abbrev pub AnswersBy : {X Y : Type 0} → (X → Y) → Result X MessageRefusal → (Result Y Refusal → Type 0) → Type 0
 AnswersBy view (Ok x) holds = holds (Ok (view x))
 AnswersBy view (Err (Refused refusal)) holds = holds (Err refusal)
 AnswersBy view (Err NoMemory) holds = Unit {0}
 
--- the refusal of this code about this message, unless memory ran out
+-- the refusal with this code and this message, unless memory ran out
 abbrev pub Refuses : ℕ → Option (List ℕ) → MessageRefusal → Type 0
 Refuses code about (Refused refusal) = refusal ≡ record { code = code; about = about }
 Refuses code about NoMemory = Unit {0}
 
--- a message that came so, or the same refusal
+-- this holds for the received message that the result copies, or for the refusal
 abbrev pub Copies : (Result ReceivedValue Refusal → Type 0) → Result Message Refusal → Type 0
 Copies holds (Ok message) = (received : ReceivedValue) × holds (Ok received) × IsMessage received message
 Copies holds (Err refusal) = holds (Err refusal)

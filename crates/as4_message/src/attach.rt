@@ -2,18 +2,17 @@
 ghost use Rattle.std.specs.Prelude.{◌≡◌, Ok, Err, true, IfOk, Some, map, option_map, option_and_then};
 ghost use Rattle.std.specs.List.{list_any};
 ghost use Rattle.std.specs.Result.{result_map_both};
-ghost use Rattle.as4_effects.specs.Pairing.{cid_in, named_by, are_paired};
+ghost use Rattle.as4_values.specs.Pairing.{cid_in, named_by, are_paired};
 ghost use Rattle.mime_fields.specs.Lent.{part_value};
 ghost use Rattle.as4_message.specs.Attached.{is_inside, is_outside, attached, all_attached, paired, attach, attached_value};
 
 use crate::attachment::Attachment;
 use crate::error_codes::{EXTERNAL, INCONSISTENT, NOT_SUPPORTED};
-use as4_effects::{all_differ, are_among, cid_in};
-use as4_values::{NoMemory, Octets, PartInfo, PlainData};
+use as4_values::{NoMemory, Octets, PartInfo, PlainData, all_differ, are_among, cid_in};
 use mime_fields::Part;
 use std::alloc::Global;
 
-/// The parts that the part infos refer to, or the code of the error by which they are refused.
+/// The parts that the part infos refer to, or the code of the error that refuses them.
 pub(crate) fn attach<'a>(
     alloc: Global,
     infos: &[PartInfo],
@@ -32,7 +31,7 @@ pub(crate) fn attach<'a>(
     }
 }
 
-/// The parts of which each has one of these names.
+/// The parts, each of which has one of these names; else `INCONSISTENT`.
 fn attach_named<'a>(
     alloc: Global,
     names: &[Octets],
@@ -57,7 +56,7 @@ fn any_inside(infos: &[PartInfo]) -> bool
     infos.iter().any(|info| is_inside(info))
 }
 
-/// Whether a part info refers to nothing, or to something in the envelope itself.
+/// Whether the part info has no reference, or refers to something in the envelope itself.
 fn is_inside(info: &PartInfo) -> bool
     ensures { result ≡ is_inside info.now }
 {
@@ -67,8 +66,8 @@ fn is_inside(info: &PartInfo) -> bool
     }
 }
 
-/// The Content-IDs that the part infos name, and nothing where one refers to something outside of the package.
-#[tactic(auto, unfolding(as4_effects::specs::Pairing::named_by))]
+/// The Content-IDs that the part infos name, or `None` if one refers to something outside of the package.
+#[tactic(auto, unfolding(as4_values::specs::Pairing::named_by))]
 fn names_of(alloc: Global, infos: &[PartInfo]) -> Result<Option<Vec<Octets>>, NoMemory>
     ensures { IfOk result (λ names. option_map (λ list. list.items) names ≡ named_by infos.now) }
 {
@@ -91,7 +90,7 @@ fn name_of(alloc: Global, info: &PartInfo) -> Result<Option<Octets>, NoMemory>
     }
 }
 
-/// All parts, and nothing where one has no Content-ID.
+/// All parts, or `None` if one has no Content-ID.
 #[tactic(auto, unfolding(crate::specs::Attached::all_attached))]
 fn all_attached<'a>(
     alloc: Global,
@@ -122,7 +121,7 @@ fn attached<'a>(alloc: Global, part: &Part<'a>) -> Result<Option<Attachment<'a>>
     }))
 }
 
-/// Whether each Content-ID is named once, and is that of one part.
+/// Whether each Content-ID is named once, and is that of exactly one part.
 fn are_paired(names: &[Octets], parts: &[Attachment<'_>]) -> bool
     ensures { result ≡ are_paired (Some names.now) (map (λ part. part.cid) parts.now) }
 {

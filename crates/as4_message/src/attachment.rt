@@ -1,18 +1,17 @@
-//! A payload as it came.
+//! A payload as received.
 ghost use Rattle.std.specs.Prelude.{IsTrue};
 ghost use Rattle.as4_values.specs.Payload.{IsContentId, is_media_text};
 
-use as4_effects::Named;
-use as4_values::Octets;
+use as4_values::{Named, Octets};
 
-/// A payload as it came: its head owned, its content lent from the package.
+/// A payload as received: its head is owned, its content is borrowed from the package.
 #[derive(Drop)]
 pub struct Attachment<'a> {
     /// The part's Content-ID without its angle brackets (RFC 2392).
     pub cid: Octets,
     /// The part's Content-Type; empty where the part has none.
     pub media: Octets,
-    /// The part's bytes, as they came.
+    /// The part's bytes, as received.
     pub content: &'a [u8],
     pub ghost named: { IsContentId cid },
     pub ghost typed: { IsTrue (is_media_text media) },

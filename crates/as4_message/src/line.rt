@@ -1,12 +1,12 @@
-//! The line that tells what a message is:
+//! The check line, which says what a message is:
 //!
 //!     user ID                   a user message of this identifier
 //!     pull CHANNEL              a pull request for this channel
 //!     receipt ID                a receipt of this message
-//!     errors COUNT              so many errors
+//!     errors COUNT              COUNT errors
 //!     pair ID CHANNEL           a receipt of this message, bundled with a pull request for this channel
-//!     refused EBMS:CODE         by the error of this code
-//!     refused EBMS:CODE ID      about the message of this identifier
+//!     refused EBMS:CODE         refused with this code
+//!     refused EBMS:CODE ID      the same, about the message with this identifier
 
 ghost use Rattle.std.specs.Prelude.{◌≡◌, ◌++◌, OnOk, IfOk, codes, Ok, Err};
 ghost use Rattle.as4_codes.specs.ErrorCodes.{code_text};
@@ -19,16 +19,16 @@ use as4_values::{MessageId, NoMemory, Octets, Signal, SignalBody};
 use itoa::Buffer;
 use std::alloc::Global;
 
-/// What a message is, in a line.
+/// The check line of a message.
 #[derive(Drop)]
 pub struct Line {
-    /// With the LF at its end.
+    /// Ends in LF.
     pub text: Octets,
-    /// Whether it is no message.
+    /// Whether the input is refused.
     pub refused: bool,
 }
 
-/// The line of what a media text and a body carry.
+/// The check line of a media text and a body.
 pub fn check_line(alloc: Global, media: &[u8], body: &[u8]) -> Result<Line, NoMemory>
     ensures { IfOk result (λ line. IsLine (Means media.now body.now) line.text line.refused) }
 {
@@ -105,7 +105,7 @@ fn push_signal(out: &mut Vec<u8>, signal: &Signal) -> Result<(), NoMemory>
     }
 }
 
-/// The message that a receipt is of.
+/// The message that a receipt acknowledges.
 fn reference(signal: &Signal) -> &[u8]
     ensures { result.now ≡ reference signal.now }
 {
@@ -143,7 +143,7 @@ fn push_refusal(out: &mut Vec<u8>, refusal: &Refusal) -> Result<(), NoMemory>
     push_about(out, &refusal.about)
 }
 
-/// A code as it is sent.
+/// Appends an error code as it is sent.
 #[tactic(auto, unfolding(as4_codes::specs::ErrorCodes::code_text))]
 fn push_code(out: &mut Vec<u8>, code: u16) -> Result<(), NoMemory>
     ensures { OnOk result (out.new.items ≡ out.old.items ++ code_text code) }
@@ -162,7 +162,7 @@ fn push_about(out: &mut Vec<u8>, about: &Option<MessageId>) -> Result<(), NoMemo
     Ok(())
 }
 
-/// So many decimal digits.
+/// Appends `places` decimal digits of the number.
 #[tactic(auto, using(crate::proofs::DigitLemmas::push_digit), unfolding(as4_values::specs::Moment::digits))]
 fn push_digits(out: &mut Vec<u8>, places: u32, number: u16) -> Result<(), NoMemory>
     ensures { OnOk result (out.new.items ≡ out.old.items ++ digits places number) }

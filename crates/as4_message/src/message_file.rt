@@ -11,18 +11,18 @@ ghost use Rattle.std.specs.Option.{option_map};
 ghost use Rattle.message_model.specs.Package.{envelope_media};
 ghost use Rattle.message_model.specs.Wire.{IsWire, IsFile, message_file, cut_at, file_at, media_and_body};
 
-use as4_values::{Message, NoMemory, Octets};
-use byte_forms::behind;
+use as4_values::{Message, NoMemory, Octets, Payload, Seq, UserHeader};
+use byte_forms::strip_prefix;
 use header_writer::{write_pair_envelope, write_signal_envelope, write_user_envelope};
 use memchr::memmem;
 use package_writer::{ENVELOPE_MEDIA, Wire, write_parts};
 use std::alloc::Global;
 
-/// More than the field and the empty line take, in bytes.
+/// Room for the field and the empty line, in bytes.
 const FIELD_ROOM: usize = 256;
 
-/// The media text of a message file, up to the first empty line, and the body. Bytes of another form have an empty one
-/// of each.
+/// The media text of a message file, up to the first empty line, and the body. Both are empty if the bytes have another
+/// form.
 pub fn split_file(file: &[u8]) -> (&[u8], &[u8])
     ensures { (result.0.now, result.1.now) ≡ media_and_body file.now }
 {
@@ -36,11 +36,11 @@ pub fn split_file(file: &[u8]) -> (&[u8], &[u8])
 fn field_and_body(file: &[u8]) -> Option<(&[u8], &[u8])>
     ensures { option_map (λ parts. (parts.0.now, parts.1.now)) result ≡ file_at file.now }
 {
-    let rest = behind(b"Content-Type: ", file)?;
+    let rest = strip_prefix(b"Content-Type: ", file)?;
     cut_at(b"\r\n\r\n", rest)
 }
 
-/// What stands before and behind the first place of the needle.
+/// The bytes before and after the first occurrence of the needle.
 #[tactic(auto, using(crate::proofs::CutLemmas::cut_some, crate::proofs::CutLemmas::cut_none))]
 fn cut_at<'a>(needle: &[u8], bytes: &'a [u8]) -> Option<(&'a [u8], &'a [u8])>
     requires { 0 < length needle.now }
@@ -48,23 +48,32 @@ fn cut_at<'a>(needle: &[u8], bytes: &'a [u8]) -> Option<(&'a [u8], &'a [u8])>
 {
     let at = memmem::find(bytes, needle)?;
     let (front, rest) = bytes.split_at(at);
-    let (_, behind) = rest.split_at(needle.len());
-    Some((front, behind))
+    let (_, rest) = rest.split_at(needle.len());
+    Some((front, rest))
 }
 
-/// A message as it is sent (AS4 Profile, section 2.1): a user message as a package with the least boundary that is free,
-/// a signal or a pair as a bare envelope.
+/// A message as it is sent (AS4 Profile, section 2.1): a user message as a package with the least free boundary, a
+/// signal or a pair as a bare envelope.
 pub fn write_message(alloc: Global, message: &Message) -> Result<Wire, NoMemory>
     ensures { IfOk result (λ wire. IsWire message.now wire.media wire.body) }
 {
     match message {
-        Message::User { header, payloads } => {
-            let root = write_user_envelope(alloc, header)?;
-            write_parts(alloc, root.bytes(), payloads)
-        }
+        Message::User { header, payloads } => write_user(alloc, header, payloads),
         Message::Signal(signal) => bare(alloc, write_signal_envelope(alloc, signal)?),
         Message::Pair(pair) => bare(alloc, write_pair_envelope(alloc, pair)?),
     }
+}
+
+/// A user message as it is sent, from a header and separate payloads.
+pub fn write_user(
+    alloc: Global,
+    header: &UserHeader,
+    payloads: &Seq<Payload>,
+) -> Result<Wire, NoMemory>
+    ensures { IfOk result (λ wire. IsWire (Message.User header.now payloads.now) wire.media wire.body) }
+{
+    let root = write_user_envelope(alloc, header)?;
+    write_parts(alloc, root.bytes(), payloads)
 }
 
 /// A bare envelope.

@@ -3,18 +3,19 @@ ghost use Rattle.std.specs.Prelude.{◌≡◌, Err, IfOk, IsSome, map};
 ghost use Rattle.as4_codes.specs.ErrorCodes.{error_row};
 ghost use Rattle.as4_message.specs.declared.received.Refusal.{Refusal as RefusalValue};
 ghost use Rattle.as4_message.specs.Attached.{attached_value};
-ghost use Rattle.as4_message.specs.Meaning.{AnswersBy, Copies, Means, IsMessage, payload_value, received_value};
+ghost use Rattle.as4_message.specs.Meaning.{AnswersBy, ArePaired, Copies, Means, IsMessage, payload_value, received_value};
 
 use crate::attachment::Attachment;
 use crate::received::{MessageRefusal, Received, lend_message};
 use as4_values::{Message, NoMemory, Octets, Payload, PlainData, Seq};
 use std::alloc::Global;
 
-/// Reads a message from the media text and the body that carry it (AS4 Profile, section 2.1): from a bare envelope, or
-/// from a package whose root is one.
+/// Reads a message from its media text and body (AS4 Profile, section 2.1): from a bare envelope, or from a package
+/// whose root is an envelope.
 pub fn read_message(alloc: Global, media: &[u8], body: &[u8]) -> Result<Message, MessageRefusal>
     ensures meaning { AnswersBy (λ message. message) result (Copies (Means media.now body.now)) }
     ensures known { (refusal : RefusalValue) → result ≡ Err (MessageRefusal.Refused refusal) → IsSome (error_row refusal.code) }
+    ensures paired { IfOk result ArePaired }
 {
     match lend_message(alloc, media, body) {
         Ok(received) => match message_of(alloc, received) {
@@ -25,7 +26,7 @@ pub fn read_message(alloc: Global, media: &[u8], body: &[u8]) -> Result<Message,
     }
 }
 
-/// The message, with copies of the contents that were lent.
+/// The message, with copies of the borrowed contents.
 fn message_of(alloc: Global, received: Received<'_>) -> Result<Message, NoMemory>
     ensures { IfOk result (IsMessage (received_value received.entry)) }
 {

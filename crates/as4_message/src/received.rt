@@ -1,5 +1,5 @@
-//! Messages as they come, lent from the bytes that carry them, and the refusals of what is no message.
-ghost use Rattle.std.specs.Prelude.{◌≡◌, ◌≢◌, ℕ, Ok, Err, None, Some, IsSome, map};
+//! Messages as received, borrowed from the bytes that carry them, and refusals.
+ghost use Rattle.std.specs.Prelude.{◌≡◌, ◌≢◌, ℕ, Ok, Err, None, Some, IfOk, IsSome, map};
 ghost use Rattle.std.specs.Result.{result_map_both};
 ghost use Rattle.as4_codes.specs.ErrorCodes.{error_row};
 ghost use Rattle.as4_message.specs.declared.received.Refusal.{Refusal as RefusalValue};
@@ -7,7 +7,7 @@ ghost use Rattle.mime_fields.specs.Lent.{part_value};
 ghost use Rattle.mime_package.specs.Lent.{package_value};
 ghost use Rattle.as4_message.specs.Attached.{attach, attached_value};
 ghost use Rattle.as4_message.specs.Meaning as meaning;
-ghost use Rattle.as4_message.specs.Meaning.{PackageMeans, Means, package_code, unit_with, root_with, alone, user_with, received_value, AnswersBy, Refuses};
+ghost use Rattle.as4_message.specs.Meaning.{HasItsParts, PackageMeans, Means, package_code, unit_with, root_with, alone, user_with, received_value, AnswersBy, Refuses};
 
 use crate::attach::attach;
 use crate::attachment::Attachment;
@@ -18,7 +18,7 @@ use mime_fields::Part;
 use mime_package::{MimeRefusal, read_parts};
 use std::alloc::Global;
 
-/// A message as it came. The contents of its payloads are lent.
+/// A message as received. The contents of its payloads are borrowed.
 #[derive(Drop)]
 pub enum Received<'a> {
     /// A user message, with a payload for each of its part infos, in the order of the package's parts.
@@ -29,7 +29,7 @@ pub enum Received<'a> {
     Pair(Pair),
 }
 
-/// What is refused: its error code (ebMS 3.0 Core, section 6.7), and the message that it is about.
+/// A refusal: its error code (ebMS 3.0 Core, section 6.7), and the message that it is about.
 #[derive(Drop)]
 pub struct Refusal {
     /// The number of the code, such as 7 for `EBMS:0007`.
@@ -38,16 +38,16 @@ pub struct Refusal {
     pub about: Option<MessageId>,
 }
 
-/// Why bytes are no message that is read.
+/// Why no message was read.
 #[derive(Drop)]
 pub enum MessageRefusal {
-    /// The bytes are no message.
+    /// The bytes are not a message.
     Refused(Refusal),
     /// Memory ran out.
     NoMemory,
 }
 
-/// Reads a message from the media text and the body that carry it, and copies no payload.
+/// Reads a message from its media text and body, without copying payloads.
 pub fn lend_message<'a>(
     alloc: Global,
     media: &[u8],
@@ -55,6 +55,7 @@ pub fn lend_message<'a>(
 ) -> Result<Received<'a>, MessageRefusal>
     ensures meaning { AnswersBy received_value result (Means media.now body.now) }
     ensures known { (refusal : RefusalValue) → result ≡ Err (MessageRefusal.Refused refusal) → IsSome (error_row refusal.code) }
+    ensures paired { IfOk result (λ received. HasItsParts (received_value received)) }
 {
     lend(alloc, media, body)
 }
@@ -72,7 +73,7 @@ fn lend<'a>(alloc: Global, media: &[u8], body: &'a [u8]) -> Result<Received<'a>,
     }
 }
 
-/// The refusal of what is no package.
+/// The refusal of a body that is not a package.
 fn no_package(refusal: MimeRefusal) -> MessageRefusal
     ensures code { Refuses (package_code refusal) None result }
     ensures told { refusal ≢ MimeRefusal.NoMemory →
@@ -171,7 +172,7 @@ fn with_found<'a>(
     }
 }
 
-/// The refusal of a message, about it.
+/// The refusal with this code, about this message.
 fn about(alloc: Global, code: u16, id: &MessageId) -> MessageRefusal
     ensures { Refuses code (Some id.now) result }
 {

@@ -1,4 +1,4 @@
-//! The unit that the root of a package means: an envelope's.
+//! The unit that the root of a package means.
 ghost use Rattle.std.specs.Prelude.{◌≡◌, ◌<◌, Ok, Err, IfOk, length};
 ghost use Rattle.tree_reader.specs.Documents.{limit};
 ghost use Rattle.as4_message.specs.Meaning.{RootMeans};
@@ -9,7 +9,7 @@ use header_reader::{HeaderRefusal, read_unit};
 use std::alloc::Global;
 use tree_reader::{TreeRefusal, read_tree};
 
-/// Reads the unit of an envelope, or answers the code of the error by which it is refused.
+/// Reads the unit of an envelope, or returns the code of the error that refuses it.
 pub(crate) fn read_root(alloc: Global, root: &[u8]) -> Result<Result<Unit, u16>, NoMemory>
     ensures meaning { IfOk result (RootMeans root.now) }
     ensures too_long { limit < length root.now → result ≡ Ok (Err INVALID_HEADER) }

@@ -1,4 +1,4 @@
--- Lemmas on words: lists of three, and one command for the words.
+-- Lemmas on words: lists of three, and the uniqueness of a command.
 use Rattle.std.proofs.Common.{◌≡◌, ℕ, ◌^◌, ◌<◌, Bool, true, List, [], ◌∷◌, length, get_or, refl, sym, ◌∙◌, ap, arith}
 use Rattle.std.specs.Prelude.{codes}
 use Rattle.std.specs.Str.{bytes_eq}
@@ -14,7 +14,7 @@ use Rattle.std.proofs.lemmas.Fmt.{decimal_is_IsNumeral_wide}
 short : (n : ℕ) → n < 2 ^ 128 → n < 10 ^ 64
 short n small = omega arith
 
--- a list of three is its items
+-- a list of length three consists of its items
 pub three_items : {A : Type 0} (xs : List A) (x y z : A) → length xs ≡ 3 → x ≡ get_or xs 0 x → y ≡ get_or xs 1 y → z ≡ get_or xs 2 z → xs ≡ x ∷ y ∷ z ∷ []
 three_items [] x y z three first second third = absurd (omega arith)
 three_items (a ∷ []) x y z three first second third = absurd (omega arith)
@@ -22,11 +22,11 @@ three_items (a ∷ b ∷ []) x y z three first second third = absurd (omega arit
 three_items (a ∷ b ∷ c ∷ []) x y z three first second third = cc
 three_items (a ∷ b ∷ c ∷ d ∷ rest) x y z three first second third = absurd (omega arith)
 
--- bytes found equal are the same
+-- bytes that compare equal are the same
 pub equal_is_same : (xs ys : List ℕ) (equal : Bool) → equal ≡ bytes_eq xs ys → equal ≡ true → xs ≡ ys
 equal_is_same xs ys equal computed found = (bytes_eq-Decides xs ys).0 (sym computed ∙ found)
 
--- no text prints two numbers
+-- different numbers have different decimal texts
 decimal_once : (m n : ℕ) → m < 10 ^ 64 → n < 10 ^ 64 → decimal m ≡ decimal n → m ≡ n
 decimal_once m n small_m small_n printed =
     sym (decimal_is_IsNumeral_wide m small_m).1 ∙ ap (digits_value 10) printed ∙ (decimal_is_IsNumeral_wide n small_n).1
@@ -36,7 +36,7 @@ check_is_no_drill same =
     let first : 99 ≡ 100 = ap (λ (words : List (List ℕ)). get_or (get_or words 0 []) 0 0) same in
     omega (arith, first)
 
--- no words spell two commands
+-- words spell at most one command
 pub spells_once : (words : List (List ℕ)) (one other : Command) → Spells words one → Spells words other → one ≡ other
 spells_once words Help Help first second = refl
 spells_once words Help Version first second = cc

@@ -1,4 +1,4 @@
--- The status of a drill's end, and what it comes from.
+-- The status at a drill's end, and its cause.
 use Rattle.std.proofs.Common.{◌≡◌, ◌≢◌, ℕ, refl, arith}
 use Rattle.as4_flow.specs.Flow.{Streams}
 use Rattle.drill.specs.Ends.{CountsAt}
@@ -9,7 +9,7 @@ use Rattle.as4_tool.specs.Ends.{TellsFaults}
 use Rattle.as4_tool.specs.Status.{code_of, status_of}
 use Rattle.as4_tool.specs.declared.status.Status.TheVariants.{Done, ReadFault, WriteFault, TooLong, NotUser, BadWords}
 
--- it is never one of these
+-- the status is never one of these
 pub no_other : (end : DrillEnd)
     → (code_of (status_of end) ≢ code_of TooLong) × (code_of (status_of end) ≢ code_of NotUser)
     × (code_of (status_of end) ≢ code_of BadWords)
@@ -20,7 +20,7 @@ no_other ends.ReadFault = (omega arith, omega arith, omega arith)
 no_other ends.WriteFault = (omega arith, omega arith, omega arith)
 no_other ends.NoMemory = (omega arith, omega arith, omega arith)
 
--- a read fault comes of the source, and without one its count is as it was
+-- status 3 means that the source has failed; otherwise its fault count is unchanged
 pub reads : (end : DrillEnd) (streams : Streams) → CountsAt end streams → TellsFaults ReadFault (code_of (status_of end)) streams.read_faults streams.later_read_faults
 reads ends.Read streams counts = (λ is. absurd (omega (arith, is)), λ _. counts.0)
 reads (ends.Line number) streams counts = (λ is. absurd (omega (arith, is)), λ _. counts.0)
@@ -29,7 +29,7 @@ reads ends.ReadFault streams counts = (λ _. counts.0, λ never. absurd (never r
 reads ends.WriteFault streams counts = (λ is. absurd (omega (arith, is)), λ _. counts.0)
 reads ends.NoMemory streams counts = (λ is. absurd (omega (arith, is)), λ _. counts.0)
 
--- a write fault comes of the sink, and without one its count is as it was
+-- status 4 means that the sink has failed; otherwise its fault count is unchanged
 pub writes : (end : DrillEnd) (streams : Streams) → CountsAt end streams → TellsFaults WriteFault (code_of (status_of end)) streams.write_faults streams.later_write_faults
 writes ends.Read streams counts = (λ is. absurd (omega (arith, is)), λ _. counts.1)
 writes (ends.Line number) streams counts = (λ is. absurd (omega (arith, is)), λ _. counts.1)
@@ -38,7 +38,7 @@ writes ends.ReadFault streams counts = (λ is. absurd (omega (arith, is)), λ _.
 writes ends.WriteFault streams counts = (λ _. counts.1, λ never. absurd (never refl))
 writes ends.NoMemory streams counts = (λ is. absurd (omega (arith, is)), λ _. counts.1)
 
--- a generated script ends with no read fault, and with none of the others
+-- a generated script never ends with a read fault, nor with one of these others
 pub no_fault_of_input : (seed count : ℕ) (end : DrillEnd) (streams : Streams) → GeneratedAt seed count end streams
     → (code_of (status_of end) ≢ code_of ReadFault) × (code_of (status_of end) ≢ code_of TooLong)
     × (code_of (status_of end) ≢ code_of NotUser) × (code_of (status_of end) ≢ code_of BadWords)
@@ -49,7 +49,7 @@ no_fault_of_input seed count ends.ReadFault streams drilled = absurd drilled
 no_fault_of_input seed count ends.WriteFault streams drilled = (omega arith, omega arith, omega arith, omega arith)
 no_fault_of_input seed count ends.NoMemory streams drilled = (omega arith, omega arith, omega arith, omega arith)
 
--- but where all was done or the sink failed, a generated script writes nothing
+-- unless the status is 0 or 4, a generated script writes nothing
 pub generated_silent : (seed count : ℕ) (end : DrillEnd) (streams : Streams) → GeneratedAt seed count end streams
     → code_of (status_of end) ≢ code_of Done → code_of (status_of end) ≢ code_of WriteFault → streams.later ≡ streams.taken
 generated_silent seed count ends.Read streams drilled done fault = absurd (done refl)

@@ -19,10 +19,10 @@ Spells words (Generate seed count) =
 abbrev pub IsCommand : List (List ℕ) → Type 0
 IsCommand words = (command : Command) × Spells words command
 
--- these words ask for something about a message file: an answer or a line
+-- these words request an answer to a message file, or its check line
 abbrev pub AsksOfFile : List (List ℕ) → Type 0
 AsksOfFile words = ((stamp : ℕ) × (nonce : ℕ) × Spells words (Answer stamp nonce)) ⊎ Spells words Check
 
--- these words ask for a drill of a script
+-- these words request a drill of a script
 abbrev pub AsksDrill : List (List ℕ) → Type 0
 AsksDrill words = Spells words Drill

@@ -1,4 +1,4 @@
--- How a run ends: with which status, and what it has written then.
+-- How a run ends: its status, and what it has written.
 use Rattle.std.specs.Prelude.{◌≡◌, ◌≢◌, ℕ, ◌≤◌, ◌⊎◌, List, [], ◌∷◌, Bool, if◌then◌else◌, Option, None, length}
 use Rattle.as4_flow.specs.Flow.{Streams, Told, Rose, appended, TakesFront}
 use Rattle.drill.specs.Ends.{Ends as DrillEnds}
@@ -13,7 +13,7 @@ use Rattle.as4_tool.specs.declared.command.Command.TheVariants.{Help, Version, A
 use Rattle.as4_tool.specs.declared.status.Status.{Status}
 use Rattle.as4_tool.specs.declared.status.Status.TheVariants.{Done, Refused, ReadFault, WriteFault, NoMemory, NotUser, TooLong}
 
--- the whole text was written behind what was taken, and the run ends so, or a front of it and then the output failed
+-- the whole text was appended and the run ends with `end`, or a prefix of it was written before the output failed
 abbrev pub WritesAs : Status → List ℕ → Status → Option (List ℕ) → Option (List ℕ) → Type 0
 WritesAs end text status taken later =
     ((status ≡ end) × (later ≡ appended taken text))
@@ -22,7 +22,7 @@ WritesAs end text status taken later =
 abbrev pub Writes : List ℕ → Status → Option (List ℕ) → Option (List ℕ) → Type 0
 Writes text status taken later = WritesAs Done text status taken later
 
--- by the exit status, this fault is told only where the stream has failed, and where it isn't its count is as it was
+-- the status of this fault means that the stream has failed; with any other status its fault count is unchanged
 abbrev pub TellsFaults : Status → ℕ → ℕ → ℕ → Type 0
 TellsFaults fault code faults later =
     (code ≡ code_of fault → Rose faults later) × (code ≢ code_of fault → later ≡ faults)
@@ -33,17 +33,18 @@ Answers stamp nonce status streams =
     (answer : List ℕ) × Told streams.left (λ file. (length file ≤ LIMIT) × IsAnswer stamp nonce file answer)
     × Told streams.rest (λ rest. rest ≡ []) × Writes answer status streams.taken streams.later
 
--- the input is within the limit and was read to its end, and its line was written; the status tells whether it is refused
+-- the input is within the limit and was read to its end, and its check line was written; the status says whether it is
+-- refused
 abbrev pub Checks : Status → Streams → Type 0
 Checks status streams =
     (line : List ℕ) × (refused : Bool) × Told streams.left (λ file. (length file ≤ LIMIT) × IsFileLine file line refused)
     × Told streams.rest (λ rest. rest ≡ []) × WritesAs (if refused then Refused else Done) line status streams.taken streams.later
 
--- no input, and the output as it is
+-- the streams of a command that reads no input
 abbrev pub no_input : Streams → Streams
 no_input streams = record streams { left = None; rest = None; read_faults = 0; later_read_faults = 0 }
 
--- the ends that each command has, by the input and the output before and after
+-- the possible ends of each command, given the input and the output before and after
 abbrev pub Ends : Command → Status → Streams → Type 0
 Ends Help status streams = Writes HELP.now status streams.taken streams.later
 Ends Version status streams = Writes VERSION.now status streams.taken streams.later

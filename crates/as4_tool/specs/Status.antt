@@ -1,4 +1,4 @@
--- The exit statuses of the program, and the line that tells each on the errors: its own choice.
+-- The exit statuses of the program, and the line on the errors for each: its own choice.
 use Rattle.std.specs.Prelude.{◌≡◌, ℕ, ◌⊎◌, List, [], ◌∷◌, ◌++◌, Option, codes}
 use Rattle.std.specs.Fmt.{decimal}
 use Rattle.as4_flow.specs.Flow.{Rose, appended, TakesFront}
@@ -25,7 +25,7 @@ abbrev pub IsOneOf : List Status → Status → Type 0
 IsOneOf [] status = ⊥
 IsOneOf (one ∷ others) status = (status ≡ one) ⊎ IsOneOf others status
 
--- what is told of it on the errors: one line, or nothing where all was done or the output tells of the refusal
+-- its line on the errors; empty for success, and for a refusal, which the output reports
 abbrev pub line_of : Status → List ℕ
 line_of Done = []
 line_of Refused = []
@@ -38,12 +38,12 @@ line_of NotUser = codes "not a user message\n"
 line_of TooLong = codes "input too long\n"
 line_of BadWords = codes "bad words\n"
 
--- the whole text was told, or a front of it and then the errors failed
+-- the whole text was sent, or a prefix of it before the errors failed
 abbrev pub Tells : List ℕ → Option (List ℕ) → Option (List ℕ) → ℕ → ℕ → Type 0
 Tells text taken later faults later_faults =
     (later ≡ appended taken text) ⊎ (TakesFront text taken later × Rose faults later_faults)
 
--- the status of a drill's end
+-- the status for a drill's end
 abbrev pub status_of : DrillEnd → Status
 status_of ends.Read = Done
 status_of (ends.Line number) = WrongLine number

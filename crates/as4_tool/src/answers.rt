@@ -1,5 +1,5 @@
-//! What is answered to a message file, and what is told of it: the receipt of a message or the error signal of its
-//! refusal, and the line of either.
+//! Replies to a message file: the receipt of a message or the error signal of its refusal, and the check line of
+//! either.
 ghost use Rattle.std.specs.Prelude.{◌≡◌, ◌≤◌, Ok, None, Some, IfOk, MatchOption};
 ghost use Rattle.as4_values.specs.declared.signal.Signal.{Signal as SignalValue};
 ghost use Rattle.message_model.specs.Wire.{IsFile};
@@ -13,8 +13,7 @@ use as4_message::{
 use as4_values::{MAX_MOMENT, Message, NoMemory, Octets, Signal};
 use std::alloc::Global;
 
-/// The answer to a message file: the message file of the signal that replies to it. Nothing where the message is a signal
-/// or a pair.
+/// The answer to a message file: the message file of the reply. `None` if the message is a signal or a pair.
 pub fn answer_file(
     alloc: Global,
     stamp: u64,
@@ -58,7 +57,7 @@ fn receipt_of(
     }
 }
 
-// The message file of a signal, where there is one.
+// The message file of a signal, if there is one.
 fn file_of(alloc: Global, reply: Option<Signal>) -> Result<Option<Octets>, NoMemory>
     ensures none { reply ≡ None → result ≡ Ok None }
     ensures file { IfOk result (λ file. MatchOption file (reply ≡ None) (λ bytes. (signal : SignalValue) × (reply ≡ Some signal) × IsFile (Message.Signal signal) bytes)) }
@@ -72,7 +71,7 @@ fn file_of(alloc: Global, reply: Option<Signal>) -> Result<Option<Octets>, NoMem
     Ok(Some(file?))
 }
 
-/// The line of a message file.
+/// The check line of a message file.
 pub fn check_file(alloc: Global, file: &[u8]) -> Result<Line, NoMemory>
     ensures { IfOk result (λ line. IsFileLine file.now line.text line.refused) }
 {

@@ -3,21 +3,21 @@
 //!     --help                          shows the words
 //!     --version                       shows the version
 //!     answer STAMP NONCE              reads a request and writes the answer
-//!     check                           reads a message and writes a line that tells what it is
-//!     drill                           runs a script of two ends, and writes what its lines lead to
-//!     drill --generate SEED COUNT     runs a generated script, and writes the numbers of both ends
+//!     check                           reads a message and writes a line that says what it is
+//!     drill                           runs a script of two endpoints, and writes a line for each reply
+//!     drill --generate SEED COUNT     runs a generated script, and writes the totals of both endpoints
 ghost use Rattle.std.specs.Prelude.{◌≡◌, ℕ, List, [], ◌∷◌, ◌<◌, ◌^◌, codes, IfSome, IfNone};
 ghost use Rattle.std.specs.Fmt.{decimal};
 
 use as4_values::{MAX_MOMENT, Octets, Seq};
-use drill_script::decimal_of;
+use byte_forms::decimal_of;
 
-/// The most messages of a generated script.
+/// The maximum number of messages of a generated script.
 pub const MAX_COUNT: u64 = 1_000;
 
 const _: () = prove!(MAX_COUNT == 1000);
 
-/// What the words ask for.
+/// The command that the words spell.
 #[derive(Clone, Copy, Debug, PartialEq, Eq)]
 pub enum Command {
     Help,
@@ -25,22 +25,22 @@ pub enum Command {
     Answer {
         /// The moment of the answer, in milliseconds since 1970-01-01T00:00:00Z.
         stamp: u64,
-        /// What makes the answer's identifiers unlike all others.
+        /// Makes the answer's identifiers unique.
         nonce: u128,
     },
     Check,
     Drill,
     Generate {
-        /// What the sizes of the messages follow from.
+        /// Determines the sizes of the messages.
         seed: u64,
-        /// How many messages are submitted, at most 1,000.
+        /// The number of messages to submit, at most 1,000.
         count: u64,
     },
 }
 
 ghost use Rattle.as4_tool.specs.Command.{Spells, IsCommand};
 
-/// Reads the words behind the program's name.
+/// Reads the words after the program's name.
 pub fn command_of(words: &Seq<Octets>) -> Option<Command>
     ensures found { IfSome result (λ command. Spells words.now command) }
     ensures only { (command : Command) → Spells words.now command → result ≡ Some command }
@@ -58,7 +58,7 @@ pub fn command_of(words: &Seq<Octets>) -> Option<Command>
     }
 }
 
-/// No words spell two commands.
+/// Words spell at most one command.
 pub fn one_spelling()
     ensures { (words : List (List ℕ)) (one other : Command) → Spells words one → Spells words other → one ≡ other }
 {}
@@ -83,7 +83,7 @@ fn lone_command_of(word: &[u8]) -> Option<Command>
     None
 }
 
-// Reads the two words behind `answer`.
+// Reads the two words after `answer`.
 fn answer_of(stamp: &[u8], nonce: &[u8]) -> Option<Command>
     ensures found { IfSome result (Spells (codes "answer" ∷ stamp.now ∷ nonce.now ∷ [])) }
     ensures only { (command : Command) → Spells (codes "answer" ∷ stamp.now ∷ nonce.now ∷ []) command → result ≡ Some command }
@@ -114,7 +114,7 @@ fn generate_of(word: &[u8], option: &[u8], seed: &[u8], count: &[u8]) -> Option<
     numbers_of(seed, count)
 }
 
-// Reads the two words behind `drill --generate`.
+// Reads the two words after `drill --generate`.
 fn numbers_of(seed: &[u8], count: &[u8]) -> Option<Command>
     ensures found { IfSome result (Spells (codes "drill" ∷ codes "--generate" ∷ seed.now ∷ count.now ∷ [])) }
     ensures only { (command : Command) → Spells (codes "drill" ∷ codes "--generate" ∷ seed.now ∷ count.now ∷ []) command

@@ -1,4 +1,4 @@
-//! All that the program `as4` does, over any source and sinks: its words, its statuses and its run.
+//! The program `as4` for any source and sinks: its words, its statuses and its run.
 #![tactic(auto)]
 
 mod answers;
@@ -9,7 +9,7 @@ mod status;
 mod texts;
 
 pub use command::{Command, MAX_COUNT, command_of};
-pub use laws::{a_signal_has_no_answer, one_line};
+pub use laws::{a_signal_has_no_answer, one_answer, one_line};
 pub use running::{LIMIT, run};
 pub use status::Status;
 pub use texts::{HELP, VERSION};

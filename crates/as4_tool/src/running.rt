@@ -1,10 +1,10 @@
-//! A run of the program: words and input come in, and the output, the errors and the exit status go out.
+//! A run of the program: it takes words and an input, and produces the output, the errors and the exit status.
 //!
 //!     --help, --version               a text                                         0, 4
 //!     answer STAMP NONCE              the answer to the input                        0, 3, 4, 5, 7, 11
-//!     check                           the line of the input                          0, 1, 3, 4, 5, 11
-//!     drill                           what the lines of the script lead to           0, 2, 3, 4, 5, 6
-//!     drill --generate SEED COUNT     the numbers that a generated script leads to   0, 4, 5
+//!     check                           the check line of the input                    0, 1, 3, 4, 5, 11
+//!     drill                           the lines for the script's replies             0, 2, 3, 4, 5, 6
+//!     drill --generate SEED COUNT     the totals of a generated script               0, 4, 5
 //!     other words                                                                    64
 ghost use Rattle.std.specs.Prelude.{◌≡◌, ◌≢◌, if◌then◌else◌, ℕ, [], ◌+◌, ◌<◌, ◌≤◌, ◌↔◌, List, None, length, IfOk, IsErrOf, MatchResult};
 ghost use Rattle.as4_flow.specs.Flow.{Told, LosesFront, between, flow};
@@ -28,7 +28,7 @@ pub const LIMIT: usize = 67_174_400;
 
 const _: () = prove!(LIMIT == 67174400);
 
-/// Does all that the program does, and answers its exit status. The words are those behind the program's name.
+/// Runs the program and returns its exit status. The words are those after the program's name.
 pub fn run<I: Source, O: Sink, E: Sink>(
     alloc: Global,
     words: &Seq<Octets>,
@@ -36,30 +36,30 @@ pub fn run<I: Source, O: Sink, E: Sink>(
     output: &mut O,
     errors: &mut E,
 ) -> u8
-    // Whether the words ask for something.
+    // Whether the words spell a command.
     ensures bad_words { (result ≡ code_of Status.BadWords) ↔ ¬ IsCommand words.now }
     ensures command { result ≢ code_of Status.BadWords → IsCommand words.now }
 
-    // The exit status is that of an end, its line is told on the errors, and each command ends so.
+    // The exit status is that of some end, the errors get the line of that end, and the command has that end.
     ensures ends { (status : Status) × (result ≡ code_of status)
         × Tells (line_of status) (E.taken errors.old) (E.taken errors.new) (E.faults errors.old) (E.faults errors.new)
         × ((command : Command) → Spells words.now command → Ends command status (between
         (flow (I.left input.old) (O.taken output.old) (I.faults input.old) (O.faults output.old))
         (flow (I.left input.new) (O.taken output.new) (I.faults input.new) (O.faults output.new)))) }
 
-    // A fault of the input or the output is told only where there was one, and none is read over or written over.
+    // Status 3 (4) means that the input (output) has failed; with any other status it hasn't.
     ensures read_faults { TellsFaults Status.ReadFault result (I.faults input.old) (I.faults input.new) }
     ensures write_faults { TellsFaults Status.WriteFault result (O.faults output.old) (O.faults output.new) }
 
-    // What each other status comes from.
+    // The causes of two other statuses.
     ensures too_long { result ≡ code_of Status.TooLong → Told (I.left input.old) (λ file. LIMIT < length file) }
     ensures not_user { result ≡ code_of Status.NotUser →
         Told (I.left input.old) (λ file. (length file ≤ LIMIT) × IsSignalFile file) × Told (I.left input.new) (λ rest. rest ≡ []) }
 
-    // Of a message file a front is read, of one byte above the limit at most.
+    // At most a prefix of a message file is read, of one byte above the limit.
     ensures reads { AsksOfFile words.now → LosesFront (LIMIT + 1) (I.left input.old) (I.left input.new) }
 
-    // What stays as it was.
+    // What remains unchanged.
     ensures silent { ¬ AsksDrill words.now → result ≢ code_of Status.Done → result ≢ code_of Status.Refused →
         result ≢ code_of Status.WriteFault → O.taken output.new ≡ O.taken output.old }
     ensures untouched { ¬ AsksOfFile words.now → ¬ AsksDrill words.now → input.new ≡ input.old }
@@ -71,7 +71,7 @@ pub fn run<I: Source, O: Sink, E: Sink>(
     status.code()
 }
 
-// Does what the words ask for.
+// Executes the command.
 fn obey<I: Source, O: Sink>(
     alloc: Global,
     words: &Seq<Octets>,
@@ -116,7 +116,7 @@ fn write<O: Sink>(output: &mut O, bytes: &[u8]) -> Status
     write_as(Status::Done, output, bytes)
 }
 
-// Writes all the bytes, and then the run ends so.
+// Writes all bytes, and returns this end unless the output fails.
 fn write_as<O: Sink>(end: Status, output: &mut O, bytes: &[u8]) -> Status
     requires { code_of end ≢ code_of Status.WriteFault }
     ensures writes { WritesAs end bytes.now result (O.taken output.old) (O.taken output.new) }
@@ -166,7 +166,7 @@ fn answer<I: Source, O: Sink>(
     }
 }
 
-// Reads the input to its end and writes its line.
+// Reads the input to its end and writes its check line.
 fn check<I: Source, O: Sink>(alloc: Global, input: &mut I, output: &mut O) -> Status
     ensures ends { Ends Command.Check result (between
         (flow (I.left input.old) (O.taken output.old) (I.faults input.old) (O.faults output.old))
@@ -192,7 +192,7 @@ fn check<I: Source, O: Sink>(alloc: Global, input: &mut I, output: &mut O) -> St
     }
 }
 
-// How a check ends.
+// The end of a check.
 fn end_of(refused: bool) -> Status
     ensures { result ≡ (if refused then Status.Refused else Status.Done) }
 {
@@ -203,7 +203,7 @@ fn end_of(refused: bool) -> Status
     }
 }
 
-// Runs the script that the input has.
+// Runs the script from the input.
 fn play<I: Source, O: Sink>(alloc: Global, input: &mut I, output: &mut O) -> Status
     ensures ends { Ends Command.Drill result (between
         (flow (I.left input.old) (O.taken output.old) (I.faults input.old) (O.faults output.old))

@@ -1,7 +1,7 @@
-//! How a run of the program ends.
+//! The ends of a run of the program.
 //!
-//!      0  all was done             6  more than 100000 events
-//!      1  refused, by the output   7  not a user message
+//!      0  success                  6  more than 100000 events
+//!      1  refused, see the output  7  not a user message
 //!      2  line N                  11  input too long
 //!      3  read fault              64  bad words
 //!      4  write fault
@@ -18,20 +18,20 @@ use itoa::Buffer;
 #[derive(Clone, Copy, Debug, PartialEq, Eq)]
 pub enum Status {
     Done,
-    /// The message that was to be checked is refused. The output tells by which error.
+    /// The checked message is refused. The output names the error.
     Refused,
-    /// This line of the script, the first being 1, isn't one of a script, or not in its place. What the lines before it
-    /// wrote was written.
+    /// This line of the script (the first is 1) isn't a valid line, or isn't allowed at its place. The replies to the
+    /// lines before it were written.
     WrongLine { number: u64 },
-    /// The input failed. Nothing was written, but what a script's lines before the fault wrote.
+    /// The input failed. Nothing was written, except the replies to a script's lines before the fault.
     ReadFault,
-    /// The output failed. It has taken only a front of what was to be written.
+    /// The output failed. Only a prefix of the text was written.
     WriteFault,
-    /// There was no memory. Nothing was written, but what a script's lines before wrote.
+    /// Out of memory. Nothing was written, except the replies to a script's earlier lines.
     NoMemory,
-    /// The next line would make event 100,001. Nothing was written, but what a script's lines before wrote.
+    /// The next line would make event 100,001. Nothing was written, except the replies to a script's earlier lines.
     TooManyEvents,
-    /// The message that was to be answered is a signal or a pair. Nothing was written.
+    /// The message to be answered is a signal or a pair. Nothing was written.
     NotUser,
     /// The input is longer than the limit. Nothing was written.
     TooLong,
@@ -74,8 +74,8 @@ impl Status {
         }
     }
 
-    /// Tells it on the errors, as one line. There is nothing to tell where all was done, or where the output tells of the
-    /// refusal. It takes no memory.
+    /// Reports the end on the errors, in one line. A success needs no line, nor does a refusal, which the output
+    /// reports. Doesn't allocate.
     pub fn tell<E: Sink>(self, errors: &mut E)
         ensures told { Tells (line_of self) (E.taken errors.old) (E.taken errors.new) (E.faults errors.old) (E.faults errors.new) }
         ensures counted { E.faults errors.old ≤ E.faults errors.new }
@@ -94,7 +94,7 @@ impl Status {
     }
 }
 
-// Tells the number of a line. Where the errors fail, nothing is left to tell it to.
+// Reports the number of a line. If the errors fail, there is nowhere left to report that.
 fn tell_line<E: Sink>(errors: &mut E, number: u64)
     ensures told { Tells (codes "line " ++ decimal number ++ codes "\n") (E.taken errors.old) (E.taken errors.new)
         (E.faults errors.old) (E.faults errors.new) }
@@ -103,7 +103,7 @@ fn tell_line<E: Sink>(errors: &mut E, number: u64)
     let _ = send_line(errors, number);
 }
 
-// Sends its parts, one after another.
+// Sends the parts of the line.
 fn send_line<E: Sink>(errors: &mut E, number: u64) -> Result<(), SendFailed>
     ensures told { Tells (codes "line " ++ decimal number ++ codes "\n") (E.taken errors.old) (E.taken errors.new)
         (E.faults errors.old) (E.faults errors.new) }
@@ -115,7 +115,7 @@ fn send_line<E: Sink>(errors: &mut E, number: u64) -> Result<(), SendFailed>
     send_all(errors, b"\n")
 }
 
-// Tells this text. Where the errors fail, nothing is left to tell it to.
+// Reports this text. If the errors fail, there is nowhere left to report that.
 fn tell_text<E: Sink>(errors: &mut E, text: &[u8])
     ensures told { Tells text.now (E.taken errors.old) (E.taken errors.new) (E.faults errors.old) (E.faults errors.new) }
     ensures counted { E.faults errors.old ≤ E.faults errors.new }

@@ -1,6 +1,6 @@
-//! What the program writes about itself.
+//! The program's texts about itself.
 
-/// The answer to `--help`.
+/// The output of `--help`.
 pub const HELP: &[u8] =
     b"as4: answers and checks AS4 messages, and runs drills of two ends that exchange them
 
@@ -65,5 +65,5 @@ On all but 0, 1 and 4 nothing is written to the output, except by a drill of a s
 lead to.
 ";
 
-/// The answer to `--version`.
+/// The output of `--version`.
 pub const VERSION: &[u8] = b"as4 0.1.0\n";

@@ -1,6 +1,6 @@
--- What is written of a message is read as that message.
+-- A written message is read back as that message.
 use Rattle.std.proofs.Common.{◌≡◌, ℕ, ◌≤◌, List, [], Ok, length, map, refl, sym, inr}
-use Rattle.as4_message.specs.Meaning.{ReceivedValue, user, signal, pair as both, Means, IsMessage, unit_with, payload_value}
+use Rattle.as4_message.specs.Meaning.{ReceivedValue, user, signal, pair as both, Means, IsMessage, unit_with, payload_value, ArePaired}
 use Rattle.as4_values.specs.declared.header.UserHeader.{UserHeader}
 use Rattle.as4_values.specs.declared.message.Message.{Message}
 use Rattle.as4_values.specs.declared.message.Message.TheVariants as message
@@ -10,7 +10,7 @@ use Rattle.as4_values.specs.declared.message.Unit.TheVariants as unit
 use Rattle.as4_values.specs.declared.payload.Payload.{Payload}
 use Rattle.as4_values.specs.declared.signal.Signal.{Signal}
 use Rattle.message_laws.proofs.AttachLemmas.{attach_again, payloads_are_few}
-use Rattle.message_laws.specs.Readable.{envelope_of, IsShort, ArePaired}
+use Rattle.message_laws.specs.Readable.{envelope_of, IsShort}
 use Rattle.message_model.specs.Package.{IsFree, envelope_media, package_media, package_body}
 use Rattle.message_model.specs.Wire.{IsWire}
 use Rattle.mime_fields.specs.Fields.{PartValue}
@@ -19,7 +19,7 @@ use Rattle.package_laws.specs.Written.{payload_part}
 use Rattle.tree_reader.specs.Documents.{limit}
 use Rattle.unit_laws.specs.ReadAgain.{IsReadAgain}
 
--- what is written of these payloads is read as them, and a bare envelope as itself
+-- a written package of these payloads is read back as them, and a bare envelope as itself
 abbrev PackageAgain : List Payload → Type 0
 PackageAgain payloads =
     (root : List ℕ) (n : ℕ) → IsFree n root payloads → length payloads ≤ 255
@@ -28,7 +28,7 @@ PackageAgain payloads =
 abbrev EnvelopeAgain : Type 0
 EnvelopeAgain = (root : List ℕ) → package_of envelope_media root ≡ Ok (record { root = root; parts = [] })
 
--- whatever is written of a message is read as that message
+-- whatever is written for a message is read back as that message
 abbrev MessageAgain : Message → Type 0
 MessageAgain m =
     (media body : List ℕ) → IsWire m media body → IsShort m → ArePaired m → (received : ReceivedValue) × Means media body (Ok received) × IsMessage received m

@@ -7,7 +7,7 @@ use Rattle.std.proofs.lemmas.List.{length-map}
 use Rattle.std.proofs.lemmas.Option.{option_and_then_some, same_Some}
 use Rattle.std.proofs.lemmas.Simd.{map-map}
 use Rattle.byte_forms.proofs.CutLemmas.{cases_option}
-use Rattle.as4_effects.specs.Pairing.{cid_in, named_by, is_among, all_differ, are_paired, pair}
+use Rattle.as4_values.specs.Pairing.{cid_in, named_by, is_among, all_differ, are_paired, pair}
 use Rattle.as4_message.proofs.AttachLemmas.{attach_paired}
 use Rattle.as4_message.specs.Attached.{is_inside, all_attached, attach}
 use Rattle.as4_message.specs.Meaning.{payload_value}
@@ -23,7 +23,7 @@ unfolding cid_in
 inside_names_none [] inside = refl
 inside_names_none (b ∷ href) inside = let hash : b ≡ 35 = grind arith in rw hash refl
 
--- one that names a Content-ID begins with none
+-- one that names a Content-ID doesn't begin with `#`
 names_not_inside : (href cid : List ℕ) → cid_in href ≡ Some cid → starts_with nat_eq href (codes "#") ≡ false
 names_not_inside href cid named = by (starts_with nat_eq href (codes "#")) refl
   where
@@ -31,7 +31,7 @@ names_not_inside href cid named = by (starts_with nat_eq href (codes "#")) refl
     by true inside = let none = inside_names_none href inside in absurd cc
     by false inside = refl
 
--- where each part info names a Content-ID, none refers to something inside, and there are as many names as part infos
+-- if each part info names a Content-ID, none refers to something inside, and there are as many names as part infos
 all_named : (infos : List PartInfo) (names : List (List ℕ)) → named_by infos ≡ Some names → (list_any is_inside infos ≡ false) × (length infos ≡ length names)
 unfolding named_by
 all_named [] names named = (refl, ap length (same_Some [] names named))
@@ -64,12 +64,12 @@ attach_again infos payloads is =
     attach_paired infos (map payload_part payloads) names.0 (all_named infos names.0 names.1).0 (sym names.1)
     ∙ rw (parts_attached payloads, map-map (λ part. part.cid) payload_value payloads, names.2) refl
 
--- the second and the last of four that hold
+-- the second and the last of four conditions
 second_and_last : (a b c d : Bool) → (a && (b && (c && d))) ≡ true → (b ≡ true) × (d ≡ true)
 second_and_last a b c d e =
     let behind = second_so a (b && (c && d)) e in (first_so b (c && d) behind, second_so c d (second_so b (c && d) behind))
 
--- the payloads' Content-IDs differ and are all named, so there are no more than part infos
+-- the payloads' Content-IDs differ and are all named, so the payloads are at most as many as the part infos
 pub payloads_are_few : (infos : List PartInfo) (payloads : List Payload) → pair infos payloads ≡ true → IsPartCount infos → length payloads ≤ 255
 payloads_are_few infos payloads is few =
     let names = names_of infos payloads is in

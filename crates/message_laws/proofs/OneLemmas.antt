@@ -1,4 +1,4 @@
--- One message comes so, hence one is read.
+-- A received value comes from one message only, so that message is read.
 use Rattle.std.proofs.Common.{◌≡◌, ℕ, List, [], ◌∷◌, Result, Ok, Err, map, refl, sym, ap, ap₂, ◌∙◌}
 use Rattle.as4_effects.proofs.PartLemmas.{payload_told}
 use Rattle.as4_message.proofs.MeaningLemmas.{one_meaning_of}
@@ -11,7 +11,7 @@ use Rattle.as4_values.specs.declared.message.Message.TheVariants as message
 use Rattle.as4_values.specs.declared.payload.Payload.{Payload}
 use Rattle.message_laws.specs.Answers.{IsReadAs}
 
--- payloads are told by what comes of them
+-- payloads are equal if their values are
 payloads_told : (payloads others : List Payload) → map payload_value payloads ≡ map payload_value others → payloads ≡ others
 payloads_told [] [] same = refl
 payloads_told [] (other ∷ others) same = absurd cc
@@ -21,14 +21,14 @@ payloads_told (payload ∷ payloads) (other ∷ others) same =
     let rest : map payload_value payloads ≡ map payload_value others = cc in
     ap₂ ◌∷◌ (payload_told payload other (ap (λ (value : AttachedValue). ((value.cid, value.media), value.content)) first)) (payloads_told payloads others rest)
 
--- no two messages came so
+-- no two messages have the same received value
 one_message : (received : ReceivedValue) (m other : Message) → IsMessage received m → IsMessage received other → m ≡ other
 one_message (user header parts) m other first second =
     first.2 ∙ (ap (message.User header) (payloads_told first.0 second.0 (sym first.1 ∙ second.1)) ∙ sym second.2)
 one_message (signal s) m other first second = first ∙ sym second
 one_message (pair p) m other first second = first ∙ sym second
 
--- where a message has a meaning, whatever is answered by that meaning is this message
+-- if a message has a meaning, each result with that meaning is this message
 pub answer_again : (m : Message) (media body : List ℕ) (received : ReceivedValue) → Means media body (Ok received) → IsMessage received m
     → (answer : Result Message MessageRefusal) → AnswersBy (λ read. read) answer (Copies (Means media body)) → IsReadAs answer m
 answer_again m media body received means is (Ok read) found =

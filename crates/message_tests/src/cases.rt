@@ -1,7 +1,7 @@
-//! Messages by hand, what is changed in each, and the line that is told of it then. A change is `old=>new`: the first `old`
-//! becomes `new`. Lines end in CRLF.
+//! Sample messages, a change of each, and the check line that results. A change is `old=>new`: the first `old` becomes
+//! `new`. Lines end in CRLF.
 
-/// What is changed in the media text, what in the body, and the line.
+/// The change of the media text, the change of the body, and the check line.
 pub type Case = (&'static str, &'static str, &'static str);
 
 pub const MEDIA: &str =
@@ -347,7 +347,7 @@ pub const FIELD_CASES: [Case; 45] = [
     ("", "Content-Transfer-Encoding: binary\r\n=>", "user m1@a"),
 ];
 
-/// The root, and what it holds.
+/// The root, and its content.
 pub const ROOT_CASES: [Case; 29] = [
     (
         "",

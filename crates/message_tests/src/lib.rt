@@ -1,4 +1,4 @@
-//! Tests of `mime_package` and `as4_message`, by what they make public.
+//! Tests of the public interfaces of `mime_package` and `as4_message`.
 #![tactic(auto)]
 
 #[cfg(test)]

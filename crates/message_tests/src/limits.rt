@@ -1,4 +1,4 @@
-//! Messages at each limit and one past it, each beginning of a package, and each byte of a boundary.
+//! Messages at each limit and one past it, each prefix of a package, and each byte of a boundary.
 
 use crate::cases::{BARE, BARE_MEDIA, BODY, MEDIA};
 use crate::lines::{changed, is_told};
@@ -11,8 +11,8 @@ const NO_PACKAGE: &str = "refused EBMS:0007";
 
 const NO_ENVELOPE: &str = "refused EBMS:0009";
 
-/// Whether the beginning of so many bytes is told so: a package only with its last delimiter, and then with its CRLF or
-/// without, is one.
+/// Whether the prefix of this length has the right check line: it is a package only if it includes the last delimiter,
+/// with or without its CRLF.
 fn is_beginning_told(alloc: Global, len: usize) -> Option<bool> {
     let (front, _) = BODY.as_bytes().split_at_checked(len)?;
     let is_whole = len == BODY.len() || len + 2 == BODY.len();
@@ -84,7 +84,7 @@ fn a_boundary_has_its_characters(rt: HostRuntime) -> Result<(), Fail> {
     Ok(())
 }
 
-/// So many copies of a text.
+/// This many copies of a text.
 fn repeated(alloc: Global, text: &str, count: usize) -> Option<String> {
     let mut out = String::new(alloc);
     for _ in 0..count {
@@ -93,14 +93,14 @@ fn repeated(alloc: Global, text: &str, count: usize) -> Option<String> {
     Some(out)
 }
 
-/// Whether a package with this change is told so.
+/// Whether a package with this change has this check line.
 fn is_change_told(alloc: Global, old: &str, new: &str, wanted: &str) -> Option<bool> {
     let change = format!(in alloc; "{old}=>{new}").ok()?;
     let body = changed(alloc, BODY, change.as_str())?;
     is_told(alloc, MEDIA.as_bytes(), body.as_slice(), wanted)
 }
 
-/// Fields beside the three that the part has.
+/// Whether a part with this many further fields has this check line.
 fn are_fields_told(alloc: Global, count: usize, wanted: &str) -> Option<bool> {
     let fields = repeated(alloc, "X: y\r\n", count)?;
     let part = format!(in alloc; "Content-Type: text/plain\r\n{fields}").ok()?;
@@ -126,7 +126,7 @@ fn a_media_text_has_1024_bytes(rt: HostRuntime) -> Result<(), Fail> {
     Ok(())
 }
 
-/// Whether a part with an identifier of so many bytes, which is named, is told so.
+/// Whether a part that is named by an identifier of this length has this check line.
 fn is_id_told(alloc: Global, len: usize, wanted: &str) -> Option<bool> {
     let id = repeated(alloc, "x", len)?;
     let change = format!(in alloc; "cid:p1@a=>cid:{id}").ok()?;
@@ -144,7 +144,7 @@ fn an_identifier_has_255_bytes(rt: HostRuntime) -> Result<(), Fail> {
     Ok(())
 }
 
-/// Part infos and parts with the numbers from 2 up to the one before this.
+/// Part infos and parts with the numbers from 2 to `end` - 1.
 fn more_parts(alloc: Global, end: usize) -> Option<(String, String)> {
     let mut infos = String::new(alloc);
     let mut parts = String::new(alloc);
@@ -157,7 +157,7 @@ fn more_parts(alloc: Global, end: usize) -> Option<(String, String)> {
     Some((infos, parts))
 }
 
-/// A package with so many parts, of which each but the root has a part info.
+/// A package with this many parts, each of which except the root has a part info.
 pub fn many_parts(alloc: Global, count: usize) -> Option<Vec<u8>> {
     let (infos, parts) = more_parts(alloc, count)?;
     let change = format!(in alloc; "\"cid:p1@a\">=>\"cid:p1@a\">{infos}").ok()?;
@@ -167,7 +167,7 @@ pub fn many_parts(alloc: Global, count: usize) -> Option<Vec<u8>> {
     changed(alloc, text.as_str(), change.as_str())
 }
 
-/// Whether it is told so.
+/// Whether such a package has this check line.
 fn are_parts_told(alloc: Global, count: usize, wanted: &str) -> Option<bool> {
     let body = many_parts(alloc, count)?;
     is_told(alloc, MEDIA.as_bytes(), body.as_slice(), wanted)
@@ -180,7 +180,7 @@ fn a_package_has_256_parts(rt: HostRuntime) -> Result<(), Fail> {
     Ok(())
 }
 
-/// Whether a bare envelope of so many bytes is told so.
+/// Whether a bare envelope of this length has this check line.
 fn is_envelope_told(alloc: Global, len: usize, wanted: &str) -> Option<bool> {
     let blanks = repeated(alloc, " ", len.saturating_sub(BARE.len()))?;
     let body = format!(in alloc; "{BARE}{blanks}").ok()?;
@@ -197,7 +197,7 @@ fn an_envelope_has_262144_bytes(rt: HostRuntime) -> Result<(), Fail> {
     Ok(())
 }
 
-/// Whether an envelope with so many elements nested in its body is told so.
+/// Whether an envelope with this many elements nested in its body has this check line.
 fn is_depth_told(alloc: Global, depth: usize, wanted: &str) -> Option<bool> {
     let (starts, ends) = (
         repeated(alloc, "<x>", depth)?,

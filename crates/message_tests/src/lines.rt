@@ -1,4 +1,4 @@
-//! The line of each case.
+//! The check line of each case.
 
 use crate::cases::{
     BARE, BARE_CASES, BARE_MEDIA, BODY, CUT_CASES, Case, FIELD_CASES, MEDIA, MEDIA_CASES,
@@ -8,7 +8,7 @@ use as4_message::check_line;
 use std::alloc::Global;
 use std::test::Fail;
 
-/// The text with the change made; nothing where its old part doesn't stand in the text.
+/// The text with this change; `None` if the text doesn't contain the old part.
 pub fn changed(alloc: Global, text: &str, change: &str) -> Option<Vec<u8>> {
     if change.is_empty() {
         return Vec::from_slice(alloc, text.as_bytes()).ok();
@@ -21,7 +21,7 @@ pub fn changed(alloc: Global, text: &str, change: &str) -> Option<Vec<u8>> {
     Some(bytes)
 }
 
-/// Whether this line is told of them.
+/// Whether the media text and the body have this check line.
 pub fn is_told(alloc: Global, media: &[u8], body: &[u8], wanted: &str) -> Option<bool> {
     let line = check_line(alloc, media, body).ok()?;
     let (words, end) = line.text.bytes().split_at_checked(wanted.len())?;
@@ -38,7 +38,7 @@ fn is_right(alloc: Global, media: &str, body: &str, case: &Case) -> Option<bool>
     is_told(alloc, media.as_slice(), body.as_slice(), case.2)
 }
 
-/// The index of the first case that is otherwise.
+/// The index of the first case with another line.
 fn first_wrong(alloc: Global, media: &str, body: &str, cases: &[Case]) -> Option<usize> {
     cases
         .iter()

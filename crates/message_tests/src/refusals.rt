@@ -1,4 +1,4 @@
-//! By which refusal a package is refused, and at which part.
+//! The refusal of a package, and the part that it names.
 
 use crate::cases::{BODY, MEDIA};
 use crate::limits::many_parts;
@@ -7,7 +7,7 @@ use mime_package::{MimeRefusal, read_parts};
 use std::alloc::Global;
 use std::test::Fail;
 
-/// The refusal, and nothing where the package is read.
+/// The refusal; `None` if the package is read.
 fn refusal_of(alloc: Global, media: &[u8], body: &[u8]) -> Option<MimeRefusal> {
     match read_parts(alloc, media, body) {
         Ok(package) => {
@@ -18,7 +18,7 @@ fn refusal_of(alloc: Global, media: &[u8], body: &[u8]) -> Option<MimeRefusal> {
     }
 }
 
-/// What is changed in the media text, what in the body, and the refusal.
+/// The change of the media text, the change of the body, and the refusal.
 type Row = (&'static str, &'static str, MimeRefusal);
 
 const ROWS: [Row; 15] = [

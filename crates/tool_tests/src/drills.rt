@@ -1,14 +1,14 @@
-//! How the drill of a script ends.
+//! The end of a script's drill.
 
 use crate::ended::{NOTHING_FAILS, Wanted, ends};
 use std::alloc::{AllocError, Global};
 
-/// Whether a drill of the script ends so.
+/// Whether the drill of the script ends so.
 fn is_drilled(alloc: Global, script: &[u8], wanted: Wanted) -> bool {
     ends(alloc, "drill", script, NOTHING_FAILS, wanted)
 }
 
-/// What is told of the first line of a script, and of the third.
+/// The reports for an error in the first line of a script, and in the third.
 const FIRST_IS_WRONG: &[u8] = b"line 1\n";
 
 const THIRD_IS_WRONG: &[u8] = b"line 3\n";
@@ -20,7 +20,7 @@ const WRONG_FROM_THE_START: [(&str, &str); 4] = [
     ("take c\ntake a\n", ""),
 ];
 
-/// The first of these scripts that doesn't end at a wrong line that is told so, or writes something else before it.
+/// The first of these scripts that doesn't end with this report of a wrong line, or writes another text before it.
 fn first_other(alloc: Global, scripts: &[(&str, &str)], told: &[u8]) -> Option<usize> {
     for (at, (script, written)) in scripts.iter().enumerate() {
         if !is_drilled(alloc, script.as_bytes(), (2, written.as_bytes(), told)) {
@@ -38,7 +38,7 @@ fn a_wrong_line_of_a_script_is_told(rt: HostRuntime) {
     );
 }
 
-/// The third line isn't one of a script, or not in its place, or has no end.
+/// The third line is wrong, isn't allowed at its place, or is unended.
 const WRONG_AT_THE_THIRD: [(&str, &str); 6] = [
     ("mode m push 1 1\ntake a\nhop a\n", "a nothing\n"),
     (
@@ -77,7 +77,7 @@ fn a_script_is_run(rt: HostRuntime) {
     assert!(rt; is_drilled(rt.alloc(), b"submit a m none\n", (0, written, b"")));
 }
 
-/// This line so many times.
+/// This line, repeated this many times.
 fn repeated(alloc: Global, line: &[u8], times: u32) -> Result<Vec<u8>, AllocError> {
     let mut lines = Vec::new(alloc);
     for _ in 0..times {
@@ -86,8 +86,8 @@ fn repeated(alloc: Global, line: &[u8], times: u32) -> Result<Vec<u8>, AllocErro
     Ok(lines)
 }
 
-/// Whether a script of 100,001 events ends behind the first 100,000. A clock that is set to its own moment is an event too,
-/// and gives nothing up.
+/// Whether a script of 100,001 events ends after the first 100,000. Setting a clock to its own moment is an event too,
+/// and no submission expires.
 fn ends_behind_the_last_event(alloc: Global) -> Result<bool, AllocError> {
     let script = repeated(alloc, b"tick a 0\n", 100_001)?;
     let written = repeated(alloc, b"a ticked 0\n", 100_000)?;

@@ -1,11 +1,11 @@
-//! Runs of the program, and how each ends.
+//! Runs of the program, and their ends.
 
 use as4_flow::{MemorySink, MemorySource};
 use as4_tool::run;
 use as4_values::{Octets, Seq};
 use std::alloc::{AllocError, Global};
 
-/// A run that has ended.
+/// The result of a run.
 #[derive(Drop)]
 struct End {
     status: u8,
@@ -13,7 +13,7 @@ struct End {
     told: Vec<u8>,
 }
 
-/// The numbers of the calls that fail, the first call being 1, and 0 for none.
+/// The numbers of the calls that fail; the first call is 1, and 0 means none.
 #[derive(Clone, Copy)]
 pub(crate) struct Failing {
     read: u64,
@@ -48,17 +48,18 @@ pub(crate) const TELL_FAILS: Failing = Failing {
     tell: 1,
 };
 
-/// The bytes that a sink takes without asking for more memory: the longest text that a test writes but one has fewer.
+/// The number of bytes that a sink takes without allocating. All texts that tests write are shorter, except the
+/// longest.
 const ROOM: usize = 8_192;
 
-/// A sink that has room for all that a test writes.
+/// A sink with room for all that a test writes.
 pub(crate) fn sink(alloc: Global, failing: u64) -> Result<MemorySink, AllocError> {
     let mut sink = MemorySink::of(alloc, Vec::new(alloc), vec![in alloc; failing]?);
     sink.reserve(ROOM)?;
     Ok(sink)
 }
 
-/// The words that stand between single spaces.
+/// The words between single spaces.
 pub(crate) fn words_of(alloc: Global, line: &str) -> Result<Seq<Octets>, AllocError> {
     let mut words = Vec::new(alloc);
     for word in line.split(' ') {
@@ -86,10 +87,10 @@ fn end_of(
     })
 }
 
-/// A status, and what is written and told with it.
+/// A status, and the texts on the output and on the errors.
 pub(crate) type Wanted<'a> = (u8, &'a [u8], &'a [u8]);
 
-/// Whether the words, with this input, end so.
+/// Whether the run of the words, with this input, ends so.
 pub(crate) fn end_so(
     alloc: Global,
     words: &Seq<Octets>,
@@ -106,7 +107,7 @@ pub(crate) fn end_so(
     }
 }
 
-/// Whether the words of this line, with this input, end so.
+/// Whether the run of this line's words, with this input, ends so.
 pub(crate) fn ends(
     alloc: Global,
     line: &str,

@@ -1,4 +1,4 @@
-//! Tests of `as4_tool`, by what it makes public.
+//! Tests of the public interface of `as4_tool`.
 #![tactic(auto)]
 
 #[cfg(test)]

@@ -1,4 +1,4 @@
-//! The number of each status, and what it tells.
+//! The number of each status, and its line.
 
 use crate::ended::{Failing, NOTHING_FAILS, READ_FAILS, TELL_FAILS, WRITE_FAILS, ends, sink};
 use as4_tool::Status;
@@ -8,7 +8,7 @@ use std::alloc::Global;
 const PULL: &str =
     "Content-Type: application/soap+xml\r\n\r\n<S:Envelope xmlns:S=\"http://www.w3.org/2003/05/soap-envelope\" xmlns:eb=\"http://docs.oasis-open.org/ebxml-msg/ebms/v3.0/ns/core/200704/\"><S:Header><eb:Messaging S:mustUnderstand=\"true\"><eb:SignalMessage><eb:MessageInfo><eb:Timestamp>2025-01-02T03:04:05.006Z</eb:Timestamp><eb:MessageId>s2@b</eb:MessageId></eb:MessageInfo><eb:PullRequest mpc=\"urn:ch\"></eb:PullRequest></eb:SignalMessage></eb:Messaging></S:Header><S:Body></S:Body></S:Envelope>";
 
-/// Words, what fails, and the status and the line with which they end.
+/// Words, the calls that fail, and the status and the line at the end.
 const FAULTS: [(&str, Failing, u8, &str); 11] = [
     ("answer 0 1", READ_FAILS, 3, "read fault\n"),
     ("check", READ_FAILS, 3, "read fault\n"),
@@ -23,7 +23,7 @@ const FAULTS: [(&str, Failing, u8, &str); 11] = [
     ("answer 0", TELL_FAILS, 64, ""),
 ];
 
-/// The first row that ends otherwise, or has something written.
+/// The first row with another end, or with any output.
 fn first_other_fault(alloc: Global, rows: &[(&str, Failing, u8, &str)]) -> Option<usize> {
     for (at, (line, failing, status, told)) in rows.iter().enumerate() {
         let wanted = (*status, b"".as_slice(), told.as_bytes());
@@ -39,7 +39,7 @@ fn each_fault_has_its_status(rt: HostRuntime) {
     assert_eq!(rt; first_other_fault(rt.alloc(), &FAULTS), None);
 }
 
-/// Whether the status has this number, and tells just this to a sink of which this write fails.
+/// Whether the status has this number, and sends just this to a sink whose given write fails.
 fn is_told(alloc: Global, status: Status, failing: u64, code: u8, told: &str) -> bool {
     let Ok(mut errors) = sink(alloc, failing) else {
         return false;
@@ -68,7 +68,7 @@ const STATUSES: [(Status, u8, &str); 11] = [
     (Status::BadWords, 64, "bad words\n"),
 ];
 
-/// The first of these statuses that has another number or tells something else.
+/// The first of these statuses with another number or another line.
 fn first_other_status(alloc: Global, rows: &[(Status, u8, &str)]) -> Option<usize> {
     for (at, (status, code, told)) in rows.iter().enumerate() {
         if !is_told(alloc, *status, 0, *code, told) {
@@ -83,10 +83,10 @@ fn each_status_has_its_number_and_line(rt: HostRuntime) {
     assert_eq!(rt; first_other_status(rt.alloc(), &STATUSES), None);
 }
 
-/// What is told of a wrong line, by the write that fails.
+/// The number of the write that fails, and what was sent of the line for a wrong script line.
 const FRONTS: [(u64, &str); 4] = [(1, ""), (2, "line "), (3, "line 12"), (4, "line 12\n")];
 
-/// The first row of which something else is told.
+/// The first row with another text.
 fn first_other_front(alloc: Global, rows: &[(u64, &str)]) -> Option<usize> {
     let status = Status::WrongLine { number: 12 };
     for (at, (failing, told)) in rows.iter().enumerate() {

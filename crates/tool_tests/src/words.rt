@@ -1,4 +1,4 @@
-//! Which words are a command, and what the help says.
+//! Which words are a command, and the contents of the help.
 
 use crate::ended::{NOTHING_FAILS, end_so, ends, words_of};
 use as4_tool::{Command, HELP, LIMIT, MAX_COUNT, VERSION, command_of};
@@ -10,11 +10,11 @@ use std::str;
 
 const TOLD: &[u8] = b"bad words\n";
 
-/// The message file of a pull request, which isn't answered.
+/// The message file of a pull request, which has no answer.
 const OTHER: &[u8] =
     b"Content-Type: application/soap+xml\r\n\r\n<S:Envelope xmlns:S=\"http://www.w3.org/2003/05/soap-envelope\" xmlns:eb=\"http://docs.oasis-open.org/ebxml-msg/ebms/v3.0/ns/core/200704/\"><S:Header><eb:Messaging S:mustUnderstand=\"true\"><eb:SignalMessage><eb:MessageInfo><eb:Timestamp>2025-01-02T03:04:05.006Z</eb:Timestamp><eb:MessageId>s2@b</eb:MessageId></eb:MessageInfo><eb:PullRequest mpc=\"urn:ch\"></eb:PullRequest></eb:SignalMessage></eb:Messaging></S:Header><S:Body></S:Body></S:Envelope>";
 
-/// Whether these words ask for an answer.
+/// Whether these words request an answer.
 fn are_heard(alloc: Global, line: &str) -> bool {
     ends(
         alloc,
@@ -54,7 +54,7 @@ const BAD_WORDS: [&str; 18] = [
     "",
 ];
 
-/// The first of these lines that isn't bad words, or with which something is written.
+/// The first of these lines that isn't bad words, or whose run writes something.
 fn first_not_bad(alloc: Global, lines: &[&str]) -> Option<usize> {
     for (at, line) in lines.iter().enumerate() {
         if !ends(alloc, line, OTHER, NOTHING_FAILS, (64, b"", TOLD)) {
@@ -69,7 +69,7 @@ fn other_words_are_bad(rt: HostRuntime) {
     assert_eq!(rt; first_not_bad(rt.alloc(), &BAD_WORDS), None);
 }
 
-/// Whether the words of this line are read so.
+/// Whether the words of this line are read as this command.
 fn are_read(alloc: Global, line: &str, command: Option<Command>) -> bool {
     match words_of(alloc, line) {
         Ok(words) => command_of(&words) == command,
@@ -150,7 +150,7 @@ fn help_and_version_are_written(rt: HostRuntime) {
     assert!(rt; VERSION == b"as4 0.1.0\n".as_slice());
 }
 
-/// The lines that a user goes by.
+/// Lines that a user relies on.
 const HELP_PARTS: [&str; 23] = [
     "\n  as4 answer STAMP NONCE  ",
     "\n  as4 check  ",
@@ -177,7 +177,7 @@ const HELP_PARTS: [&str; 23] = [
     "64  bad words:",
 ];
 
-/// The first of these parts that the help lacks.
+/// The first of these parts that is missing from the help.
 fn first_lacking(help: &str, parts: &[&str]) -> Option<usize> {
     for (at, part) in parts.iter().enumerate() {
         if !help.contains(*part) {
@@ -193,7 +193,7 @@ fn the_help_has_each_line(rt: HostRuntime) {
     assert_eq!(rt; first_lacking(help, &HELP_PARTS), None);
 }
 
-/// What stands before a number in the help, the number, and what stands behind it.
+/// The text before a number in the help, the number, and the text after it.
 const NUMBERS: [(&str, u64, &str); 14] = [
     ("1970-01-01T00:00:00Z, 0 to ", MAX_MOMENT, "\n"),
     ("messages follow from: 0 to ", u64::MAX, ";"),
@@ -211,7 +211,7 @@ const NUMBERS: [(&str, u64, &str); 14] = [
     ("its device call CALL, 1 to ", MAX_CALL, ", is\n"),
 ];
 
-/// The first of these numbers that the help hasn't in its place.
+/// The first of these numbers that isn't at its place in the help.
 fn first_other_number(alloc: Global, help: &str, rows: &[(&str, u64, &str)]) -> Option<usize> {
     for (at, (front, number, back)) in rows.iter().enumerate() {
         match format!(in alloc; "{front}{number}{back}") {
