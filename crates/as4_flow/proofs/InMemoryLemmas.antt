@@ -1,4 +1,4 @@
--- Lemmas on a source and a sink in memory, whose bytes and pieces stand in lists with a place up to which they are used up.
+-- Lemmas on a source and a sink in memory, whose bytes and pieces are lists with a place up to which they are used up.
 use Rattle.std.proofs.Common.{◌≡◌, ℕ, ◌+◌, ◌≤◌, List, [], ◌∷◌, ◌++◌, length, take, drop, min, sym, ◌∙◌, ap, arith}
 use Rattle.std.proofs.lemmas.List.{take-append-drop, length-take-le, take_at, drop-drop, drop_min}
 use Rattle.as4_flow.specs.Flow.{one_more}
@@ -11,7 +11,7 @@ pub piece_size_within : (sizes : List ℕ) (most : ℕ) → piece_size sizes mos
 piece_size_within [] most = omega arith
 piece_size_within (size ∷ sizes) most = omega arith
 
--- what is left is the front that goes, and what is left behind it
+-- what is left is the prefix that is given, and what is left after it
 pub left_given : (all piece room : List ℕ) (given n : ℕ) → n ≤ length (drop given all) → piece ≡ take n (drop given all) → drop given all ≡ take n (piece ++ room) ++ drop (given + n) all
 left_given all piece room given n within piece_is =
     let long : length piece ≡ n = ap length piece_is ∙ length-take-le n (drop given all) within in

@@ -1,3 +1,4 @@
+pub mod ClockLemmas
 pub mod FlowLemmas
 pub mod InMemoryLemmas
 pub mod StreamsLemmas

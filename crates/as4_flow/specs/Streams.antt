@@ -1,4 +1,4 @@
--- What a stream of the system stands on, and its count of faults.
+-- The reader or writer of a stream of the system, and its count of faults.
 use Rattle.std.specs.Prelude.{ℕ}
 use Rattle.as4_flow.specs.declared.standard.ReaderSource.{ReaderSource}
 use Rattle.as4_flow.specs.declared.standard.WriterSink.{WriterSink}

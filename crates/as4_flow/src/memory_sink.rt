@@ -1,4 +1,4 @@
-//! A sink in memory, which tells what it took: for tests, and for bytes that are wanted in one place.
+//! An observable sink in memory: for tests, and for bytes that are needed in one place.
 ghost use Rattle.std.specs.Prelude.{◌≡◌, ◌⊎◌, ℕ, Some, ◌<◌, ◌+◌, ◌≤◌, length, take, OnOk};
 ghost use Rattle.as4_flow.specs.Flow.{appended, Rose};
 ghost use Rattle.as4_flow.specs.InMemory.{new_sink, IsFailing, piece_size, after_write};
@@ -40,7 +40,7 @@ impl Model for MemorySink {
 
 impl MemorySink {
     /// `pieces` are the most that each call takes, one used up by each call that takes; 0 counts as 1, and
-    /// behind the last a call takes all that it is given. `failing` are the numbers of the calls that
+    /// after the last a call takes all that it is given. `failing` are the numbers of the calls that
     /// fail, the first call being 1. A call that finds no memory fails too.
     pub fn of(alloc: Global, pieces: Vec<usize>, failing: Vec<u64>) -> MemorySink
         ensures { result ≡ new_sink pieces.items failing.items }
@@ -68,6 +68,13 @@ impl MemorySink {
         ensures { result.now ≡ self.now.bytes }
     {
         &self.bytes
+    }
+
+    /// How many calls have failed, up to the last value of a `u64`.
+    pub fn faults(&self) -> u64
+        ensures { result ≡ self.now.faults }
+    {
+        self.faults
     }
 
     pub fn into_bytes(self) -> Vec<u8>

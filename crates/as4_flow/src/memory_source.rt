@@ -1,4 +1,4 @@
-//! A source in memory, which tells what it has left: for tests, and for bytes that are there already.
+//! An observable source in memory: for tests, and for bytes that are there already.
 ghost use Rattle.std.specs.Prelude.{◌≡◌, ℕ, Some, [], ◌<◌, ◌≤◌, ◌↔◌, length, take, drop, min};
 ghost use Rattle.as4_flow.specs.Flow.{Told, before, Rose};
 ghost use Rattle.as4_flow.specs.InMemory.{new_source, IsFailing, piece_size, after_read};
@@ -39,7 +39,7 @@ impl Model for MemorySource {
 
 impl MemorySource {
     /// `pieces` are the most that each call gives, one used up by each call that gives; 0 counts as 1, and
-    /// behind the last a call gives as much as there is room for. `failing` are the numbers of the calls
+    /// after the last a call gives as much as there is room for. `failing` are the numbers of the calls
     /// that fail, the first call being 1.
     pub fn of(bytes: Vec<u8>, pieces: Vec<usize>, failing: Vec<u64>) -> MemorySource
         ensures { result ≡ new_source bytes.items pieces.items failing.items }
@@ -60,6 +60,13 @@ impl MemorySource {
         ensures { result.now ≡ self.now.bytes }
     {
         &self.bytes[self.given..]
+    }
+
+    /// How many calls have failed, up to the last value of a `u64`.
+    pub fn faults(&self) -> u64
+        ensures { result ≡ self.now.faults }
+    {
+        self.faults
     }
 }
 

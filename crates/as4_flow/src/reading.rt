@@ -18,11 +18,11 @@ const _: () = prove!(LEAST_STEP == 1048576);
 /// Why a source was not read to its end.
 #[derive(Clone, Copy, Debug, PartialEq, Eq)]
 pub enum ReadRefusal {
-    /// The source failed. The bytes that came before it did are gone.
+    /// The source failed. The bytes that came before that are dropped.
     Failed,
-    /// More bytes came than the limit allows. One byte above it was read, and those behind it were not.
+    /// More bytes came than the limit allows. One byte above it was read, and the bytes after it were not.
     TooLong,
-    /// There was no memory for the bytes. Those that came are gone.
+    /// There was no memory for the bytes. Those that came are dropped.
     NoMemory,
 }
 
@@ -50,7 +50,7 @@ pub fn read_all<S: Source>(
     ensures too_long { IsErrOf result ReadRefusal.TooLong → Told (S.left source.old) (λ bytes. limit < length bytes) }
     ensures failed { IsErrOf result ReadRefusal.Failed → Rose (S.faults source.old) (S.faults source.new) }
 
-    // Whatever the answer, the source has lost a front, of one byte above the limit at most.
+    // Whatever the answer, the source has lost a prefix, of one byte above the limit at most.
     ensures front { LosesFront (limit + 1) (S.left source.old) (S.left source.new) }
     ensures counted { S.faults source.old ≤ S.faults source.new }
 

@@ -17,13 +17,13 @@ pub enum Put {
 pub trait Sink {
     ghost use Rattle.as4_flow.specs.Put.{IfTook};
 
-    /// The bytes that were taken so far, where the sink tells them.
+    /// The bytes that were taken so far, where the sink is observable.
     ghost taken: { Self → Option (List ℕ) };
 
     /// How many faults there were, up to the last value of a `u64`.
     ghost faults: { Self → ℕ };
 
-    /// Takes the front of the piece, as much as goes at once.
+    /// Takes a prefix of the piece, as much as it can at once.
     fn write(&mut self, piece: &[u8]) -> Put
         requires { 0 < length piece.now }
         ensures some { IfTook result (λ n. (1 ≤ n) × (n ≤ length piece.now)) }
@@ -35,18 +35,18 @@ pub trait Sink {
         ensures counted { faults self.old ≤ faults self.new };
 }
 
-/// The sink failed, and took only a front of the bytes: what it takes after this continues nothing.
+/// The sink failed, and took only a prefix of the bytes: what it takes after this doesn't continue them.
 #[derive(Clone, Copy, Debug, PartialEq, Eq)]
 pub struct SendFailed;
 
-/// Writes all the bytes, in as many pieces as the sink wants. It takes no memory.
+/// Writes all the bytes, in as many pieces as the sink needs. It takes no memory.
 #[tactic(auto, using(crate::proofs::FlowLemmas::appended_more))]
 pub fn send_all<K: Sink>(sink: &mut K, bytes: &[u8]) -> Result<(), SendFailed>
     ensures ok { OnOk result (K.taken sink.new ≡ appended (K.taken sink.old) bytes.now) }
     ensures quiet { OnOk result (K.faults sink.new ≡ K.faults sink.old) }
     ensures err { OnErr result (Rose (K.faults sink.old) (K.faults sink.new)) }
 
-    // Whatever the answer, what came is a front of the bytes.
+    // Whatever the answer, what the sink took is a prefix of the bytes.
     ensures front { TakesFront bytes.now (K.taken sink.old) (K.taken sink.new) }
     ensures counted { K.faults sink.old ≤ K.faults sink.new }
 

@@ -13,20 +13,20 @@ pub enum Got {
     Gave(usize),
     /// No more bytes will come.
     End,
-    /// Nothing came. The next read goes on where this one would have.
+    /// Nothing came. The next read continues where this one would have.
     Failed,
 }
 
 pub trait Source {
     ghost use Rattle.as4_flow.specs.Got.{IfGave, OnNothing, UnlessFailed};
 
-    /// The bytes that are left to come, where the source tells them.
+    /// The bytes that are left to come, where the source is observable.
     ghost left: { Self → Option (List ℕ) };
 
     /// How many faults there were, up to the last value of a `u64`.
     ghost faults: { Self → ℕ };
 
-    /// Puts the next bytes at the front of the room, as many as are at hand.
+    /// Puts the next bytes at the start of the room, as many as are available.
     fn read(&mut self, room: &mut [u8]) -> Got
         requires { 0 < length room.old }
         ensures some { IfGave result (λ n. (1 ≤ n) × (n ≤ length room.new)) }

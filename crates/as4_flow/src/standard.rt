@@ -1,5 +1,5 @@
-//! The system's streams as a source and a sink. The system says nothing of content, so these tell nothing; what
-//! they keep is a count of the faults.
+//! The system's streams as a source and a sink. The system says nothing of content, so these aren't observable; they
+//! keep a count of the faults.
 ghost use Rattle.std.specs.Prelude.{◌≡◌, ℕ, List, [], Some, None, if◌then◌else◌, ◌<◌, ◌≤◌, length, take, drop, IfSome, IfNone, IfOk};
 ghost use Rattle.std.specs.Io.KnownBytes.{Consumes, Appends, Keeps, IsAtEnd};
 ghost use Rattle.as4_flow.specs.Flow.{Told, before, one_more, Rose};
@@ -18,11 +18,11 @@ const MOST: usize = 1 << 16;
 
 const _: () = prove!(MOST == 65536);
 
-/// Any reader of std as a source, as standard input or a socket. A read that gives nothing is its end.
+/// Any reader of std as a source, as standard input or a socket. A read that gives no bytes is its end.
 #[derive(Drop)]
 pub struct ReaderSource<R: Read + Drop> {
     reader: R,
-    // What a reader does to the room behind what it gave is not known, so it reads into this.
+    // What a reader does to the room past what it gave isn't known, so it reads into this.
     buffer: Vec<u8>,
     faults: u64,
     ghost has_room: { 0 < length buffer.items },
@@ -41,6 +41,13 @@ impl<R: Read + Drop> ReaderSource<R> {
             buffer: vec![in alloc; 0; MOST]?,
             faults: 0,
         })
+    }
+
+    /// How many reads have failed, up to the last value of a `u64`.
+    pub fn faults(&self) -> u64
+        ensures { result ≡ read_faults self.now }
+    {
+        self.faults
     }
 }
 
@@ -85,7 +92,7 @@ impl<R: Read + Drop> Source for ReaderSource<R> {
     }
 }
 
-// Reads into the buffer, and copies what came to the front of the room. `None` is a fault.
+// Reads into the buffer, and copies what came to the start of the room. `None` is a fault.
 fn fill<R: Read>(reader: &mut R, buffer: &mut Vec<u8>, room: &mut [u8]) -> Option<usize>
     requires buffer { 0 < length buffer.old.items }
     requires room { 0 < length room.old }
@@ -127,8 +134,8 @@ fn read_some<R: Read>(reader: &mut R, room: &mut [u8]) -> Option<usize>
     None
 }
 
-/// Any writer of std as a sink, as standard output or a socket. Hand in a writer without a buffer: what one
-/// `write` took has then reached the stream, and nothing is flushed.
+/// Any writer of std as a sink, as standard output or a socket. Use a writer without a buffer: the bytes that one
+/// `write` took have then reached the stream, and nothing is flushed.
 #[derive(Drop)]
 pub struct WriterSink<W: Write + Drop> {
     writer: W,
@@ -143,6 +150,13 @@ impl<W: Write + Drop> WriterSink<W> {
         ensures faults { write_faults result ≡ 0 }
     {
         WriterSink { writer, faults: 0 }
+    }
+
+    /// How many writes have failed, up to the last value of a `u64`.
+    pub fn faults(&self) -> u64
+        ensures { result ≡ write_faults self.now }
+    {
+        self.faults
     }
 }
 
@@ -162,7 +176,7 @@ impl<W: Write + Drop> Sink for WriterSink<W> {
         ensures quiet { IfTook result (λ _. write_faults self.new ≡ write_faults self.old) }
         ensures counted { write_faults self.old ≤ write_faults self.new }
 
-        // Where the writer says what it holds, it is these bytes that went behind it.
+        // Where the writer says what it holds, these bytes were appended to it.
         ensures appends { IfTook result
             (λ n. Appends (W.contents (writer_of self.old)) (W.contents (writer_of self.new)) (take n piece.now)) }
         ensures keeps { result ≡ Put.Failed →
