@@ -1,5 +1,5 @@
 -- Lemmas on bodies.
-use Rattle.std.proofs.Common.{◌≡◌, ℕ, ◌-◌, ◌≤◌, replicate, List, [], ◌++◌, length, Option, None, Some, refl, sym, ◌∙◌, ◌<◌, ap, subst, arith, append-nil, length-append}
+use Rattle.std.proofs.Common.{◌≡◌, ◌≢◌, ℕ, ◌-◌, ◌≤◌, replicate, List, [], ◌++◌, length, Option, None, Some, refl, sym, ◌∙◌, ◌<◌, ap, subst, arith, append_assoc, append-nil, length-append}
 use Rattle.std.proofs.lemmas.List.{length-replicate}
 use Rattle.as4_flow.specs.Flow.{before}
 use Rattle.as4_http.specs.Bodies.{BeginsChunked, BeginsBody, HasNoBody, IsBody, IsLong, TakesBody}
@@ -57,20 +57,33 @@ rest_shows framing told left refusal is long fact =
 
 -- ---- a stream begins with one body at most
 
-chunked_unique : (limits : Limits) (stream : List ℕ) (a b : List ℕ) (r q : List ℕ) → BeginsChunked limits stream a r → BeginsChunked limits stream b q → (a ≡ b) × (r ≡ q)
-chunked_unique limits stream a b r q x y =
+chunked_unique : (limits other : Limits) (stream : List ℕ) (a b : List ℕ) (r q : List ℕ) → BeginsChunked limits stream a r → BeginsChunked other stream b q → (a ≡ b) × (r ≡ q)
+chunked_unique limits other stream a b r q x y =
     let same = chunked_text_unique x.body y.body r q x.valid y.valid (sym x.reads ∙ y.reads) in
     (x.joins ∙ same.0 ∙ sym y.joins, same.1)
 
-pub body_unique : (limits : Limits) (framing : Framing) (stream a b r q : List ℕ) → BeginsBody limits framing stream a r → BeginsBody limits framing stream b q → (a ≡ b) × (r ≡ q)
-body_unique limits Empty stream a b r q x y = (x.0 ∙ sym y.0, sym x.1 ∙ y.1)
-body_unique limits (Counted n) stream a b r q x y = same_front a b r q (x.0 ∙ sym y.0) (sym x.2 ∙ y.2)
-body_unique limits Chunked stream a b r q x y = chunked_unique limits stream a b r q x y
-body_unique limits ToEnd stream a b r q x y = (sym x.1 ∙ y.1, x.2 ∙ sym y.2)
+pub body_unique : (limits other : Limits) (framing : Framing) (stream a b r q : List ℕ) → BeginsBody limits framing stream a r → BeginsBody other framing stream b q → (a ≡ b) × (r ≡ q)
+body_unique limits other Empty stream a b r q x y = (x.0 ∙ sym y.0, sym x.1 ∙ y.1)
+body_unique limits other (Counted n) stream a b r q x y = same_front a b r q (x.0 ∙ sym y.0) (sym x.2 ∙ y.2)
+body_unique limits other Chunked stream a b r q x y = chunked_unique limits other stream a b r q x y
+body_unique limits other ToEnd stream a b r q x y = (sym x.1 ∙ y.1, x.2 ∙ sym y.2)
 
--- ---- what has gone is what the stream begins with
+-- bytes that follow a body leave it as it is, unless it runs to the end of the stream
+pub body_goes_on : (limits : Limits) (framing : Framing) (stream bytes rest more : List ℕ) → framing ≢ ToEnd → BeginsBody limits framing stream bytes rest → BeginsBody limits framing (stream ++ more) bytes (rest ++ more)
+body_goes_on limits Empty stream bytes rest more bounded x = (x.0, ap (λ (l : List ℕ). l ++ more) x.1)
+body_goes_on limits (Counted n) stream bytes rest more bounded x = (x.0, x.1, ap (λ (l : List ℕ). l ++ more) x.2 ∙ append_assoc bytes rest more)
+body_goes_on limits Chunked stream bytes rest more bounded x = record {
+  body = x.body;
+  valid = x.valid;
+  small = x.small;
+  joins = x.joins;
+  reads = ap (λ (l : List ℕ). l ++ more) x.reads ∙ append_assoc (print_chunked x.body) rest more;
+}
+body_goes_on limits ToEnd stream bytes rest more bounded x = absurd (bounded refl)
 
--- where all that goes is told, so is what is left
+-- ---- what was taken is what the stream begins with
+
+-- where the stream before is observable, so is the stream after
 pub before_some : (start end : Option (List ℕ)) (front stream : List ℕ) → start ≡ before front end → start ≡ Some stream → (rest : List ℕ) × (end ≡ Some rest) × (stream ≡ front ++ rest)
 before_some start None front stream taken told = let clash : None ≡ Some stream = sym taken ∙ told in absurd (cc)
 before_some start (Some rest) front stream taken told = (rest, refl, cc (sym told ∙ taken))

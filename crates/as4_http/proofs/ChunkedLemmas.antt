@@ -10,8 +10,10 @@ use Rattle.as4_flow.proofs.FlowLemmas.{before_append}
 use Rattle.httparse.specs.Grammar.{LineEnd, lf, Field, IsField, print_section, ChunkLine, IsChunkLine, print_chunk_line, chunk_size}
 use Rattle.httparse.proofs.ChunkLemmas.{chunk_line_unique}
 use Rattle.httparse.proofs.GrammarLemmas.{section_unique}
+use Rattle.as4_http.specs.Asked.{AsksOnlyAsNeeded}
 use Rattle.as4_http.specs.Came.{IsShorter}
 use Rattle.as4_http.specs.ChunkLines.{IsShortLine, HasNoLine, IsWholeLine, IsCrlf, TakesLine, HasNoCrlf}
+use Rattle.as4_http.proofs.AskedLemmas.{asks_after}
 use Rattle.as4_http.proofs.LineEndLemmas.{zero_line, zero_valid}
 use Rattle.as4_http.proofs.PassedLemmas.{shows_behind}
 use Rattle.as4_http.proofs.RefusedLemmas.{refuses_behind, may_behind}
@@ -23,13 +25,13 @@ use Rattle.as4_http.specs.Chunks.{Chunk, print_chunk, IsChunk, IsShortChunk, Chu
 use Rattle.as4_http.specs.Trailers.{HasNoTrailers, AreTrailers, TakesTrailers}
 use Rattle.as4_http.specs.declared.limits.TheConstants.{MAX_TRAILERS, MAX_BODY}
 
--- fronts of one length are one
+-- prefixes of one length are one
 pub same_front : (a b x y : List ℕ) → length a ≡ length b → a ++ x ≡ b ++ y → (a ≡ b) × (x ≡ y)
 same_front a b x y count same =
     let front : a ≡ b = sym (take_at a x (length a) refl) ∙ ap (λ (l : List ℕ). take (length a) l) same ∙ take_at b y (length a) (sym count) in
     (front, append_cancel_left a x y (same ∙ ap (λ (l : List ℕ). l ++ y) (sym front)))
 
--- what stands at the front of what is left: the line of the next chunk, or the one behind the last
+-- what is left of a body, and then the rest: it begins with the line of the next chunk, or the one after the last
 abbrev left_text : List Chunk → ChunkedBody → List ℕ → List ℕ
 left_text chunks body rest = flat_map print_chunk chunks ++ print_end_of_chunks body ++ rest
 
@@ -109,7 +111,7 @@ goes_on limits chunks now none goes = go goes.ahead goes.parts (chunks_ahead lim
         let over = none _ _ (record { line = d.line; reads = (first.line, left ∙ next_chunk d ds goes.body goes.rest); short = All-head (IsShortChunk limits) d ds short; says = refl }) in
         omega (arith, over, first.size, ap (λ (l : List Chunk). length (joined l)) parts ∙ joined_count chunks d ds, goes.small.bytes)
 
--- it is the line behind the last chunk, or that of the next
+-- it is the line after the last chunk, or that of the next
 abbrev Ends : (limits : Limits) (chunks : List Chunk) (now : List ℕ) → Goes limits chunks now → ChunkLine → List ℕ → Type 0
 Ends limits chunks now goes line behind = (line ≡ goes.body.last) × (behind ≡ print_section goes.body.trailers goes.body.end ++ goes.rest)
 
@@ -127,7 +129,7 @@ line_is limits chunks line behind valid goes = go goes.ahead refl (chunks_ahead 
         let same = same_text line d.line behind _ valid first.line (left ∙ next_chunk d ds goes.body goes.rest) in
         inr (d, ds, is, same.0, first, same.1)
 
--- behind a line that says 0 there are trailers
+-- a line that says 0 is followed by trailers
 pub goes_to_trailers : (limits : Limits) (chunks : List Chunk) (line : ChunkLine) (behind : List ℕ) → IsChunkLine line → chunk_size line ≡ 0 → HasNoTrailers 0 limits behind → ¬ (Goes limits chunks (print_chunk_line line ++ behind))
 goes_to_trailers limits chunks line behind valid empty none goes =
     elim (line_is limits chunks line behind valid goes) [
@@ -135,7 +137,7 @@ goes_to_trailers limits chunks line behind valid empty none goes =
       | inr on ↦ omega (arith, empty, ap chunk_size on.3, on.4.size, on.4.some)
     ]
 
--- behind a line that says how many bytes there are, there are so many, and CRLF
+-- a line that says a number of bytes is followed by that number, and CRLF
 pub goes_to_chunk : (limits : Limits) (chunks : List Chunk) (line : ChunkLine) (behind : List ℕ) → IsChunkLine line → 0 < chunk_size line → HasNoChunk (chunk_size line) behind → ¬ (Goes limits chunks (print_chunk_line line ++ behind))
 goes_to_chunk limits chunks line behind valid some none goes =
     elim (line_is limits chunks line behind valid goes) [
@@ -175,7 +177,7 @@ pub record Passed (chunks : List Chunk) : Type 0 where
 pub passed_of : (chunks : List Chunk) (bytes : List ℕ) → All IsChunk chunks → All (IsShortChunk the_limits) chunks → bytes ≡ joined chunks → length bytes ≤ MAX_BODY → Passed chunks
 passed_of chunks bytes valid short joins within = record { valid = valid; short = short; within = omega (arith, within, ap length joins) }
 
--- behind chunks that have passed, a limit is passed
+-- a limit is passed after chunks that have passed
 pub chunks_show : (chunks : List Chunk) (n : ℕ) (told now left : Option (List ℕ)) → Passed chunks → n ≡ length (joined chunks) → told ≡ before (flat_map print_chunk chunks) now → Shows (PassesNext n) now left → Shows PassesChunked told left
 chunks_show chunks n told now left passed count is =
     shows_behind (PassesNext n) PassesChunked told now left (flat_map print_chunk chunks) is (λ rest passes. record {
@@ -188,7 +190,7 @@ chunks_show chunks n told now left passed count is =
       passes = subst (λ (k : ℕ). PassesNext k rest) count passes;
     })
 
--- the same in the trailers, behind the line that says 0
+-- the same in the trailers, after the line that says 0
 pub last_shows : (chunks : List Chunk) (last : ChunkLine) (told now mid left : Option (List ℕ)) → Passed chunks → IsChunkLine last → chunk_size last ≡ 0 → told ≡ before (flat_map print_chunk chunks) now → now ≡ before (print_chunk_line last) mid → Shows (GoesOver ReadsTrailers (IsLongTrailers 0)) mid left → Shows PassesChunked told left
 last_shows chunks last told now mid left passed valid empty is taken shows =
     chunks_show chunks (length (joined chunks)) told now left passed refl is
@@ -200,7 +202,7 @@ crlf_begun [] few cr = (λ rest is. cc, (13 ∷ 10 ∷ [], refl))
 crlf_begun (b ∷ []) few cr = (λ rest is. let short : ◌≡◌ {A = List ℕ} [] (10 ∷ rest) = cc in cc, (10 ∷ [], ap (λ (c : ℕ). c ∷ 10 ∷ []) (cr (omega arith))))
 crlf_begun (b ∷ c ∷ held) few cr = absurd (omega (arith, few))
 
--- chunks, the line behind the last and trailers are a body
+-- chunks, the line after the last and trailers are a body
 whole_of : (chunks : List Chunk) (last : ChunkLine) (fields : List Field) (end : LineEnd) (stream : List ℕ) → Passed chunks → IsChunkLine last → IsShortLine the_limits last → chunk_size last ≡ 0 → All IsField fields → length (print_section fields end) ≤ MAX_TRAILERS → stream ≡ flat_map print_chunk chunks ++ (print_chunk_line last ++ print_section fields end) → IsWholeChunked stream
 unfolding print_chunked
 whole_of chunks last fields end stream passed valid short empty fields_valid small is = record {
@@ -234,7 +236,7 @@ chunk_may chunks line passed valid short some room behind whole =
           (ap (λ (l : List ℕ). l ++ 48 ∷ 13 ∷ 10 ∷ 10 ∷ []) parts ∙ ap (λ (l : List ℕ). flat_map print_chunk (chunks ++ made line piece ∷ []) ++ (l ++ 10 ∷ [])) (sym zero_text)),
     )
 
--- the line behind the last chunk, and trailers that more bytes end
+-- the line after the last chunk, and trailers that more bytes end
 pub trailers_may : (chunks : List Chunk) (line : ChunkLine) → Passed chunks → IsChunkLine line → IsShortLine the_limits line → chunk_size line ≡ 0 → (behind : List ℕ) → AreTrailers 0 behind → MayBecome IsWholeChunked (flat_map print_chunk chunks ++ (print_chunk_line line ++ behind))
 trailers_may chunks line passed valid short empty behind whole =
     let now = flat_map print_chunk chunks ++ (print_chunk_line line ++ behind) in
@@ -258,7 +260,7 @@ line_whole chunks passed rest whole = go (chunk_size whole.line) refl
 pub line_may : (chunks : List Chunk) (passed : ℕ) → passed ≡ length (joined chunks) → Passed chunks → (rest : List ℕ) → MayBecome (IsWholeLine passed) rest → MayBecome IsWholeChunked (flat_map print_chunk chunks ++ rest)
 line_may chunks passed count all = may_behind (IsWholeLine passed) IsWholeChunked (flat_map print_chunk chunks) (λ rest whole. line_whole chunks all rest (subst (λ (n : ℕ). IsWholeLine n rest) count whole))
 
--- ---- the same of a stream that is told
+-- ---- the same of a stream
 
 pub refuses_line : (chunks : List Chunk) (passed : ℕ) (told now left : Option (List ℕ)) → passed ≡ length (joined chunks) → Passed chunks → told ≡ before (flat_map print_chunk chunks) now → (refusal : HttpRefusal) → Refuses (HasNoLine passed) (MayBecome (IsWholeLine passed)) now left refusal → Refuses HasNoChunked (MayBecome IsWholeChunked) told left refusal
 refuses_line chunks passed told now left count all taken =
@@ -270,6 +272,27 @@ pub refuses_next : (P : Limits → List ℕ → Type 0) (B : List ℕ → Type 0
 refuses_next P B chunks line told now mid left valid taken line_taken none cut refusal fact =
     refuses_behind (λ limits rest. ¬ (Goes limits chunks rest)) HasNoChunked (λ rest. MayBecome IsWholeChunked (flat_map print_chunk chunks ++ rest)) (MayBecome IsWholeChunked) told now left (flat_map print_chunk chunks) taken (λ limits rest not. none_goes limits chunks rest valid not) (λ rest may. may) refusal
     (refuses_behind P (λ limits rest. ¬ (Goes limits chunks rest)) B (λ rest. MayBecome IsWholeChunked (flat_map print_chunk chunks ++ rest)) now mid left (print_chunk_line line) line_taken none cut refusal fact)
+
+-- ---- how far the source is read
+
+-- a chunk whose bytes have passed
+pub asks_crlf : (size : ℕ) (piece held now : List ℕ) (old mid new : Option (List ℕ)) → length piece ≡ size → before held old ≡ before piece (before now mid) → AsksOnlyAsNeeded (IsShorter size) held old mid → AsksOnlyAsNeeded HasNoCrlf now mid new → AsksOnlyAsNeeded (HasNoChunk size) held old new
+asks_crlf size piece held now old mid new count taken =
+    asks_after (IsShorter size) HasNoCrlf (HasNoChunk size) piece held now old mid new taken (λ bytes short. (chunk_shorter size bytes short).0) (λ rest none. chunk_none size piece rest count none)
+
+-- the line of the next chunk
+pub asks_line : (chunks : List Chunk) (passed : ℕ) (held now : List ℕ) (old mid new : Option (List ℕ)) → passed ≡ length (joined chunks) → All IsChunk chunks → before held old ≡ before (flat_map print_chunk chunks) (before now mid) → AsksOnlyAsNeeded (HasNoChunked the_limits) held old mid → AsksOnlyAsNeeded (HasNoLine passed the_limits) now mid new → AsksOnlyAsNeeded (HasNoChunked the_limits) held old new
+asks_line chunks passed held now old mid new count valid taken =
+    asks_after (HasNoChunked the_limits) (HasNoLine passed the_limits) (HasNoChunked the_limits) (flat_map print_chunk chunks) held now old mid new taken (λ bytes none. none)
+    (λ rest none. none_goes the_limits chunks rest valid (goes_on the_limits chunks rest (subst (λ (n : ℕ). HasNoLine n the_limits rest) count none)))
+
+-- what follows a line
+pub asks_next : (P : List ℕ → Type 0) (chunks : List Chunk) (line : ChunkLine) (held now next : List ℕ) (old mid left new : Option (List ℕ)) → All IsChunk chunks → before held old ≡ before (flat_map print_chunk chunks) (before now mid) → before now mid ≡ before (print_chunk_line line) (before next left) → ((rest : List ℕ) → P rest → ¬ (Goes the_limits chunks (print_chunk_line line ++ rest))) → AsksOnlyAsNeeded (HasNoChunked the_limits) held old left → AsksOnlyAsNeeded P next left new → AsksOnlyAsNeeded (HasNoChunked the_limits) held old new
+asks_next P chunks line held now next old mid left new valid taken line_taken none =
+    asks_after (HasNoChunked the_limits) P (HasNoChunked the_limits) (flat_map print_chunk chunks ++ print_chunk_line line) held next old left new
+    (taken ∙ ap (λ (t : Option (List ℕ)). before (flat_map print_chunk chunks) t) line_taken ∙ before_append (flat_map print_chunk chunks) (print_chunk_line line) (before next left))
+    (λ bytes not. not)
+    (λ rest not. subst (HasNoChunked the_limits) (sym (append_assoc (flat_map print_chunk chunks) (print_chunk_line line) rest)) (none_goes the_limits chunks (print_chunk_line line ++ rest) valid (none rest not)))
 
 -- ---- what has been taken
 

@@ -1,3 +1,4 @@
+pub mod AskedLemmas
 pub mod BodyLemmas
 pub mod CameLemmas
 pub mod ChunkLineLemmas

@@ -15,10 +15,13 @@ shows_behind P Q told now left front is on shows = record {
   holds = on shows.read shows.holds;
 }
 
--- at the exit of a `?`, which hands the refusal on
+-- at the exit of a `?`, which passes the refusal on
+pub refusal_exit : {X P : Type 0} (which : HttpRefusal) (r : Result X HttpRefusal) (refusal : HttpRefusal) → IsErrAnd r (λ y. y ≡ refusal) → (refusal ≡ which → P) → IsErrOf r which → P
+refusal_exit which (Ok x) refusal same on is = absurd same
+refusal_exit which (Err y) refusal same on is = on (cc)
+
 pub too_long_exit : {X P : Type 0} (r : Result X HttpRefusal) (refusal : HttpRefusal) → IsErrAnd r (λ y. y ≡ refusal) → (refusal ≡ TooLong → P) → IsErrOf r TooLong → P
-too_long_exit (Ok x) refusal same on is = absurd same
-too_long_exit (Err y) refusal same on is = on (cc)
+too_long_exit = refusal_exit TooLong
 
 -- the bytes may become a part, and each that begins so is over its limit
 pub begun_over : {Part : Type 0} (Reads : List ℕ → Part → List ℕ → Type 0) (IsOver : Part → Type 0) (bytes : List ℕ) → (more : List ℕ) × (part : Part) × Reads (bytes ++ more) part [] → ((more : List ℕ) (part : Part) (behind : List ℕ) → Reads (bytes ++ more) part behind → IsOver part) → GoesOver Reads IsOver bytes

@@ -18,8 +18,10 @@ use Rattle.httparse.specs.declared.spans.HeaderSpan.{HeaderSpan}
 use Rattle.httparse.specs.declared.Status.TheVariants.{Complete, Partial}
 use Rattle.httparse.proofs.PieceLemmas.{token_is_no_newline, colon_ends_token, Section_skip}
 use Rattle.as4_http.specs.declared.limits.TheConstants.{MAX_TRAILERS}
+use Rattle.as4_http.proofs.AskedLemmas.{asks_after}
 use Rattle.as4_http.proofs.SplitLemmas.{split, all_front}
-use Rattle.as4_http.specs.Limits.{Limits}
+use Rattle.as4_http.specs.Asked.{AsksOnlyAsNeeded}
+use Rattle.as4_http.specs.Limits.{Limits, the_limits}
 use Rattle.as4_http.specs.Passed.{Shows, GoesOver, ReadsTrailers, IsLongTrailers}
 use Rattle.as4_http.specs.Refused.{MayBecome, Refuses}
 use Rattle.as4_http.specs.declared.refusal.HttpRefusal.{HttpRefusal}
@@ -70,7 +72,7 @@ section_first g hs last rest =
 section_only : (last : LineEnd) (rest : List ℕ) → print_section [] last ++ rest ≡ cr_of last ++ 10 ∷ rest
 section_only last rest = ap (λ (l : List ℕ). l ++ rest) (end_is last) ∙ append_assoc (cr_of last) (10 ∷ []) rest
 
--- a line at the front of trailers is the empty line, which ends them, or their first field line
+-- the line that trailers begin with is the empty line, which ends them, or their first field line
 pub line_of : (text more rest : List ℕ) (gs : List Field) (last : LineEnd) → HasNoLf text → ReadsSection (text ++ 10 ∷ more) gs last rest → ((text ++ 10 ∷ [] ≡ print_end last) × (gs ≡ []) × (more ≡ rest)) ⊎ ((g : Field) × (hs : List Field) × IsField g × (gs ≡ g ∷ hs) × (text ++ 10 ∷ [] ≡ print_field g) × ReadsSection more hs last rest)
 line_of text more rest [] last one reads =
     let same = first_line text (cr_of last) more rest one (no_lf_cr last) (reads.1 ∙ section_only last rest) in
@@ -156,7 +158,7 @@ none_with limits held n passed none more gs last rest reads =
     let parts : held ++ more ≡ take n held ++ (drop n held ++ more) = ap (λ (l : List ℕ). l ++ more) (sym (take-append-drop n held)) ∙ append_assoc (take n held) (drop n held) more in
     absurd (none (drop n held ++ more) gs last rest (reads.0, sym parts ∙ reads.1))
 
--- the empty line behind the lines that have passed
+-- the empty line after the lines that have passed
 pub takes_all : (passed : List Field) (end : LineEnd) (line held : List ℕ) (start left : Option (List ℕ)) (n : ℕ) → All IsField passed → start ≡ before (flat_map print_field passed) (before held left) → line ≡ take n held → line ≡ print_end end → length (flat_map print_field passed) + n ≤ MAX_TRAILERS → n ≤ length held → TakesTrailers start (before (drop n held) left)
 takes_all passed end line held start left n valid so_far line_is empty few within =
     let whole : held ≡ print_end end ++ drop n held = sym (take-append-drop n held) ∙ ap (λ (l : List ℕ). l ++ drop n held) (sym line_is ∙ empty) in
@@ -242,14 +244,14 @@ missing_one line none more gs last rest reads =
     let first = section_starts (line ++ more) rest gs last reads in
     omega (arith, line_longer line more first.0 none first.1, first.2)
 
--- it is no front of the empty line
+-- it is no prefix of the empty line
 not_empty : (line more rest : List ℕ) (last : LineEnd) → HasNoLf line → line ≢ [] → line ≢ 13 ∷ [] → line ++ more ≡ cr_of last ++ 10 ∷ rest → ⊥
 not_empty [] more rest last none some other is = some refl
 not_empty (b ∷ line) more rest lf none some other is = let same : b ≡ 10 = cc in no_line (b ∷ line) [] line none (cc same)
 not_empty (b ∷ []) more rest crlf none some other is = let same : b ≡ 13 = cc in other (cc same)
 not_empty (b ∷ c ∷ line) more rest crlf none some other is = let same : c ≡ 10 = cc in no_line (b ∷ c ∷ line) (b ∷ []) line none (cc same)
 
--- a field line and the empty line behind it
+-- a field line and the empty line after it
 field_long : (g : Field) (hs : List Field) (last : LineEnd) → length (field_text g) + 1 + length (print_end last) ≤ length (print_section (g ∷ hs) last)
 field_long g hs last = omega (arith, ap length (field_is g), length-append (field_text g) (10 ∷ []), length-append (print_field g) (flat_map print_field hs), length-append (print_field g ++ flat_map print_field hs) (print_end last))
 
@@ -316,7 +318,7 @@ endless_shows told left bytes held n passed may same is none full = record {
   holds = trailers_over held (take n held) (drop n held) passed (sym (take-append-drop n held)) (subst (λ (b : List ℕ). MayBecomeSection (take n b)) same may) (endless_over (take n held) passed none full);
 }
 
--- behind field lines that have passed
+-- after field lines that have passed
 pub over_behind : (passed : List Field) (n : ℕ) → All IsField passed → length (flat_map print_field passed) ≡ n → (rest : List ℕ) → GoesOver ReadsTrailers (IsLongTrailers n) rest → GoesOver ReadsTrailers (IsLongTrailers 0) (flat_map print_field passed ++ rest)
 over_behind passed n valid count rest over = record {
   front = lines ++ over.front;
@@ -343,7 +345,7 @@ over_behind passed n valid count rest over = record {
         ap length (ap (λ (l : List Field). print_section l last) skipped.1 ∙ section_more passed skipped.0 last) ∙ length-append lines (print_section skipped.0 last) in
         omega (arith, over.over more (skipped.0, last) behind skipped.2, long, count)
 
--- trailers behind field lines that have passed
+-- trailers after field lines that have passed
 pub whole_behind : (passed : List Field) (n : ℕ) → All IsField passed → length (flat_map print_field passed) ≡ n → (rest : List ℕ) → AreTrailers n rest → MayBecome (AreTrailers 0) (flat_map print_field passed ++ rest)
 whole_behind passed n valid count rest whole = (
   [],
@@ -358,6 +360,12 @@ whole_behind passed n valid count rest whole = (
   },
 )
 
+-- the line that follows field lines that have passed
+pub asks_line : (passed : List Field) (n : ℕ) (held now : List ℕ) (old mid new : Option (List ℕ)) → All IsField passed → length (flat_map print_field passed) ≡ n → before held old ≡ before (flat_map print_field passed) (before now mid) → AsksOnlyAsNeeded (HasNoTrailers 0 the_limits) held old mid → AsksOnlyAsNeeded (HasNoTrailers n the_limits) now mid new → AsksOnlyAsNeeded (HasNoTrailers 0 the_limits) held old new
+asks_line passed n held now old mid new valid count taken =
+    asks_after (HasNoTrailers 0 the_limits) (HasNoTrailers n the_limits) (HasNoTrailers 0 the_limits) (flat_map print_field passed) held now old mid new taken (λ bytes none. none)
+    (λ rest none. none_behind passed the_limits rest valid (subst (λ (k : ℕ). HasNoTrailers k the_limits rest) (sym count) none))
+
 -- ---- what is missing of an unended line
 
 abbrev made : List ℕ → List ℕ → LineEnd → Field
@@ -367,7 +375,7 @@ made name raw end = record { name = name; raw = raw; end = end }
 one_field : (line more : List ℕ) (f : Field) → IsField f → line ++ more ≡ print_field f ++ print_end lf → MissesOnly line (length more)
 one_field line more f valid is = (more, f ∷ [], lf, refl, (All-cons IsField f [] valid (All-nil IsField), is ∙ ap (λ (l : List ℕ). l ++ print_end lf) (sym (append-nil (print_field f))) ∙ sym (append-nil (print_section (f ∷ []) lf))))
 
--- a front of a name, a name and a front of a value, and a value with its CR
+-- a prefix of a name, a name and a prefix of a value, and a value with its CR
 name_misses : (line : List ℕ) → IsToken line → MissesOnly line 3
 name_misses line token = one_field line (58 ∷ 10 ∷ 10 ∷ []) (made line [] lf) (record { name = token; raw = All-nil (λ b. IsTrue (is_value_byte b)) })
     (sym (append_assoc (line ++ 58 ∷ []) (10 ∷ []) (10 ∷ []) ∙ append_assoc line (58 ∷ []) (10 ∷ 10 ∷ [])))
@@ -380,14 +388,14 @@ cr_misses : (line name raw : List ℕ) → IsToken name → AllPass is_value_byt
 cr_misses line name raw token value is = one_field line (10 ∷ 10 ∷ []) (made name raw crlf) (record { name = token; raw = value })
     (ap (λ (l : List ℕ). l ++ 10 ∷ 10 ∷ []) (is ∙ sym (append_assoc name (58 ∷ raw) (13 ∷ []))) ∙ append_assoc (name ++ 58 ∷ raw) (13 ∷ []) (10 ∷ 10 ∷ []) ∙ sym (append_assoc (name ++ 58 ∷ raw) (13 ∷ 10 ∷ []) (10 ∷ [])))
 
--- what is missing of a line: a colon and two line ends, or two line ends behind a colon
+-- what is missing of a line: a colon and two line ends, or two line ends after a colon
 abbrev Misses : List ℕ → Type 0
 Misses line = (All (λ b. b ≢ 58) line × MissesOnly line 3) ⊎ ((name : List ℕ) × (raw : List ℕ) × (line ≡ name ++ 58 ∷ raw) × MissesOnly line 2)
 
 not_colon : (b : ℕ) → is_token_byte b ≡ true → b ≢ 58
 not_colon b token is = false≢true (sym colon_ends_token ∙ subst (λ (c : ℕ). is_token_byte c ≡ true) is token)
 
--- a front of a name, of a value, and of a field line
+-- a prefix of a name, of a value, and of a field line
 token_front : (name line rest : List ℕ) → IsToken name → line ≢ [] → name ≡ line ++ rest → Misses line
 token_front name [] rest token some is = absurd (some refl)
 token_front name (b ∷ line) rest token some is =

@@ -30,7 +30,7 @@ HasNoBody framing limits stream = (bytes rest : List ℕ) → ¬ (BeginsBody lim
 abbrev pub IsBody : Framing → List ℕ → Type 0
 IsBody framing stream = (bytes : List ℕ) × BeginsBody the_limits framing stream bytes []
 
--- all that was told has gone, and it is within the limit
+-- a stream was taken to its end, within the limit; these are its bytes
 pub record TakesRest (bytes : List ℕ) (old new : Option (List ℕ)) : Type 0 where
   pub small : length bytes ≤ MAX_BODY
   pub taken : old ≡ before bytes new
@@ -40,7 +40,7 @@ pub record TakesRest (bytes : List ℕ) (old new : Option (List ℕ)) : Type 0 w
 abbrev pub IsLong : Limits → List ℕ → Type 0
 IsLong limits bytes = limits.body < length bytes
 
--- a body within the limits has gone from the front of what was told, and nothing else; these are its bytes
+-- a body within the limits was taken off a stream, and nothing else; these are its bytes
 abbrev pub TakesBody : Framing → List ℕ → Option (List ℕ) → Option (List ℕ) → Type 0
 TakesBody Empty bytes old new = (bytes ≡ []) × (old ≡ new)
 TakesBody (Counted n) bytes old new = (length bytes ≡ n) × (n ≤ MAX_BODY) × (old ≡ before bytes new)

@@ -1,8 +1,8 @@
--- Pieces of a source that went behind bytes that were held.
+-- Pieces of a source that are appended to bytes that were held.
 use Rattle.std.specs.Prelude.{◌≡◌, ℕ, ◌<◌, List, ◌++◌, length, Option}
 use Rattle.as4_flow.specs.Flow.{before}
 
--- a piece of n bytes came from what was left, and is held behind what was held before
+-- a piece of n bytes came from the source, and was appended to the bytes that were held
 pub record Came (n : ℕ) (old new : List ℕ) (left rest : Option (List ℕ)) : Type 0 where
   pub piece : List ℕ
   pub count : length piece ≡ n

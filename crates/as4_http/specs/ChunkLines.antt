@@ -1,4 +1,4 @@
--- The line before a chunk, and the CRLF behind it (RFC 9112, section 7.1).
+-- The line before a chunk, and the CRLF after it (RFC 9112, section 7.1).
 use Rattle.std.specs.Prelude.{◌≡◌, ◌≢◌, ℕ, ◌+◌, ◌<◌, ◌≤◌, ◌==◌, if◌then◌else◌, List, [], ◌∷◌, length, get_or, Option}
 use Rattle.as4_flow.specs.Flow.{before}
 use Rattle.httparse.specs.Grammar.{ChunkLine, IsChunkLine, print_chunk_line, ReadsChunkLine, chunk_size}
@@ -15,7 +15,7 @@ pub record BeginsLine (limits : Limits) (bytes rest : List ℕ) (size : ℕ) : T
   pub short : IsShortLine limits line
   pub says : size ≡ chunk_size line
 
--- the bytes begin with no such line whose chunk leaves the body within the limit, behind so many bytes of it
+-- the bytes begin with no such line whose chunk leaves the body within its limit, with `passed` bytes before it
 abbrev pub HasNoLine : ℕ → Limits → List ℕ → Type 0
 HasNoLine passed limits bytes = (rest : List ℕ) (size : ℕ) → BeginsLine limits bytes rest size → limits.body < passed + size
 
@@ -24,7 +24,7 @@ abbrev pub shortest_end : List ℕ → List ℕ
 shortest_end [] = 48 ∷ 13 ∷ 10 ∷ []
 shortest_end (b ∷ bytes) = if get_or (b ∷ bytes) (length bytes) 0 == 13 then 10 ∷ [] else 13 ∷ 10 ∷ []
 
--- such a line has gone from the front of what was told, and nothing else
+-- such a line was taken off a stream, and nothing else
 pub record TakesLine (old new : Option (List ℕ)) (size : ℕ) : Type 0 where
   pub line : ChunkLine
   pub valid : IsChunkLine line
@@ -32,7 +32,7 @@ pub record TakesLine (old new : Option (List ℕ)) (size : ℕ) : Type 0 where
   pub says : size ≡ chunk_size line
   pub taken : old ≡ before (print_chunk_line line) new
 
--- the bytes are a line within the limit, whose chunk leaves the body within its limit, behind so many bytes of it
+-- the bytes are a line within the limit, whose chunk leaves the body within its limit, with `passed` bytes before it
 pub record IsWholeLine (passed : ℕ) (bytes : List ℕ) : Type 0 where
   pub line : ChunkLine
   pub valid : IsChunkLine line

@@ -23,7 +23,7 @@ pub record IsChunk (chunk : Chunk) : Type 0 where
 abbrev pub IsShortChunk : Limits → Chunk → Type 0
 IsShortChunk limits chunk = IsShortLine limits chunk.line
 
--- the chunks, the line behind the last, and the trailers
+-- the chunks, the line after the last, and the trailers
 pub record ChunkedBody : Type 0 where
   pub chunks : List Chunk
   pub last : ChunkLine
@@ -40,7 +40,7 @@ print_chunked body = flat_map print_chunk body.chunks ++ print_end_of_chunks bod
 abbrev pub joined : List Chunk → List ℕ
 joined chunks = flat_map (λ chunk. chunk.bytes) chunks
 
--- each part is of its class, and the line behind the last chunk says 0
+-- each part is of its class, and the line after the last chunk says 0
 pub record IsChunked (body : ChunkedBody) : Type 0 where
   pub chunks : All IsChunk body.chunks
   pub last : IsChunkLine body.last
@@ -54,7 +54,7 @@ pub record IsSmallChunked (limits : Limits) (body : ChunkedBody) : Type 0 where
   pub trailers : length (print_section body.trailers body.end) ≤ limits.trailers
   pub bytes : length (joined body.chunks) ≤ limits.body
 
--- such a body within the limits has gone from the front of what was told, and nothing else; these are its bytes
+-- such a body within the limits was taken off a stream, and nothing else; these are its bytes
 pub record TakesChunked (bytes : List ℕ) (old new : Option (List ℕ)) : Type 0 where
   pub body : ChunkedBody
   pub valid : IsChunked body
@@ -66,14 +66,14 @@ pub record TakesChunked (bytes : List ℕ) (old new : Option (List ℕ)) : Type 
 abbrev pub HasNoChunked : Limits → List ℕ → Type 0
 HasNoChunked limits stream = (body : ChunkedBody) (rest : List ℕ) → IsChunked body → IsSmallChunked limits body → stream ≢ print_chunked body ++ rest
 
--- so many bytes and CRLF have gone from the front of what was told, and the bytes went behind the old ones
+-- bytes of this number and CRLF were taken off a stream, and the bytes were appended to those before
 pub record TakesChunk (size : ℕ) (bytes more : List ℕ) (old new : Option (List ℕ)) : Type 0 where
   pub piece : List ℕ
   pub count : length piece ≡ size
   pub held : more ≡ bytes ++ piece
   pub taken : old ≡ before (piece ++ 13 ∷ 10 ∷ []) new
 
--- the stream doesn't begin with so many bytes and CRLF
+-- the stream doesn't begin with bytes of this number and CRLF
 abbrev pub HasNoChunk : ℕ → List ℕ → Type 0
 HasNoChunk size stream = (piece rest : List ℕ) → length piece ≡ size → stream ≢ piece ++ 13 ∷ 10 ∷ rest
 
@@ -84,6 +84,6 @@ pub record IsWholeChunked (stream : List ℕ) : Type 0 where
   pub small : IsSmallChunked the_limits body
   pub is : stream ≡ print_chunked body
 
--- the stream is so many bytes and CRLF
+-- the stream is bytes of this number and CRLF
 abbrev pub IsWholeChunk : ℕ → List ℕ → Type 0
 IsWholeChunk size stream = (piece : List ℕ) × (length piece ≡ size) × (stream ≡ piece ++ 13 ∷ 10 ∷ [])

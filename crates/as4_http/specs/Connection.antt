@@ -1,9 +1,9 @@
--- Whether a connection goes on behind a message (RFC 9112, section 9.3).
+-- Whether a connection is kept after a message (RFC 9112, section 9.3).
 use Rattle.std.specs.Prelude.{ℕ, Bool, ◌&&◌, ◌||◌, ◌==◌, List, codes}
 use Rattle.std.specs.List.{list_any, slice_split}
 use Rattle.as4_http.specs.Fields.{is_name}
 
--- what stands between the words of a field: a comma, a space or a tab
+-- a byte between the words of a field: a comma, a space or a tab
 abbrev pub is_gap : ℕ → Bool
 is_gap byte = byte == 44 || (byte == 32 || byte == 9)
 

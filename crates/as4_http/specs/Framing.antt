@@ -20,7 +20,7 @@ Frames neither (Some length) None framing = IsLength length × (framing ≡ Coun
 Frames neither None (Some coding) framing = IsTrue (is_name coding (codes "chunked")) × (framing ≡ Chunked)
 Frames neither (Some length) (Some coding) framing = ⊥
 
--- what the fields say, of which each stands there once at most
+-- what the fields say; each occurs once at most
 pub record FramesAs (neither : Framing) (fields : List (List ℕ × List ℕ)) (framing : Framing) : Type 0 where
   pub length : Option (List ℕ)
   pub coding : Option (List ℕ)

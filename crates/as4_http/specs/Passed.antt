@@ -1,5 +1,5 @@
--- Which limit the bytes pass that were read, where a message is too long (RFC 9112, sections 2 to 7). What stands before
--- the limit is right: a head by its grammar, whatever its fields say, and all that stands behind one by what it says.
+-- Which limit a message passes that is too long (RFC 9112, sections 2 to 7). The bytes before the limit are right: a head
+-- by its grammar, whatever its fields say, and the bytes after a head by what it says.
 use Rattle.std.specs.Prelude.{◌≡◌, ℕ, ◌+◌, ◌<◌, ◌≤◌, List, [], ◌++◌, length, Option, All}
 use Rattle.std.specs.List.{flat_map}
 use Rattle.as4_flow.specs.Flow.{before}
@@ -14,13 +14,13 @@ use Rattle.as4_http.specs.declared.framing.Framing.TheVariants.{Empty, Counted, 
 use Rattle.as4_http.specs.declared.request_start.RequestStart.{RequestStart}
 use Rattle.as4_http.specs.declared.response_start.ResponseStart.{ResponseStart}
 
--- what was told began with bytes that were read, and P holds of them
+-- bytes were read off a stream, and P holds of them
 pub record Shows (P : List ℕ → Type 0) (told left : Option (List ℕ)) : Type 0 where
   pub read : List ℕ
   pub taken : told ≡ before read left
   pub holds : P read
 
--- the bytes begin with the front of a head, and the front is longer than a head may be
+-- the bytes begin with a prefix of a head, and the prefix is longer than a head may be
 pub record IsLongHead (MayBecome : List ℕ → Type 0) (bytes : List ℕ) : Type 0 where
   pub front : List ℕ
   pub rest : List ℕ
@@ -28,7 +28,7 @@ pub record IsLongHead (MayBecome : List ℕ → Type 0) (bytes : List ℕ) : Typ
   pub right : MayBecome front
   pub long : the_limits.head < length front
 
--- the bytes begin with the front of a part, and each part that begins with that front is over a limit
+-- the bytes begin with a prefix of a part, and each part that begins with that prefix is over a limit
 pub record GoesOver {Part : Type 0} (Reads : List ℕ → Part → List ℕ → Type 0) (IsOver : Part → Type 0) (bytes : List ℕ) : Type 0 where
   pub front : List ℕ
   pub rest : List ℕ
@@ -40,7 +40,7 @@ pub record GoesOver {Part : Type 0} (Reads : List ℕ → Part → List ℕ → 
 abbrev pub IsLongLine : ChunkLine → Type 0
 IsLongLine line = the_limits.line < length (print_chunk_line line)
 
--- it says more bytes than a body has room for, behind so many bytes of the body
+-- it says more bytes than the body has room for, with `passed` bytes before them
 abbrev pub IsLargeChunk : ℕ → ChunkLine → Type 0
 IsLargeChunk passed line = the_limits.body < passed + chunk_size line
 
@@ -48,20 +48,20 @@ IsLargeChunk passed line = the_limits.body < passed + chunk_size line
 abbrev pub ReadsTrailers : List ℕ → List Field × LineEnd → List ℕ → Type 0
 ReadsTrailers bytes trailers rest = ReadsSection bytes trailers.0 trailers.1 rest
 
--- with so many bytes that stand before them, the trailers are longer than they may be
+-- with `passed` bytes before them, the trailers are longer than they may be
 abbrev pub IsLongTrailers : ℕ → List Field × LineEnd → Type 0
 IsLongTrailers passed trailers = the_limits.trailers < passed + length (print_section trailers.0 trailers.1)
 
--- behind chunks of so many bytes, the bytes pass a limit
+-- the bytes after chunks of `passed` bytes pass a limit
 pub data PassesNext (passed : ℕ) (bytes : List ℕ) : Type 0 where
   -- in the line before a chunk
   long_line : GoesOver ReadsChunkLine IsLongLine bytes → PassesNext passed bytes
   -- by the chunk that this line begins
   large_chunk : GoesOver ReadsChunkLine (IsLargeChunk passed) bytes → PassesNext passed bytes
-  -- in the trailers, behind the line that says 0
+  -- in the trailers, after the line that says 0
   long_trailers : (last : ChunkLine) (behind : List ℕ) → ReadsChunkLine bytes last behind → chunk_size last ≡ 0 → GoesOver ReadsTrailers (IsLongTrailers 0) behind → PassesNext passed bytes
 
--- behind chunks that are whole and within the limits, the bytes pass one
+-- the bytes after chunks that are whole and within the limits pass one
 pub record PassesChunked (bytes : List ℕ) : Type 0 where
   pub chunks : List Chunk
   pub valid : All IsChunk chunks
@@ -84,10 +84,10 @@ pub data Passes (MayBecome : List ℕ → Type 0) (Exceeds : ℕ → List ℕ �
   long_head : IsLongHead MayBecome bytes → Passes MayBecome Exceeds Frames bytes
   -- by the fields of its head
   many_fields : Exceeds the_limits.fields bytes → Passes MayBecome Exceeds Frames bytes
-  -- in its body, behind a head that is whole and within the limits
+  -- in its body, after a head that is whole and within the limits
   long_body : (framing : Framing) (behind : List ℕ) → Frames bytes behind framing → PassesBody framing behind → Passes MayBecome Exceeds Frames bytes
 
--- the bytes are the head of a request within the limits, which frames its body so, and then what stands behind it
+-- the bytes are the head of a request within the limits, which frames its body so, followed by the rest
 abbrev pub FramesRequest : List ℕ → List ℕ → Framing → Type 0
 FramesRequest bytes behind framing = (start : RequestStart) × BeginsRequestHead the_limits bytes behind start × (start.framing ≡ framing)
 

@@ -12,7 +12,7 @@ pub record IsMedia (media : List ℕ) : Type 0 where
   pub bytes : AllPass is_value_byte media
   pub trimmed : trim_ows media ≡ media
 
--- the head of a text and the content behind it are within the limits
+-- the head of a text and the content after it are within the limits
 pub record IsWithinLimits (text content : List ℕ) : Type 0 where
   pub head : length text ≤ MAX_HEAD + length content
   pub body : length content ≤ MAX_BODY

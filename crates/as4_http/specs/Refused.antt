@@ -13,7 +13,7 @@ IsStop TooLong = ⊥
 IsStop ReadFault = Unit {0}
 IsStop NoMemory = Unit {0}
 
--- the bytes were refused: it was no fault and no want of memory
+-- the bytes were refused: there was no fault and no allocation failure
 abbrev pub IsDenial : HttpRefusal → Type 0
 IsDenial Cut = Unit {0}
 IsDenial Bad = Unit {0}
@@ -21,7 +21,7 @@ IsDenial TooLong = Unit {0}
 IsDenial ReadFault = ⊥
 IsDenial NoMemory = ⊥
 
--- P holds of bytes that were refused: it was no fault and no want of memory
+-- P holds where the bytes were refused: there was no fault and no allocation failure
 abbrev pub OnRefusal : HttpRefusal → Type 0 → Type 0
 OnRefusal Cut P = P
 OnRefusal Bad P = P
@@ -34,7 +34,7 @@ abbrev pub OnRefused : {X : Type 0} → Result X HttpRefusal → Type 0 → Type
 OnRefused (Ok x) P = Unit {0}
 OnRefused (Err refusal) P = OnRefusal refusal P
 
--- what was told began with bytes that were read, and however these go on, P holds
+-- bytes were read off a stream, and P holds however they go on
 pub record Dooms (P : List ℕ → Type 0) (told left : Option (List ℕ)) : Type 0 where
   pub read : List ℕ
   pub taken : told ≡ before read left

@@ -1,8 +1,8 @@
 -- What the head of a request says (RFC 9112, sections 3, 6 and 9.3).
-use Rattle.std.specs.Prelude.{◌≡◌, ℕ, ◌≤◌, ◌==◌, ◌&&◌, not, List, length, map, codes, Option}
+use Rattle.std.specs.Prelude.{◌≡◌, ℕ, ◌≤◌, ◌⊎◌, ◌==◌, ◌&&◌, not, List, length, map, codes, Option}
 use Rattle.std.specs.Option.{option_to_list}
 use Rattle.as4_flow.specs.Flow.{before}
-use Rattle.httparse.specs.Grammar.{RequestHead, IsRequestHead, print_request, ReadsRequest, HasNoRequest, MayBecomeRequest}
+use Rattle.httparse.specs.Grammar.{RequestHead, IsRequestHead, print_request, ReadsRequest, HasNoRequest, NeverHasRequest, MayBecomeRequest}
 use Rattle.httparse.specs.Spans.{name_and_value}
 use Rattle.as4_http.specs.Connection.{closes}
 use Rattle.as4_http.specs.Fields.{values_in}
@@ -44,7 +44,11 @@ pub record EndsInRequestHead (bytes : List ℕ) : Type 0 where
   pub may : MayBecomeRequest bytes
   pub few : length bytes ≤ the_limits.head
 
--- such a head has gone from the front of what was told, and nothing else
+-- the bytes begin with a head, whatever it says; or no bytes that follow make them begin with one
+abbrev pub DecidesRequestHead : List ℕ → Type 0
+DecidesRequestHead bytes = ((head : RequestHead) × (rest : List ℕ) × ReadsRequest bytes head rest) ⊎ NeverHasRequest bytes
+
+-- such a head was taken off a stream, and nothing else
 pub record TakesRequestHead (old new : Option (List ℕ)) (start : RequestStart) : Type 0 where
   pub head : RequestHead
   pub valid : IsRequestHead head

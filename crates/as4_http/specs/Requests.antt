@@ -9,12 +9,12 @@ use Rattle.as4_http.specs.declared.framing.Framing.{Framing}
 use Rattle.as4_http.specs.declared.message.Request.{Request}
 use Rattle.as4_http.specs.declared.request_start.RequestStart.{RequestStart}
 
--- what stands before the body of this request
+-- what the head of this request says
 abbrev pub start_of : Request → Framing → Bool → RequestStart
 start_of request framing kept = record { method = request.method; target = request.target; media = request.media; framing = framing; kept = kept }
 
--- the stream is this request, its head and its body within these limits, and then the rest; and whether a further
--- request may come behind it
+-- the stream is this request, its head and its body within these limits, followed by the rest; and whether a further
+-- request may follow on its connection
 pub record BeginsKeptWithin (limits : Limits) (stream : List ℕ) (request : Request) (kept : Bool) (rest : List ℕ) : Type 0 where
   pub head : RequestHead
   pub framing : Framing
@@ -24,7 +24,7 @@ pub record BeginsKeptWithin (limits : Limits) (stream : List ℕ) (request : Req
   pub says : SaysRequest head (start_of request framing kept)
   pub body : BeginsBody limits framing behind request.body rest
 
--- the same, whether or not one may come
+-- the same, whether or not one may follow
 abbrev pub BeginsRequestWithin : Limits → List ℕ → Request → List ℕ → Type 0
 BeginsRequestWithin limits stream request rest = (kept : Bool) × BeginsKeptWithin limits stream request kept rest
 

@@ -1,8 +1,8 @@
 -- What the head of a response says (RFC 9112, sections 4 and 6).
-use Rattle.std.specs.Prelude.{◌≡◌, ℕ, ◌≤◌, ◌==◌, ◌||◌, List, if◌then◌else◌, length, map, codes, Option}
+use Rattle.std.specs.Prelude.{◌≡◌, ℕ, ◌≤◌, ◌⊎◌, ◌==◌, ◌||◌, List, if◌then◌else◌, length, map, codes, Option}
 use Rattle.std.specs.Option.{option_to_list}
 use Rattle.as4_flow.specs.Flow.{before}
-use Rattle.httparse.specs.Grammar.{ResponseHead, IsResponseHead, print_response, ReadsResponse, HasNoResponse, MayBecomeResponse, status_code}
+use Rattle.httparse.specs.Grammar.{ResponseHead, IsResponseHead, print_response, ReadsResponse, HasNoResponse, NeverHasResponse, MayBecomeResponse, status_code}
 use Rattle.httparse.specs.Spans.{name_and_value}
 use Rattle.as4_http.specs.Fields.{values_in}
 use Rattle.as4_http.specs.Framing.{FramesAs}
@@ -47,7 +47,11 @@ pub record EndsInResponseHead (bytes : List ℕ) : Type 0 where
   pub may : MayBecomeResponse bytes
   pub few : length bytes ≤ the_limits.head
 
--- such a head has gone from the front of what was told, and nothing else
+-- the bytes begin with a head, whatever it says; or no bytes that follow make them begin with one
+abbrev pub DecidesResponseHead : List ℕ → Type 0
+DecidesResponseHead bytes = ((head : ResponseHead) × (rest : List ℕ) × ReadsResponse bytes head rest) ⊎ NeverHasResponse bytes
+
+-- such a head was taken off a stream, and nothing else
 pub record TakesResponseHead (old new : Option (List ℕ)) (start : ResponseStart) : Type 0 where
   pub head : ResponseHead
   pub valid : IsResponseHead head

@@ -9,7 +9,7 @@ use Rattle.as4_http.specs.declared.framing.Framing.{Framing}
 use Rattle.as4_http.specs.declared.message.Response.{Response}
 use Rattle.as4_http.specs.declared.response_start.ResponseStart.{ResponseStart}
 
--- what stands before the body of this response
+-- what the head of this response says
 abbrev pub start_of : Response → Framing → ResponseStart
 start_of response framing = record { status = response.status; media = response.media; framing = framing }
 

@@ -1,4 +1,4 @@
--- The trailers behind the last chunk (RFC 9112, section 7.1.2), line by line.
+-- The trailers after the last chunk (RFC 9112, section 7.1.2), line by line.
 use Rattle.std.specs.Prelude.{◌≡◌, ◌≢◌, ℕ, ◌+◌, ◌<◌, ◌≤◌, Bool, true, false, List, [], ◌∷◌, ◌++◌, length, drop, Option, All}
 use Rattle.as4_flow.specs.Flow.{before}
 use Rattle.httparse.specs.Grammar.{LineEnd, print_end, Field, print_field, IsField, print_section, ReadsSection}
@@ -31,7 +31,7 @@ EndsTrailers line false = (field : Field) × IsField field × (line ≡ print_fi
 abbrev pub BeginsNoLine : List ℕ → Type 0
 BeginsNoLine line = (more : List ℕ) (fields : List Field) (last : LineEnd) (rest : List ℕ) → ¬ (ReadsSection (line ++ more) fields last rest)
 
--- trailers within the limit have gone from the front of what was told, and nothing else
+-- trailers within the limit were taken off a stream, and nothing else
 pub record TakesTrailers (old new : Option (List ℕ)) : Type 0 where
   pub fields : List Field
   pub last : LineEnd
@@ -39,7 +39,7 @@ pub record TakesTrailers (old new : Option (List ℕ)) : Type 0 where
   pub small : length (print_section fields last) ≤ MAX_TRAILERS
   pub taken : old ≡ before (print_section fields last) new
 
--- the bytes begin with no trailers within the limit, of which so many bytes stand before them
+-- the bytes begin with no trailers that are within the limit, with `passed` bytes before them
 abbrev pub HasNoTrailers : ℕ → Limits → List ℕ → Type 0
 HasNoTrailers passed limits bytes = (fields : List Field) (last : LineEnd) (rest : List ℕ) → ReadsSection bytes fields last rest → limits.trailers < passed + length (print_section fields last)
 
@@ -47,7 +47,7 @@ HasNoTrailers passed limits bytes = (fields : List Field) (last : LineEnd) (rest
 abbrev pub LeavesMissing : List ℕ → ℕ → Type 0
 LeavesMissing line n = (more : List ℕ) (fields : List Field) (last : LineEnd) (rest : List ℕ) → ReadsSection (line ++ more) fields last rest → length line + n ≤ length (print_section fields last)
 
--- the bytes are trailers, and with those that stand before them they are within the limit
+-- the bytes are trailers, and within the limit with `passed` bytes before them
 pub record AreTrailers (passed : ℕ) (bytes : List ℕ) : Type 0 where
   pub fields : List Field
   pub last : LineEnd

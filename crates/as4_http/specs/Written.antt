@@ -11,7 +11,7 @@ abbrev pub media_line : Option (List ℕ) → List ℕ
 media_line None = []
 media_line (Some media) = line (codes "Content-Type: " ++ media)
 
--- the fields behind the first, the empty line, and the body
+-- the fields after the first, the empty line, and the body
 unfoldable pub fields_and_body : Option (List ℕ) → List ℕ → List ℕ → List ℕ
 fields_and_body media connection body =
     media_line media ++ line (codes "Content-Length: " ++ decimal (length body)) ++ line (codes "Connection: " ++ connection) ++ line [] ++ body
@@ -42,7 +42,7 @@ unfoldable pub response_text : ℕ → Option (List ℕ) → List ℕ → List �
 response_text status media connection body =
     status_line status ++ fields_and_body media connection body
 
--- what stands behind `http://`
+-- what follows `http://`
 abbrev pub behind_scheme : List ℕ → List ℕ
 behind_scheme address = drop 7 address
 
@@ -58,7 +58,7 @@ slash_or (b ∷ bytes) = b ∷ bytes
 abbrev pub target : List ℕ → List ℕ
 target address = slash_or (drop (position_or_len (λ b. b == 47) (behind_scheme address)) (behind_scheme address))
 
--- whether nothing is sent, and the target asks for an entry or for a standing
+-- whether nothing is sent, and the target asks for an entry or a status
 abbrev pub asks : List ℕ → Option (List ℕ) → List ℕ → Bool
 asks target media body =
     is_none media && ((length body == 0) && (starts_with nat_eq target (codes "/inbox/") || starts_with nat_eq target (codes "/status/")))

@@ -1,6 +1,7 @@
 //! A body, as its head frames it (RFC 9112, section 6.3).
-ghost use Rattle.std.specs.Prelude.{◌≡◌, [], ◌≤◌, IfOk, OnOk, IfErr, IsErrOf};
+ghost use Rattle.std.specs.Prelude.{◌≡◌, [], ◌≤◌, ◌⊎◌, IfOk, OnOk, IfErr, IsErrOf};
 ghost use Rattle.as4_flow.specs.Flow.{Rose, Told, before};
+ghost use Rattle.as4_http.specs.Asked.{AsksForBody, GivesToLimit};
 ghost use Rattle.as4_http.specs.Bodies.{TakesBody, HasNoBody, IsBody, TakesRest, IsLong};
 ghost use Rattle.as4_http.specs.Passed.{PassesBody, Shows};
 ghost use Rattle.as4_http.specs.Refused.{Refuses, MayBecome};
@@ -22,6 +23,7 @@ pub(crate) fn take_body<S: Source>(
 ) -> Result<Octets, HttpRefusal>
     ensures ok { IfOk result (λ body. TakesBody framing body
         (before intake.old (S.left source.old)) (before intake.new (S.left source.new))) }
+    ensures asks { AsksForBody framing intake.old (S.left source.old) (S.left source.new) }
     ensures refused { IfErr result (Refuses (HasNoBody framing) (MayBecome (IsBody framing)) (before intake.old (S.left source.old)) (S.left source.new)) }
     ensures passed { IsErrOf result HttpRefusal.TooLong → Shows (PassesBody framing) (before intake.old (S.left source.old)) (S.left source.new) }
     ensures cut { IsErrOf result HttpRefusal.Cut → Told (S.left source.new) (λ bytes. bytes ≡ []) }
@@ -49,6 +51,7 @@ fn take_rest<S: Source>(
     requires { body.old ≡ [] }
     ensures ok { OnOk result (TakesRest body.new
         (before intake.old (S.left source.old)) (before intake.new (S.left source.new))) }
+    ensures asks { (S.left source.old ≡ S.left source.new) ⊎ GivesToLimit intake.old (S.left source.old) (S.left source.new) }
     ensures refused { IfErr result (Refuses IsLong (λ _. ⊥) (before intake.old (S.left source.old)) (S.left source.new)) }
     ensures cut { IsErrOf result HttpRefusal.Cut → Told (S.left source.new) (λ bytes. bytes ≡ []) }
     ensures fault { IsErrOf result HttpRefusal.ReadFault → Rose (S.faults source.old) (S.faults source.new) }

@@ -1,8 +1,10 @@
-//! The line before a chunk, and the CRLF behind it (RFC 9112, section 7.1).
+//! The line before a chunk, and the CRLF after it (RFC 9112, section 7.1).
 ghost use Rattle.std.specs.Prelude.{◌≡◌, ◌≢◌, ℕ, ◌+◌, ◌<◌, ◌≤◌, List, [], ◌∷◌, ◌++◌, length, IfOk, OnOk, IfErr, IsErrOf};
 ghost use Rattle.httparse.specs.Grammar.{HasNoChunkLine, MayBecomeChunkLine};
 ghost use Rattle.as4_flow.specs.Flow.{Rose, Told, before};
+ghost use Rattle.as4_http.specs.Asked.{AsksOnlyAsNeeded};
 ghost use Rattle.as4_http.specs.ChunkLines.{TakesLine, HasNoLine, IsWholeLine, IsCrlf, HasNoCrlf, shortest_end};
+ghost use Rattle.as4_http.specs.Limits.{the_limits};
 ghost use Rattle.as4_http.specs.Passed.{PassesNext, Shows};
 ghost use Rattle.as4_http.specs.Refused.{IsDenial, MayBecome, Refuses, Denies};
 
@@ -11,8 +13,8 @@ use crate::{HttpRefusal, MAX_BODY, MAX_CHUNK_LINE};
 use as4_flow::Source;
 use httparse::{Status, parse_chunk_size};
 
-/// Takes the line before a chunk off the stream, and gives the size that it says. Behind the bytes of the body that
-/// have passed, the chunk leaves the body within its limit.
+/// Takes the line before a chunk off the stream, and returns the size that it says. With `passed` bytes before it,
+/// the chunk leaves the body within its limit.
 pub(crate) fn take_line<S: Source>(
     intake: &mut Intake,
     source: &mut S,
@@ -22,6 +24,7 @@ pub(crate) fn take_line<S: Source>(
     ensures ok { IfOk result (TakesLine
         (before intake.old (S.left source.old)) (before intake.new (S.left source.new))) }
     ensures within { IfOk result (λ size. passed + size ≤ MAX_BODY) }
+    ensures asks { AsksOnlyAsNeeded (HasNoLine passed the_limits) intake.old (S.left source.old) (S.left source.new) }
     ensures refused { IfErr result (Refuses (HasNoLine passed) (MayBecome (IsWholeLine passed)) (before intake.old (S.left source.old)) (S.left source.new)) }
     ensures passed { IsErrOf result HttpRefusal.TooLong → Shows (PassesNext passed) (before intake.old (S.left source.old)) (S.left source.new) }
     ensures cut { IsErrOf result HttpRefusal.Cut → Told (S.left source.new) (λ bytes. bytes ≡ []) }
@@ -56,8 +59,8 @@ pub(crate) fn take_line<S: Source>(
     }
 }
 
-// What an unended line at the end of the source is: too long, where its shortest end doesn't leave it within its
-// limit, or says more bytes than a body has room for behind those that have passed.
+// How an unended line at the end of the source is refused: as too long, where even its shortest end leaves it past
+// its limit, or where it says more bytes than the body has room for; and else as cut.
 fn unended_line(line: &[u8], passed: usize) -> HttpRefusal
     requires within { passed ≤ MAX_BODY }
     requires none { HasNoChunkLine line.now }
@@ -79,7 +82,7 @@ fn unended_line(line: &[u8], passed: usize) -> HttpRefusal
     }
 }
 
-// Writes a line and its end into the room, and gives them back.
+// Writes a line and its end into the room, and returns both.
 fn end_line<'b>(room: &'b mut [u8], line: &[u8], end: &[u8]) -> &'b [u8]
     requires { length line.now + length end.now ≤ length room.old }
     ensures { result.now ≡ line.now ++ end.now }
@@ -103,10 +106,11 @@ fn shortest_end(line: &[u8]) -> &'static [u8]
     b"\r\n"
 }
 
-/// Takes the CRLF behind a chunk off the stream.
+/// Takes the CRLF after a chunk off the stream.
 pub(crate) fn take_crlf<S: Source>(intake: &mut Intake, source: &mut S) -> Result<(), HttpRefusal>
     ensures ok { OnOk result
         (before intake.old (S.left source.old) ≡ before (13 ∷ 10 ∷ []) (before intake.new (S.left source.new))) }
+    ensures asks { AsksOnlyAsNeeded HasNoCrlf intake.old (S.left source.old) (S.left source.new) }
     ensures refused { IfErr result (Refuses (λ _. HasNoCrlf) (MayBecome IsCrlf) (before intake.old (S.left source.old)) (S.left source.new)) }
     ensures within { ¬ IsErrOf result HttpRefusal.TooLong }
     ensures cut { IsErrOf result HttpRefusal.Cut → Told (S.left source.new) (λ bytes. bytes ≡ []) }

@@ -1,10 +1,12 @@
 //! A body in chunks (RFC 9112, section 7.1).
 //!
 //!     line   bytes   CRLF     for each chunk; the line says how many bytes there are
-//!     line   trailers         behind the last chunk; the line says 0
+//!     line   trailers         after the last chunk; the line says 0
 ghost use Rattle.std.specs.Prelude.{◌≡◌, [], ◌≤◌, OnOk, IfErr, IsErrOf};
 ghost use Rattle.as4_flow.specs.Flow.{Rose, Told, before};
+ghost use Rattle.as4_http.specs.Asked.{AsksOnlyAsNeeded};
 ghost use Rattle.as4_http.specs.Chunks.{TakesChunk, HasNoChunk, TakesChunked, HasNoChunked, IsWholeChunk, IsWholeChunked};
+ghost use Rattle.as4_http.specs.Limits.{the_limits};
 ghost use Rattle.as4_http.specs.Passed.{PassesChunked, Shows};
 ghost use Rattle.as4_http.specs.Refused.{Refuses, MayBecome};
 
@@ -25,6 +27,7 @@ pub(crate) fn take_chunks<S: Source>(
     requires { body.old ≡ [] }
     ensures ok { OnOk result (TakesChunked body.new
         (before intake.old (S.left source.old)) (before intake.new (S.left source.new))) }
+    ensures asks { AsksOnlyAsNeeded (HasNoChunked the_limits) intake.old (S.left source.old) (S.left source.new) }
     ensures refused { IfErr result (Refuses HasNoChunked (MayBecome IsWholeChunked) (before intake.old (S.left source.old)) (S.left source.new)) }
     ensures passed { IsErrOf result HttpRefusal.TooLong → Shows PassesChunked (before intake.old (S.left source.old)) (S.left source.new) }
     ensures cut { IsErrOf result HttpRefusal.Cut → Told (S.left source.new) (λ bytes. bytes ≡ []) }
@@ -41,7 +44,7 @@ pub(crate) fn take_chunks<S: Source>(
     }
 }
 
-// Takes the bytes of a chunk and the CRLF behind them.
+// Takes the bytes of a chunk and the CRLF after them.
 fn take_chunk<S: Source>(
     intake: &mut Intake,
     source: &mut S,
@@ -50,6 +53,7 @@ fn take_chunk<S: Source>(
 ) -> Result<(), HttpRefusal>
     ensures ok { OnOk result (TakesChunk size body.old body.new
         (before intake.old (S.left source.old)) (before intake.new (S.left source.new))) }
+    ensures asks { AsksOnlyAsNeeded (HasNoChunk size) intake.old (S.left source.old) (S.left source.new) }
     ensures refused { IfErr result (Refuses (λ _. HasNoChunk size) (MayBecome (IsWholeChunk size)) (before intake.old (S.left source.old)) (S.left source.new)) }
     ensures within { ¬ IsErrOf result HttpRefusal.TooLong }
     ensures cut { IsErrOf result HttpRefusal.Cut → Told (S.left source.new) (λ bytes. bytes ≡ []) }

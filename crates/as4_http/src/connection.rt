@@ -1,4 +1,4 @@
-//! Whether a connection goes on behind a message (RFC 9112, section 9.3).
+//! Whether a connection is kept after a message (RFC 9112, section 9.3).
 ghost use Rattle.std.specs.Prelude.{◌≡◌, ◌≤◌, length, map, All};
 ghost use Rattle.std.specs.List.{list_any};
 ghost use Rattle.httparse.specs.Spans.{IsHeaderWithin, header_bytes};

@@ -1,6 +1,7 @@
-//! So many bytes of the stream, read straight into the buffer of a body.
+//! A known number of bytes of the stream, read straight into the buffer of a body.
 ghost use Rattle.std.specs.Prelude.{◌≡◌, [], ◌≤◌, OnOk, IfErr, IsErrOf};
-ghost use Rattle.as4_flow.specs.Flow.{Rose, Told, before};
+ghost use Rattle.as4_flow.specs.Flow.{Rose, Told, before, LosesFront};
+ghost use Rattle.as4_http.specs.Asked.{AsksOnlyAsNeeded};
 ghost use Rattle.as4_http.specs.Came.{Came, IsShorter};
 ghost use Rattle.as4_http.specs.Refused.{IsStop, OnRefused};
 
@@ -9,7 +10,7 @@ use crate::gathered::Gathered;
 use crate::intake::Intake;
 use as4_flow::Source;
 
-/// Takes the next n bytes off the stream, and puts them behind the body.
+/// Takes the next n bytes off the stream, and appends them to the body.
 pub(crate) fn take_bytes<S: Source>(
     intake: &mut Intake,
     source: &mut S,
@@ -18,6 +19,7 @@ pub(crate) fn take_bytes<S: Source>(
 ) -> Result<(), HttpRefusal>
     ensures ok { OnOk result (Came n body.old body.new
         (before intake.old (S.left source.old)) (before intake.new (S.left source.new))) }
+    ensures asks { AsksOnlyAsNeeded (IsShorter n) intake.old (S.left source.old) (S.left source.new) }
     ensures none { OnRefused result (Told (before intake.old (S.left source.old)) (IsShorter n)) }
     ensures stop { IfErr result IsStop }
     ensures cut { IsErrOf result HttpRefusal.Cut → Told (S.left source.new) (λ bytes. bytes ≡ []) }
@@ -31,9 +33,10 @@ pub(crate) fn take_bytes<S: Source>(
     read_bytes(source, body, n - at_hand)
 }
 
-// Reads n bytes of the source behind the body.
+// Reads n bytes of the source, and appends them to the body.
 fn read_bytes<S: Source>(source: &mut S, body: &mut Gathered, n: usize) -> Result<(), HttpRefusal>
     ensures ok { OnOk result (Came n body.old body.new (S.left source.old) (S.left source.new)) }
+    ensures asks { LosesFront n (S.left source.old) (S.left source.new) }
     ensures none { OnRefused result (Told (S.left source.old) (IsShorter n)) }
     ensures stop { IfErr result IsStop }
     ensures cut { IsErrOf result HttpRefusal.Cut → Told (S.left source.new) (λ bytes. bytes ≡ []) }

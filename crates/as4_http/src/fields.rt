@@ -1,4 +1,4 @@
-//! The fields of a head, by the places where their names and values stand in its bytes.
+//! The fields of a head, by the places of their names and values in its bytes.
 ghost use Rattle.std.specs.Prelude.{◌≡◌, ◌≤◌, length, map, All, IfOk, OnErr, IfErr};
 ghost use Rattle.std.specs.Option.{option_to_list, option_copied};
 ghost use Rattle.httparse.specs.Spans.{IsHeaderWithin, header_bytes};

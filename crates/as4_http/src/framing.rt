@@ -1,4 +1,4 @@
-//! What a head says of the body behind it (RFC 9112, section 6).
+//! How a head frames its body (RFC 9112, section 6).
 ghost use Rattle.std.specs.Prelude.{◌≡◌, ◌≢◌, ◌≤◌, ℕ, List, Option, length, map, All, IfOk, OnErr, IfErr};
 ghost use Rattle.std.specs.Option.{option_copied};
 ghost use Rattle.std.specs.Str.Parse.{digits_value};

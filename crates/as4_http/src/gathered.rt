@@ -1,11 +1,11 @@
-//! Bytes that were gathered from a source, in one buffer, and room for more behind them.
+//! Bytes that were gathered from a source, in one buffer, with room for more after them.
 //!
 //!     bytes | room for more
 //!     0     len             room.len()
 //!
-//! The memory of the room grows by half of what is there. The room is written with zeros a piece at a time, and once
-//! only: a piece of one byte costs no more than a byte of a large piece.
-ghost use Rattle.std.specs.Prelude.{◌≡◌, [], ◌+◌, ◌++◌, ◌<◌, ◌≤◌, length, take, drop, IfOk, OnOk, IfErr, OnErr, IsErrOf};
+//! The buffer grows by half of the bytes that it holds. The room is filled with zeros a piece at a time, and each
+//! place once: a piece of one byte costs no more than a byte of a large piece.
+ghost use Rattle.std.specs.Prelude.{◌≡◌, [], ◌+◌, ◌*◌, ◌/◌, ◌++◌, ◌<◌, ◌≤◌, max, length, take, drop, vec_len, vec_capacity, IfOk, OnOk, IfErr, OnErr, IsErrOf};
 ghost use Rattle.as4_flow.specs.Flow.{Rose, Told};
 ghost use Rattle.as4_flow.specs.Got.{IfGave, OnNothing, UnlessFailed};
 ghost use Rattle.as4_http.specs.Came.{Came};
@@ -18,7 +18,7 @@ use std::alloc::{AllocError, Global};
 use std::marker::Model;
 
 /// The most that one read is sure to have room for, where that much is wanted, in bytes.
-pub(crate) const PIECE: usize = 1 << 16;
+const PIECE: usize = 1 << 16;
 
 const _: () = prove!(PIECE == 65536);
 
@@ -69,7 +69,7 @@ impl Gathered {
         Octets::of(room)
     }
 
-    /// Puts these bytes behind the others.
+    /// Appends these bytes.
     pub(crate) fn append(&mut self, bytes: &[u8]) -> Result<(), AllocError>
         ensures ok { OnOk result (self.new ≡ self.old ++ bytes.now) }
         ensures err { OnErr result (self.new ≡ self.old) }
@@ -80,7 +80,7 @@ impl Gathered {
         Ok(())
     }
 
-    /// Drops this many bytes at the front.
+    /// Drops the first n bytes.
     pub(crate) fn drop_front(&mut self, n: usize)
         requires { n ≤ length self.old }
         ensures { self.new ≡ drop n self.old }
@@ -92,7 +92,7 @@ impl Gathered {
         self.len -= n;
     }
 
-    /// Reads a piece of the source behind the bytes, of this many at most, and says how many came.
+    /// Appends a piece of the source, of this many bytes at most, and returns how many came.
     pub(crate) fn fill<S: Source>(
         &mut self,
         source: &mut S,
@@ -120,7 +120,7 @@ impl Gathered {
     }
 }
 
-// Makes room behind the first `len` bytes, for some of this many at least.
+// Makes room after the first `len` bytes: for a piece, or for this many where that is less.
 fn make_room(room: &mut Vec<u8>, len: usize, most: usize) -> Result<(), AllocError>
     requires wanted { 0 < most }
     requires within { len ≤ length room.old.items }
@@ -131,7 +131,7 @@ fn make_room(room: &mut Vec<u8>, len: usize, most: usize) -> Result<(), AllocErr
     let piece = most.min(PIECE);
     if room.capacity() - len < piece {
         room.truncate(len);
-        room.reserve_exact((len / 2).max(2 * PIECE).min(most))?;
+        reserve(room, most)?;
     }
     if room.len() - len < piece {
         room.resize(len.saturating_add(piece), 0)?;
@@ -139,7 +139,15 @@ fn make_room(room: &mut Vec<u8>, len: usize, most: usize) -> Result<(), AllocErr
     Ok(())
 }
 
-// Reads behind the first `len` bytes of the room.
+// Reserves memory for this many bytes, and for no more than half of those that came, or two pieces.
+fn reserve(room: &mut Vec<u8>, most: usize) -> Result<(), AllocError>
+    ensures same { room.new.items ≡ room.old.items }
+    ensures memory { vec_capacity room.new ≤ max (vec_capacity room.old) (vec_len room.old + max (vec_len room.old / 2) (2 * PIECE)) }
+{
+    room.reserve_exact((room.len() / 2).max(2 * PIECE).min(most))
+}
+
+// Reads a piece into the room after its first `len` bytes.
 fn read_behind<S: Source>(room: &mut [u8], len: usize, most: usize, source: &mut S) -> Got
     requires wanted { 0 < most }
     requires some { len < length room.old }

@@ -4,19 +4,19 @@ ghost use Rattle.as4_flow.specs.Flow.{Rose, Told};
 ghost use Rattle.as4_http.specs.Came.{Came};
 ghost use Rattle.as4_http.specs.Refused.{IsStop};
 
-use crate::HttpRefusal;
-use crate::gathered::{Gathered, PIECE};
+use crate::gathered::Gathered;
+use crate::{HttpRefusal, MAX_PIECE};
 use as4_flow::Source;
 use std::alloc::Global;
 use std::marker::Model;
 
-/// Reads messages from a source, one after another, and holds what it read past the last. Contracts see it as
-/// the bytes that it holds.
+/// Reads messages from a source, one after another, and holds the bytes that it read past the last. Contracts see
+/// it as these bytes.
 #[derive(Drop)]
 pub struct Intake {
     alloc: Global,
     came: Gathered,
-    // How many of the bytes went into messages.
+    // The number of bytes that went into messages.
     start: usize,
 }
 
@@ -31,7 +31,7 @@ impl Model for Intake {
 }
 
 impl Intake {
-    /// An intake that holds nothing. It takes no memory.
+    /// An intake that holds nothing. It allocates nothing.
     pub fn new(alloc: Global) -> Intake
         ensures { result ≡ [] }
     {
@@ -58,7 +58,7 @@ impl Intake {
         self.came.len() - self.start
     }
 
-    /// Lets go of this many bytes at the front.
+    /// Drops the first n bytes.
     pub(crate) fn skip(&mut self, n: usize)
         requires { n ≤ length self.old }
         ensures { self.new ≡ drop n self.old }
@@ -67,9 +67,10 @@ impl Intake {
         self.start = self.came.len() - rest;
     }
 
-    /// Reads a piece of the source behind what it holds, and says how many bytes came.
+    /// Appends a piece of the source to the bytes that it holds, and returns how many came.
     pub(crate) fn fill<S: Source>(&mut self, source: &mut S) -> Result<usize, HttpRefusal>
         ensures some { IfOk result (λ n. 1 ≤ n) }
+        ensures few { IfOk result (λ n. n ≤ MAX_PIECE) }
         ensures came { IfOk result (λ n. Came n self.old self.new (S.left source.old) (S.left source.new)) }
         ensures same { OnErr result ((self.new ≡ self.old) × (S.left source.new ≡ S.left source.old)) }
         ensures stop { IfErr result IsStop }
@@ -78,10 +79,9 @@ impl Intake {
         ensures quiet { ¬ IsErrOf result HttpRefusal.ReadFault → S.faults source.new ≡ S.faults source.old }
         ensures counted { S.faults source.old ≤ S.faults source.new }
     {
-        // What it holds moves to the front, so that each byte is moved at most once for each message or chunk.
+        // The bytes that it holds move to the start of the buffer: each byte moves at most once a message or chunk.
         self.came.drop_front(self.start);
         self.start = 0;
-        // Two pieces, so that memory is taken seldom where small ones come.
-        self.came.fill(source, 2 * PIECE)
+        self.came.fill(source, MAX_PIECE)
     }
 }

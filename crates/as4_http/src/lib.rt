@@ -23,9 +23,9 @@ mod trailers;
 mod writing;
 
 pub use intake::Intake;
-pub use limits::{MAX_BODY, MAX_CHUNK_LINE, MAX_FIELDS, MAX_HEAD, MAX_TRAILERS};
+pub use limits::{MAX_BODY, MAX_CHUNK_LINE, MAX_FIELDS, MAX_HEAD, MAX_PIECE, MAX_TRAILERS};
 pub use message::{Method, Request, Response};
 pub use refusal::HttpRefusal;
-pub use requests::{one_request, request_read_back};
-pub use responses::{one_response, response_read_back};
+pub use requests::{one_request, request_goes_on, request_read_back};
+pub use responses::{one_response, response_goes_on, response_read_back};
 pub use writing::{fixed_response, write_kept, write_request, write_response};

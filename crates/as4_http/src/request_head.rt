@@ -1,12 +1,13 @@
 //! The head of a request, read from a source.
 ghost use Rattle.std.specs.Prelude.{◌≡◌, ◌≢◌, [], ◌≤◌, ◌<◌, length, drop, IfOk, OnErr, IfErr, IsErrOf};
 ghost use Rattle.as4_flow.specs.Flow.{Rose, Told, before};
+ghost use Rattle.as4_http.specs.Asked.{AsksOnlyAsNeeded};
 ghost use Rattle.httparse.specs.Grammar.{RequestHead, MayBecomeRequest};
 ghost use Rattle.httparse.specs.Spans.{IsRequestAt, IsRequestWithin, IsRequestOf};
 ghost use Rattle.as4_http.specs.Limits.{the_limits};
 ghost use Rattle.as4_http.specs.Passed.{IsLongHead, PassesRequest, Shows};
 ghost use Rattle.as4_http.specs.Refused.{Refuses, Denies};
-ghost use Rattle.as4_http.specs.RequestStarts.{SaysRequest, TakesRequestHead, BeginsRequestHead, HasNoRequestHead, EndsInRequestHead, IsSmallRequest};
+ghost use Rattle.as4_http.specs.RequestStarts.{SaysRequest, TakesRequestHead, BeginsRequestHead, HasNoRequestHead, EndsInRequestHead, DecidesRequestHead, IsSmallRequest};
 
 use crate::intake::Intake;
 use crate::request_start::{RequestStart, request_start};
@@ -22,8 +23,10 @@ pub(crate) fn read_request_head<S: Source>(
 ) -> Result<RequestStart, HttpRefusal>
     ensures ok { IfOk result (TakesRequestHead
         (before intake.old (S.left source.old)) (before intake.new (S.left source.new))) }
+    ensures asks { AsksOnlyAsNeeded (HasNoRequestHead the_limits) intake.old (S.left source.old) (S.left source.new) }
     ensures refused { IfErr result (Refuses HasNoRequestHead EndsInRequestHead (before intake.old (S.left source.old)) (S.left source.new)) }
     ensures passed { IsErrOf result HttpRefusal.TooLong → Shows PassesRequest (before intake.old (S.left source.old)) (S.left source.new) }
+    ensures bad_head { IsErrOf result HttpRefusal.Bad → Shows DecidesRequestHead (before intake.old (S.left source.old)) (S.left source.new) }
     ensures cut { IsErrOf result HttpRefusal.Cut → Told (S.left source.new) (λ bytes. bytes ≡ []) }
     ensures fault { IsErrOf result HttpRefusal.ReadFault → Rose (S.faults source.old) (S.faults source.new) }
     ensures quiet { ¬ IsErrOf result HttpRefusal.ReadFault → S.faults source.new ≡ S.faults source.old }
@@ -43,7 +46,7 @@ pub(crate) fn read_request_head<S: Source>(
     }
 }
 
-// Takes the head that stands at the front, where these are its parts.
+// Takes the head that the bytes begin with, where these are its parts.
 fn take_head(
     intake: &mut Intake,
     headers: &[HeaderSpan],

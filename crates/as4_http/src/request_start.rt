@@ -15,14 +15,14 @@ use as4_values::Octets;
 use httparse::spans::{HeaderSpan, RequestSpans};
 use std::alloc::{AllocError, Global};
 
-/// What stands before the body of a request.
+/// What the head of a request says.
 #[derive(Drop)]
 pub(crate) struct RequestStart {
     pub(crate) method: Method,
     pub(crate) target: Octets,
     pub(crate) media: Option<Octets>,
     pub(crate) framing: Framing,
-    /// Whether a further request may come behind this one on its connection.
+    /// Whether a further request may follow on its connection.
     pub(crate) kept: bool,
 }
 

@@ -1,12 +1,13 @@
 //! The head of a response, read from a source.
 ghost use Rattle.std.specs.Prelude.{◌≡◌, [], ◌≤◌, ◌<◌, length, drop, IfOk, OnErr, IfErr, IsErrOf};
 ghost use Rattle.as4_flow.specs.Flow.{Rose, Told, before};
+ghost use Rattle.as4_http.specs.Asked.{AsksOnlyAsNeeded};
 ghost use Rattle.httparse.specs.Grammar.{ResponseHead, MayBecomeResponse};
 ghost use Rattle.httparse.specs.Spans.{IsResponseAt, IsResponseWithin, IsResponseOf};
 ghost use Rattle.as4_http.specs.Limits.{the_limits};
 ghost use Rattle.as4_http.specs.Passed.{IsLongHead, PassesResponse, Shows};
 ghost use Rattle.as4_http.specs.Refused.{Refuses, Denies};
-ghost use Rattle.as4_http.specs.ResponseStarts.{SaysResponse, TakesResponseHead, BeginsResponseHead, HasNoResponseHead, EndsInResponseHead, IsSmallResponse};
+ghost use Rattle.as4_http.specs.ResponseStarts.{SaysResponse, TakesResponseHead, BeginsResponseHead, HasNoResponseHead, EndsInResponseHead, DecidesResponseHead, IsSmallResponse};
 
 use crate::intake::Intake;
 use crate::request_head::refusal_of;
@@ -23,8 +24,10 @@ pub(crate) fn read_response_head<S: Source>(
 ) -> Result<ResponseStart, HttpRefusal>
     ensures ok { IfOk result (TakesResponseHead
         (before intake.old (S.left source.old)) (before intake.new (S.left source.new))) }
+    ensures asks { AsksOnlyAsNeeded (HasNoResponseHead the_limits) intake.old (S.left source.old) (S.left source.new) }
     ensures refused { IfErr result (Refuses HasNoResponseHead EndsInResponseHead (before intake.old (S.left source.old)) (S.left source.new)) }
     ensures passed { IsErrOf result HttpRefusal.TooLong → Shows PassesResponse (before intake.old (S.left source.old)) (S.left source.new) }
+    ensures bad_head { IsErrOf result HttpRefusal.Bad → Shows DecidesResponseHead (before intake.old (S.left source.old)) (S.left source.new) }
     ensures cut { IsErrOf result HttpRefusal.Cut → Told (S.left source.new) (λ bytes. bytes ≡ []) }
     ensures fault { IsErrOf result HttpRefusal.ReadFault → Rose (S.faults source.old) (S.faults source.new) }
     ensures quiet { ¬ IsErrOf result HttpRefusal.ReadFault → S.faults source.new ≡ S.faults source.old }
@@ -44,7 +47,7 @@ pub(crate) fn read_response_head<S: Source>(
     }
 }
 
-// Takes the head that stands at the front, where these are its parts.
+// Takes the head that the bytes begin with, where these are its parts.
 fn take_head(
     intake: &mut Intake,
     headers: &[HeaderSpan],

@@ -17,7 +17,7 @@ const LEAST_STATUS: u16 = 200;
 
 const _: () = prove!(LEAST_STATUS == 200);
 
-/// What stands before the body of a response.
+/// What the head of a response says.
 #[derive(Drop)]
 pub(crate) struct ResponseStart {
     pub(crate) status: u16,

@@ -1,8 +1,10 @@
-//! The trailers behind the last chunk (RFC 9112, section 7.1.2): field lines, which are skipped one by one, and
-//! the empty line behind them. No memory is taken for them.
+//! The trailers after the last chunk (RFC 9112, section 7.1.2): field lines, which are skipped one by one, and the
+//! empty line after them. They allocate nothing.
 ghost use Rattle.std.specs.Prelude.{◌≡◌, [], ◌+◌, ◌<◌, ◌≤◌, ◌⊎◌, true, false, length, take, IfOk, OnOk, OnErr, IfErr, IsErrOf, IfSome, IfNone};
 ghost use Rattle.as4_flow.specs.Flow.{Rose, Told, before};
+ghost use Rattle.as4_http.specs.Asked.{AsksOnlyAsNeeded};
 ghost use Rattle.httparse.specs.Grammar.{MayBecomeSection, NeverHasSection};
+ghost use Rattle.as4_http.specs.Limits.{the_limits};
 ghost use Rattle.as4_http.specs.Passed.{GoesOver, IsLongTrailers, ReadsTrailers, Shows};
 ghost use Rattle.as4_http.specs.Refused.{IsDenial, MayBecome, Refuses, Denies};
 ghost use Rattle.as4_http.specs.Trailers.{HasNoLf, BeginsWithLine, IsLine, EndsTrailers, BeginsNoLine, TakesTrailers, HasNoTrailers, AreTrailers, LeavesMissing, MissesOnly};
@@ -21,6 +23,7 @@ pub(crate) fn take_trailers<S: Source>(
 ) -> Result<(), HttpRefusal>
     ensures ok { OnOk result (TakesTrailers
         (before intake.old (S.left source.old)) (before intake.new (S.left source.new))) }
+    ensures asks { AsksOnlyAsNeeded (HasNoTrailers 0 the_limits) intake.old (S.left source.old) (S.left source.new) }
     ensures refused { IfErr result (Refuses (HasNoTrailers 0) (MayBecome (AreTrailers 0)) (before intake.old (S.left source.old)) (S.left source.new)) }
     ensures passed { IsErrOf result HttpRefusal.TooLong → Shows (GoesOver ReadsTrailers (IsLongTrailers 0)) (before intake.old (S.left source.old)) (S.left source.new) }
     ensures cut { IsErrOf result HttpRefusal.Cut → Told (S.left source.new) (λ bytes. bytes ≡ []) }
@@ -40,8 +43,8 @@ pub(crate) fn take_trailers<S: Source>(
     }
 }
 
-// Reads until the intake holds a whole line, and says how long it is with its LF. Behind the bytes of the trailers
-// that have passed, the line leaves them within their limit.
+// Reads until the intake holds a whole line, and returns its length with its LF. With `passed` bytes before it, the
+// line leaves the trailers within their limit.
 fn hold_line<S: Source>(
     intake: &mut Intake,
     source: &mut S,
@@ -51,6 +54,7 @@ fn hold_line<S: Source>(
     ensures ok { IfOk result (BeginsWithLine intake.new) }
     ensures within { IfOk result (λ n. passed + n ≤ MAX_TRAILERS) }
     ensures whole { before intake.old (S.left source.old) ≡ before intake.new (S.left source.new) }
+    ensures asks { AsksOnlyAsNeeded (HasNoTrailers passed the_limits) intake.old (S.left source.old) (S.left source.new) }
     ensures refused { IfErr result (Refuses (HasNoTrailers passed) (MayBecome (AreTrailers passed)) (before intake.old (S.left source.old)) (S.left source.new)) }
     ensures passed { IsErrOf result HttpRefusal.TooLong → Shows (GoesOver ReadsTrailers (IsLongTrailers passed)) (before intake.old (S.left source.old)) (S.left source.new) }
     ensures cut { IsErrOf result HttpRefusal.Cut → Told (S.left source.new) (λ bytes. bytes ≡ []) }
@@ -78,8 +82,8 @@ fn hold_line<S: Source>(
     }
 }
 
-// What unended trailers at the end of the source are, of which this is the last line: cut, where their shortest
-// end leaves them within the limit.
+// How unended trailers at the end of the source are refused, of which this is the last line: as cut, where their
+// shortest end leaves them within the limit.
 fn unended_line(line: &[u8], passed: usize) -> HttpRefusal
     requires within { passed ≤ MAX_TRAILERS }
     requires none { HasNoLf line.now }
@@ -97,7 +101,7 @@ fn unended_line(line: &[u8], passed: usize) -> HttpRefusal
     HttpRefusal::Cut
 }
 
-// What trailers are that go on past their limit, of which this is the last line as far as the limit.
+// How trailers that go on past their limit are refused, of which this is the last line as far as the limit.
 fn endless(line: &[u8]) -> HttpRefusal
     requires { HasNoLf line.now }
     ensures either { (result ≡ HttpRefusal.Bad) ⊎ (result ≡ HttpRefusal.TooLong) }
@@ -120,7 +124,7 @@ fn may_end(line: &[u8]) -> bool
     parse_headers(line, &mut [EMPTY_HEADER_SPAN; 1]).is_ok()
 }
 
-// How many bytes are missing behind an unended line at least, with the empty line.
+// The least number of bytes that end an unended line and the trailers.
 fn missing(line: &[u8]) -> usize
     requires { HasNoLf line.now }
     ensures least { LeavesMissing line.now result }
@@ -138,7 +142,7 @@ fn missing(line: &[u8]) -> usize
     3
 }
 
-// How long the first line is with its LF, where the first `scanned` bytes have none.
+// The length of the first line with its LF, where the first `scanned` bytes have no LF.
 fn line_in(bytes: &[u8], scanned: usize) -> Option<usize>
     requires within { scanned ≤ length bytes.now }
     requires none { HasNoLf (take scanned bytes.now) }

@@ -11,14 +11,14 @@ use as4_values::{NoMemory, Octets, Text};
 use itoa::Buffer;
 use std::alloc::Global;
 
-/// How a response says that its connection goes on.
+/// How a response says that its connection is kept.
 const KEEP_ALIVE: &[u8] = b"keep-alive";
 
-/// How a message says that its connection closes behind it.
+/// How a message says that its connection closes after it.
 const CLOSE: &[u8] = b"close";
 
-/// The request that goes to an address, of any length: GET where it asks for an entry of an inbox or the
-/// standing of a submission, and else POST.
+/// The request to an address, of any length: GET where it asks for an entry of an inbox or the status of a
+/// submission, and POST otherwise.
 #[tactic(auto, unfolding(crate::specs::Written::request_text))]
 pub fn write_request(
     alloc: Global,
@@ -37,7 +37,7 @@ pub fn write_request(
     Ok(Octets::of(out))
 }
 
-/// The response with a status, whose connection closes behind it.
+/// The response with a status, whose connection closes after it.
 pub fn write_response(
     alloc: Global,
     status: u16,
@@ -50,7 +50,7 @@ pub fn write_response(
     response(alloc, status, media, CLOSE, body)
 }
 
-/// The same response, whose connection goes on behind it.
+/// The same response, whose connection is kept.
 pub fn write_kept(
     alloc: Global,
     status: u16,
@@ -63,8 +63,8 @@ pub fn write_kept(
     response(alloc, status, media, KEEP_ALIVE, body)
 }
 
-/// The responses that have no media text and no body, and whose connection closes behind them. They take no
-/// memory.
+/// The responses that have no media text and no body, and whose connection closes after them. They allocate
+/// nothing.
 pub fn fixed_response(status: u16) -> &'static [u8]
     requires { IsTrue (is_fixed status) }
     ensures { result.now ≡ response_text status None (codes "close") [] }
@@ -97,7 +97,7 @@ fn response(
     Ok(Octets::of(out))
 }
 
-// Adds the fields behind the first, the empty line and the body.
+// Adds the fields after the first, the empty line and the body.
 #[tactic(auto, unfolding(crate::specs::Written::fields_and_body))]
 fn add_fields_and_body(
     out: &mut Vec<u8>,
@@ -176,7 +176,7 @@ fn reason(status: u16) -> &'static [u8]
     }
 }
 
-// How long the host and the port are, which stand behind `http://`.
+// The length of the host and the port, which follow `http://`.
 #[tactic(auto, using(crate::proofs::WrittenLemmas::position_or_end))]
 fn host_len(rest: &[u8]) -> usize
     ensures value { result ≡ position_or_len (λ b. b == 47) rest.now }
@@ -191,7 +191,7 @@ fn host_end(rest: &[u8]) -> Option<usize>
     rest.iter().position(|byte| *byte == b'/')
 }
 
-// What stands behind `http://`.
+// What follows `http://`.
 fn behind_scheme(address: &[u8]) -> &[u8]
     ensures { result.now ≡ drop 7 address.now }
 {

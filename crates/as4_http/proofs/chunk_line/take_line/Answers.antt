@@ -1,4 +1,4 @@
-use Rattle.std.proofs.Common.{◌≡◌, List, ℕ, sym, ◌∙◌, subst, ap, Err, arith}
+use Rattle.std.proofs.Common.{◌≡◌, List, ℕ, refl, sym, ◌∙◌, subst, ap, Err, arith}
 use Rattle.as4_flow.specs.Flow.{before}
 use Rattle.httparse.specs.Grammar.{ChunkLine, HasNoChunkLine, MayBecomeChunkLine}
 use Rattle.httparse.specs.Spans.{IsChunkLineAt}
@@ -7,6 +7,7 @@ use Rattle.as4_http.specs.Limits.{the_limits}
 use Rattle.as4_http.specs.Passed.{IsLongLine, IsLargeChunk, long_line, large_chunk}
 use Rattle.as4_http.specs.declared.refusal.HttpRefusal.TheVariants.{Cut}
 use Rattle.as4_http.specs.Refused.{MayBecome, Denies}
+use Rattle.as4_http.proofs.AskedLemmas.{asks_nothing, asks_more, held_more}
 use Rattle.as4_http.proofs.ChunkLineLemmas.{line_long, line_over, line_yet, line_none, line_passes, line_passes_yet}
 use Rattle.as4_http.proofs.RefusedLemmas.{denies_held}
 use Rattle.as4_http.proofs.StreamLemmas.{told_end}
@@ -62,3 +63,17 @@ returns-then-len-gt-MAX_CHUNK_LINE-2-clause-passed g c =
     let none : HasNoChunkLine c.pieces.intake = subst (λ (b : List ℕ). HasNoChunkLine b) c.bytes.ensures partial in
     let may : MayBecomeChunkLine c.pieces.intake = subst (λ (b : List ℕ). MayBecomeChunkLine b) c.bytes.ensures unfinished in
     λ is. record { read = c.pieces.intake; taken = c.pieces.invariant.whole; holds = long_line (line_passes_yet c.pieces.intake none may (omega arith)) }
+
+pub pieces-init : goal.pieces-init
+pieces-init g c = record { whole = refl; asks = asks_nothing (HasNoLine c.args.passed the_limits) c.args.intake.now _ _ refl; quiet = refl }
+
+pub pieces-preserved : goal.pieces-preserved
+pieces-preserved g c =
+    let held = c.pieces.intake in
+    let partial = rw c.in-Ok-Partial.field-0-is at c.in-Ok-Partial.ensures.partial in
+    let none : HasNoLine c.args.passed the_limits held = line_none held c.args.passed (subst (λ (b : List ℕ). HasNoChunkLine b) c.bytes.ensures partial) in
+    record {
+      whole = held_more c.args.intake.now held c.fill.new.self _ _ _ _ c.pieces.invariant.whole c.in-Ok.ensures.came;
+      asks = asks_more (HasNoLine c.args.passed the_limits) c.args.intake.now held c.fill.new.self _ _ _ _ c.pieces.invariant.whole c.pieces.invariant.asks c.in-Ok.ensures.came c.in-Ok.ensures.few none;
+      quiet = c.in-Ok.ensures.quiet (λ clash. cc) ∙ c.pieces.invariant.quiet;
+    }

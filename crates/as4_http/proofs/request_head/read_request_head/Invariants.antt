@@ -1,5 +1,8 @@
 use Rattle.std.proofs.Common.{◌≡◌, ◌+◌, ◌-◌, length}
 use Rattle.as4_flow.specs.Flow.{before}
+use Rattle.as4_http.specs.Asked.{AsksOnlyAsNeeded}
+use Rattle.as4_http.specs.Limits.{the_limits}
+use Rattle.as4_http.specs.RequestStarts.{HasNoRequestHead}
 use Rattle.as4_http.specs.declared.limits.TheConstants.{MAX_HEAD, MAX_FIELDS}
 use Rattle.as4_http.proofs.request_head.read_request_head.Given as goal
 
@@ -7,6 +10,7 @@ abbrev pub invariant-pieces : goal.invariant-pieces
 invariant-pieces g l = record {
   room : length l.headers ≡ MAX_FIELDS;
   whole : before l.fn.intake (g.S.Source.left l.fn.source) ≡ before l.intake (g.S.Source.left l.source);
+  asks : AsksOnlyAsNeeded (HasNoRequestHead the_limits) l.fn.intake (g.S.Source.left l.fn.source) (g.S.Source.left l.source);
   quiet : g.S.Source.faults l.source ≡ g.S.Source.faults l.fn.source;
 }
 

@@ -1,6 +1,8 @@
-use Rattle.std.proofs.Common.{List, ℕ, subst, ap, Err, arith}
+use Rattle.std.proofs.Common.{List, ℕ, refl, ◌∙◌, subst, ap, Err, arith}
 use Rattle.httparse.specs.Grammar.{HasNoResponse, MayBecomeResponse}
+use Rattle.as4_http.specs.Limits.{the_limits}
 use Rattle.as4_http.specs.ResponseStarts.{HasNoResponseHead, EndsInResponseHead}
+use Rattle.as4_http.proofs.AskedLemmas.{asks_nothing, asks_more, held_more}
 use Rattle.as4_http.proofs.RefusedLemmas.{held_refused, end_exit}
 use Rattle.as4_http.proofs.ResponseHeadLemmas.{none_yet, none_begun}
 use Rattle.as4_http.proofs.response_head.read_response_head.Goals as goal
@@ -24,3 +26,18 @@ returns-in_err-fill-clause-refused g c =
     let may : MayBecomeResponse held = subst (λ (b : List ℕ). MayBecomeResponse b) c.bytes.ensures unfinished in
     end_exit HasNoResponseHead EndsInResponseHead _ (g.S.Source.left c.pieces.source) (g.S.Source.left c.fill.new.source) held c.from_residual.result c.in_err-fill.field-0.0 c.from_residual.ensures.1 c.in_err-fill.ensures.stop c.pieces.invariant.whole (λ cut. c.in_err-fill.ensures.cut (ap Err cut))
     (none_begun held none, record { none = none; may = may; few = omega arith })
+
+pub pieces-init : goal.pieces-init
+pieces-init g c = record { room = refl; whole = refl; asks = asks_nothing (HasNoResponseHead the_limits) c.args.intake.now _ _ refl; quiet = refl }
+
+pub pieces-preserved : goal.pieces-preserved
+pieces-preserved g c =
+    let held = c.pieces.intake in
+    let partial = rw c.in-Ok-Partial.field-0-is at c.in-Ok-Partial.ensures.partial in
+    let none : HasNoResponseHead the_limits held = none_begun held (subst (λ (b : List ℕ). HasNoResponse b) c.bytes.ensures partial) in
+    record {
+      room = omega (arith, c.parse_response.auto.headers, c.pieces.invariant.room);
+      whole = held_more c.args.intake.now held c.fill.new.self _ _ _ _ c.pieces.invariant.whole c.in_ok-fill.ensures.came;
+      asks = asks_more (HasNoResponseHead the_limits) c.args.intake.now held c.fill.new.self _ _ _ _ c.pieces.invariant.whole c.pieces.invariant.asks c.in_ok-fill.ensures.came c.in_ok-fill.ensures.few none;
+      quiet = c.in_ok-fill.ensures.quiet (λ clash. cc) ∙ c.pieces.invariant.quiet;
+    }

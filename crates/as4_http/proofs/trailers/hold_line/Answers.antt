@@ -1,11 +1,12 @@
-use Rattle.std.proofs.Common.{◌≡◌, List, ℕ, ◌+◌, ◌-◌, ◌≤◌, length, take, refl, sym, ◌∙◌, subst, ap, Err, arith}
-use Rattle.std.proofs.lemmas.List.{length-take-le}
+use Rattle.std.proofs.Common.{◌≡◌, List, ℕ, ◌+◌, ◌-◌, ◌≤◌, length, take, refl, sym, ◌∙◌, subst, ap, Err, arith, length-append}
+use Rattle.std.proofs.lemmas.List.{length-take-le, take_at}
 use Rattle.as4_http.specs.Limits.{the_limits}
 use Rattle.as4_flow.specs.Flow.{before}
 use Rattle.as4_http.specs.declared.limits.TheConstants.{MAX_TRAILERS}
 use Rattle.as4_http.specs.declared.refusal.HttpRefusal.TheVariants.{Cut}
 use Rattle.as4_http.specs.Refused.{MayBecome, Denies}
 use Rattle.as4_http.specs.Trailers.{HasNoLf, BeginsWithLine, AreTrailers, HasNoTrailers}
+use Rattle.as4_http.proofs.AskedLemmas.{asks_nothing, asks_more, held_more}
 use Rattle.as4_http.proofs.LineLemmas.{no_lf_none, no_lf_take, no_lf_within, line_within}
 use Rattle.as4_http.proofs.RefusedLemmas.{denies_held}
 use Rattle.as4_http.proofs.StreamLemmas.{told_end}
@@ -13,7 +14,20 @@ use Rattle.as4_http.proofs.TrailerLemmas.{none_ended, endless_refuses, endless_s
 use Rattle.as4_http.proofs.trailers.hold_line.Goals as goal
 
 pub pieces-init : goal.pieces-init
-pieces-init g c = record { within = omega arith; none = no_lf_none; whole = refl; quiet = refl }
+pieces-init g c = record { within = omega arith; none = no_lf_none; whole = refl; asks = asks_nothing (HasNoTrailers c.args.passed the_limits) c.args.intake.now _ _ refl; quiet = refl }
+
+pub pieces-preserved : goal.pieces-preserved
+pieces-preserved g c =
+    let held = c.pieces.intake in
+    let came = c.in-Ok.ensures.came in
+    let none : HasNoLf held = subst (λ (b : List ℕ). HasNoLf b) c.bytes.ensures c.in-None.ensures.none in
+    record {
+      within = omega (arith, c.len-scanned.ensures, ap length came.held, length-append held came.piece);
+      none = subst HasNoLf (sym (take_at held came.piece c.len-scanned.result (sym c.len-scanned.ensures)) ∙ ap (λ (l : List ℕ). take c.len-scanned.result l) (sym came.held)) none;
+      whole = held_more c.args.intake.now held c.fill.new.self _ _ _ _ c.pieces.invariant.whole came;
+      asks = asks_more (HasNoTrailers c.args.passed the_limits) c.args.intake.now held c.fill.new.self _ _ _ _ c.pieces.invariant.whole c.pieces.invariant.asks came c.in-Ok.ensures.few (none_ended the_limits held c.args.passed none);
+      quiet = c.in-Ok.ensures.quiet (λ clash. cc) ∙ c.pieces.invariant.quiet;
+    }
 
 -- as many bytes as the limit leaves
 full : (held : List ℕ) (passed n : ℕ) → passed ≤ MAX_TRAILERS → n ≡ MAX_TRAILERS - passed → n ≤ length held → MAX_TRAILERS ≤ passed + length (take n held)

@@ -1,17 +1,19 @@
 use Rattle.std.proofs.Common.{◌≡◌, ℕ, ◌+◌, Bool, Err, Option, refl, ◌≤◌, List, ◌++◌, ◌∷◌, [], length, take, true, false, sym, ◌∙◌, ap, subst, arith}
 use Rattle.std.specs.List.{flat_map}
-use Rattle.std.proofs.lemmas.List.Elements.{All-push}
+use Rattle.std.proofs.lemmas.List.Elements.{All-nil, All-push}
 use Rattle.as4_flow.specs.Flow.{before}
 use Rattle.httparse.specs.Grammar.{print_field, IsField}
-use Rattle.as4_http.specs.Limits.{Limits}
+use Rattle.as4_http.specs.Limits.{Limits, the_limits}
 use Rattle.as4_http.specs.Passed.{GoesOver, ReadsTrailers, IsLongTrailers}
 use Rattle.as4_http.specs.Refused.{MayBecome}
 use Rattle.as4_http.specs.Trailers.{AreTrailers, IsLine, EndsTrailers, BeginsNoLine, TakesTrailers, HasNoTrailers}
+use Rattle.as4_flow.proofs.FlowLemmas.{before_nil}
+use Rattle.as4_http.proofs.AskedLemmas.{asks_nothing}
 use Rattle.as4_http.proofs.LineLemmas.{line_cut, line_within}
 use Rattle.as4_http.proofs.PassedLemmas.{shows_behind, too_long_exit}
 use Rattle.as4_http.proofs.RefusedLemmas.{refused_exit, refuses_behind, bad_exit, may_behind}
 use Rattle.as4_http.proofs.StreamLemmas.{dooms_behind}
-use Rattle.as4_http.proofs.TrailerLemmas.{none_behind, none_with, over_behind, whole_behind, takes_all, passes_on, passes_count}
+use Rattle.as4_http.proofs.TrailerLemmas.{asks_line, none_behind, none_with, over_behind, whole_behind, takes_all, passes_on, passes_count}
 use Rattle.as4_http.proofs.trailers.take_trailers.Goals as goal
 
 pub returns-in_err-len-clause-refused : goal.returns-in_err-len-clause-refused
@@ -65,5 +67,26 @@ lines-preserved g c =
       within = omega (arith, c.in_ok-len.ensures.within, c.lines.invariant.within);
       taken = subst (λ (l : List ℕ). before c.args.intake.now (g.S.Source.left c.args.source.now) ≡ before (flat_map print_field (passed ++ field.0 ∷ [])) (before l left)) (sym c.skip.ensures)
           (passes_on passed field.0 (take c.in_ok-len.len held) held _ left c.in_ok-len.len so_far refl field.2);
+      asks = asks_line c.lines.invariant.fields c.lines.passed c.args.intake.now c.lines.intake _ _ _ c.lines.invariant.valid c.lines.invariant.count c.lines.invariant.taken c.lines.invariant.asks c.in_ok-len.ensures.asks;
       quiet = c.in_ok-len.ensures.quiet (λ clash. cc) ∙ c.lines.invariant.quiet;
     }
+
+pub lines-init : goal.lines-init
+lines-init g c = record {
+  fields = [];
+  valid = All-nil IsField;
+  count = refl;
+  within = omega arith;
+  taken = sym (before_nil _);
+  asks = asks_nothing (HasNoTrailers 0 the_limits) c.args.intake.now _ _ refl;
+  quiet = refl;
+}
+
+pub returns-in_err-len-clause-asks : goal.returns-in_err-len-clause-asks
+returns-in_err-len-clause-asks g c = asks_line c.lines.invariant.fields c.lines.passed c.args.intake.now c.lines.intake _ _ _ c.lines.invariant.valid c.lines.invariant.count c.lines.invariant.taken c.lines.invariant.asks c.in_err-len.ensures.asks
+
+pub returns-in_err-ended-clause-asks : goal.returns-in_err-ended-clause-asks
+returns-in_err-ended-clause-asks g c = asks_line c.lines.invariant.fields c.lines.passed c.args.intake.now c.lines.intake _ _ _ c.lines.invariant.valid c.lines.invariant.count c.lines.invariant.taken c.lines.invariant.asks c.in_ok-len.ensures.asks
+
+pub returns-then-ended-clause-asks : goal.returns-then-ended-clause-asks
+returns-then-ended-clause-asks g c = asks_line c.lines.invariant.fields c.lines.passed c.args.intake.now c.lines.intake _ _ _ c.lines.invariant.valid c.lines.invariant.count c.lines.invariant.taken c.lines.invariant.asks c.in_ok-len.ensures.asks

@@ -1,13 +1,15 @@
-use Rattle.std.proofs.Common.{inl, Err, ap}
+use Rattle.std.proofs.Common.{inl, Err, ap, subst}
 use Rattle.as4_http.specs.Refused.{MayBecome, Refuses}
 use Rattle.as4_http.specs.Bodies.{HasNoBody, IsBody}
+use Rattle.as4_http.specs.Limits.{Limits, the_limits}
 use Rattle.as4_http.specs.Passed.{PassesBody, PassesRequest}
 use Rattle.as4_http.specs.RequestStarts.{HasNoRequestHead, EndsInRequestHead}
-use Rattle.as4_http.specs.Requests.{HasNoRequestWithin, IsCutRequest}
+use Rattle.as4_http.specs.Requests.{HasNoRequest, HasNoRequestWithin, IsCutRequest}
 use Rattle.as4_http.specs.declared.refusal.HttpRefusal.TheVariants.{Bad, TooLong}
-use Rattle.as4_http.proofs.PassedLemmas.{shows_behind, too_long_exit}
+use Rattle.as4_http.proofs.AskedLemmas.{asks_as}
+use Rattle.as4_http.proofs.PassedLemmas.{refusal_exit, shows_behind, too_long_exit}
 use Rattle.as4_http.proofs.RefusedLemmas.{refused_exit, refuses_as, refuses_behind, refused_told, refused_cut, refused_as}
-use Rattle.as4_http.proofs.RequestLemmas.{no_head, no_body, cut_body, body_passes, request_begins}
+use Rattle.as4_http.proofs.RequestLemmas.{head_decides, request_asks, no_head, no_body, cut_body, body_passes, request_begins}
 use Rattle.as4_http.proofs.intake.Intake.read_kept.Goals as goal
 
 pub returns-in_err-start-clause-only : goal.returns-in_err-start-clause-only
@@ -68,3 +70,21 @@ returns-in_err-body-clause-passed g c =
 pub returns-clause-found : goal.returns-clause-found
 returns-clause-found g c =
     request_begins c.in_ok-start.start c.in_ok-body.body _ _ _ c.in_ok-start.ensures.ok c.in_ok-body.ensures.ok
+
+pub returns-in_err-start-clause-asks : goal.returns-in_err-start-clause-asks
+returns-in_err-start-clause-asks g c =
+    asks_as (HasNoRequestHead the_limits) HasNoRequest c.args.self _ _ (no_head the_limits) c.in_err-start.ensures.asks
+
+pub returns-in_err-body-clause-asks : goal.returns-in_err-body-clause-asks
+returns-in_err-body-clause-asks g c =
+    request_asks c.in_ok-start.start c.args.self c.read_request_head.new.intake _ _ _ c.in_ok-start.ensures.ok c.in_ok-start.ensures.asks c.in_err-body.ensures.asks
+
+pub returns-clause-asks : goal.returns-clause-asks
+returns-clause-asks g c =
+    request_asks c.in_ok-start.start c.args.self c.read_request_head.new.intake _ _ _ c.in_ok-start.ensures.ok c.in_ok-start.ensures.asks c.in_ok-body.ensures.asks
+
+pub returns-in_err-body-clause-bad_head : goal.returns-in_err-body-clause-bad_head
+returns-in_err-body-clause-bad_head g c =
+    let start = c.in_ok-start.start in
+    refusal_exit Bad c.from_residual-in_err-body.result c.in_err-body.field-0.0 c.from_residual-in_err-body.ensures.1
+    (λ is. head_decides (λ bytes. (limits : Limits) → HasNoBody start.framing limits bytes) start _ _ _ c.in_ok-start.ensures.ok (subst (Refuses (HasNoBody start.framing) (MayBecome (IsBody start.framing)) _ _) is c.in_err-body.ensures.refused))

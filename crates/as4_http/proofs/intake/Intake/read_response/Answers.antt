@@ -1,13 +1,15 @@
-use Rattle.std.proofs.Common.{inl, Err, ap}
+use Rattle.std.proofs.Common.{inl, Err, ap, subst}
 use Rattle.as4_http.specs.Refused.{MayBecome, Refuses}
 use Rattle.as4_http.specs.Bodies.{HasNoBody, IsBody}
+use Rattle.as4_http.specs.Limits.{Limits, the_limits}
 use Rattle.as4_http.specs.Passed.{PassesBody, PassesResponse}
 use Rattle.as4_http.specs.ResponseStarts.{HasNoResponseHead, EndsInResponseHead}
-use Rattle.as4_http.specs.Responses.{HasNoResponseWithin, IsCutResponse}
+use Rattle.as4_http.specs.Responses.{HasNoResponse, HasNoResponseWithin, IsCutResponse}
 use Rattle.as4_http.specs.declared.refusal.HttpRefusal.TheVariants.{Bad, TooLong}
-use Rattle.as4_http.proofs.PassedLemmas.{shows_behind, too_long_exit}
+use Rattle.as4_http.proofs.AskedLemmas.{asks_as}
+use Rattle.as4_http.proofs.PassedLemmas.{refusal_exit, shows_behind, too_long_exit}
 use Rattle.as4_http.proofs.RefusedLemmas.{refused_exit, refuses_as, refuses_behind, refused_told, refused_cut, refused_as}
-use Rattle.as4_http.proofs.ResponseLemmas.{no_head, no_body, cut_body, body_passes, response_begins}
+use Rattle.as4_http.proofs.ResponseLemmas.{head_decides, response_asks, no_head, no_body, cut_body, body_passes, response_begins}
 use Rattle.as4_http.proofs.intake.Intake.read_response.Goals as goal
 
 pub returns-in_err-start-clause-only : goal.returns-in_err-start-clause-only
@@ -68,3 +70,21 @@ returns-in_err-body-clause-passed g c =
 pub returns-clause-found : goal.returns-clause-found
 returns-clause-found g c =
     response_begins c.in_ok-start.start c.in_ok-body.body _ _ _ c.in_ok-start.ensures.ok c.in_ok-body.ensures.ok
+
+pub returns-in_err-start-clause-asks : goal.returns-in_err-start-clause-asks
+returns-in_err-start-clause-asks g c =
+    inl (asks_as (HasNoResponseHead the_limits) HasNoResponse c.args.self _ _ (no_head the_limits) c.in_err-start.ensures.asks)
+
+pub returns-in_err-body-clause-asks : goal.returns-in_err-body-clause-asks
+returns-in_err-body-clause-asks g c =
+    response_asks c.in_ok-start.start c.args.self c.read_response_head.new.intake _ _ _ c.in_ok-start.ensures.ok c.in_ok-start.ensures.asks c.in_err-body.ensures.asks
+
+pub returns-clause-asks : goal.returns-clause-asks
+returns-clause-asks g c =
+    response_asks c.in_ok-start.start c.args.self c.read_response_head.new.intake _ _ _ c.in_ok-start.ensures.ok c.in_ok-start.ensures.asks c.in_ok-body.ensures.asks
+
+pub returns-in_err-body-clause-bad_head : goal.returns-in_err-body-clause-bad_head
+returns-in_err-body-clause-bad_head g c =
+    let start = c.in_ok-start.start in
+    refusal_exit Bad c.from_residual-in_err-body.result c.in_err-body.field-0.0 c.from_residual-in_err-body.ensures.1
+    (λ is. head_decides (λ bytes. (limits : Limits) → HasNoBody start.framing limits bytes) start _ _ _ c.in_ok-start.ensures.ok (subst (Refuses (HasNoBody start.framing) (MayBecome (IsBody start.framing)) _ _) is c.in_err-body.ensures.refused))
