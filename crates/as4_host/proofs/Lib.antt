@@ -1,0 +1,4 @@
+pub mod AskedLemmas
+pub mod CountLemmas
+pub mod KnownLemmas
+pub mod RowLemmas

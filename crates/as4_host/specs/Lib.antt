@@ -1,0 +1,10 @@
+pub mod Lists
+pub mod Counts
+pub mod Links
+pub mod Arrivals
+pub mod Files
+pub mod Calls
+pub mod Nodes
+pub mod Rows
+pub mod InMemory
+pub mod HostInMemory

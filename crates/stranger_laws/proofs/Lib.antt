@@ -1,0 +1,14 @@
+mod BroughtLemmas
+mod ClockLemmas
+mod ConfirmLemmas
+mod DeliveryLemmas
+mod FullLemmas
+mod HeadLemmas
+mod OneStep
+mod ReceiptLemmas
+mod RefusalLemmas
+mod ReplyLemmas
+mod SiteLemmas
+mod TakenLemmas
+mod TimelyLemmas
+mod TryLemmas

@@ -1,0 +1,32 @@
+-- Why an endpoint says that its journal is full: this handler's own limit.
+use Rattle.std.specs.Prelude.{◌≡◌, ℕ, ◌+◌, ◌<◌, []}
+use Rattle.std.specs.List.{Contains}
+use Rattle.as4_values.specs.Word.{IsWord}
+use Rattle.as4_values.specs.declared.message.Message.TheVariants as message
+use Rattle.as4_values.specs.declared.signal_body.ErrorItem.{ErrorItem}
+use Rattle.as4_values.specs.declared.signal_body.SignalBody.{SignalBody}
+use Rattle.as4_values.specs.declared.signal_body.SignalBody.TheVariants as body
+use Rattle.as4_values.specs.declared.word.Word.TheVariants.{ErrorCode}
+use Rattle.exchange_model.specs.End.{End}
+use Rattle.exchange_model.specs.Room.{HasRoomForOne}
+use Rattle.exchange_model.specs.Table.{journal_limit}
+use Rattle.exchange_model.specs.declared.outcome.Outcome.{Outcome}
+use Rattle.exchange_model.specs.declared.what.What.{What}
+use Rattle.exchange_model.specs.declared.what.What.TheVariants.{Came}
+
+-- the codes of an error signal are error codes: their type guarantees it, and the value of an event doesn't show it
+abbrev pub AreCodes : SignalBody → Type 0
+AreCodes (body.Errors items) = (item : ErrorItem) → Contains items item → IsWord ErrorCode item.code
+AreCodes other = Unit {0}
+
+abbrev pub HasCodes : What → Type 0
+HasCodes (Came (message.Signal signal)) = AreCodes signal.body
+HasCodes other = Unit {0}
+
+-- an outcome whose reply says that the journal has `reported` bytes and no room for `need` more
+pub record IsOutOfRoom (end : End) (w : What) (outcome : Outcome) (reported need : ℕ) : Type 0 where
+  pub size : reported ≡ end.size
+  pub past : journal_limit < end.size + need
+  pub unchanged : outcome.effects ≡ []
+  -- there isn't room for any effect, whatever `need` is
+  pub no_room : HasCodes w → ¬ HasRoomForOne end
