@@ -11,11 +11,11 @@ use Rattle.as4_disk.specs.declared.change.Change.TheVariants.{Wrote, WasCut, Syn
 use Rattle.as4_disk.specs.Bytes.{IsOverwritten, Torn, IsCut, TornCut}
 use Rattle.as4_disk.specs.ByteLaws.{cut_same}
 use Rattle.as4_disk.specs.Runs.{Goes, Follows, Within, Elapses}
-use Rattle.as4_disk.specs.Image.{Image, same_part, On, IsOnly}
+use Rattle.as4_disk.specs.Image.{Image, same_part, On, IsOnly, KeepsOthers}
 use Rattle.as4_disk.specs.Files.{image_of}
 use Rattle.as4_disk.specs.Changes.{bytes_after, bytes_by, is_sync, LeftBy, LeftByAll, LeftOf, LeftSince}
 use Rattle.as4_disk.specs.Memory.{DiskState, reads, MayLeave, MakesChange, called, changed, failed, halted}
-use Rattle.as4_disk.specs.MemoryLaws.{if_same, if_other, if_either}
+use Rattle.as4_disk.specs.MemoryLaws.{if_same, if_other, if_either, reads_now_of}
 use Rattle.as4_disk.proofs.ImageLemmas.{torn_nothing}
 
 pub bytes_by-push : (q : Part) (changes : List Change) (change : Change) (old : List ℕ) → bytes_by q (changes ++ change ∷ []) old ≡ bytes_after q change (bytes_by q changes old)
@@ -92,6 +92,48 @@ elapses_same first changes = record {
   nothing_else = λ t c le left. inl left;
   keeps = λ t c le left. left;
 }
+
+-- this part of the first image, and the others of the second
+abbrev mixed : Part → Image → Image → Image
+mixed part c d q = if same_part part q then c q else d q
+
+-- what became of a part goes into the mix with it
+on_mixed : (part p : Part) (step : List ℕ → List ℕ → Type 0) (b c d e : Image) → On p step b d → On p step c e → On p step (mixed part b c) (mixed part d e)
+on_mixed part p step b c d e first second = record {
+  there = elim (same_part part p) as (λ (k : Bool). step (if k then b p else c p) (if k then d p else e p)) [ true ↦ first.there | false ↦ second.there ];
+  elsewhere = λ q other. elim (same_part part q) as (λ (k : Bool). (if k then d q else e q) ≡ (if k then b q else c q)) [ true ↦ first.elsewhere q other | false ↦ second.elsewhere q other ];
+}
+
+-- two outcomes can be mixed by parts
+Mixes : Part → (Image → Type 0) → Type 0
+Mixes part outcomes = (c d : Image) → outcomes c → outcomes d → outcomes (mixed part c d)
+
+mixes_by : (part : Part) (change : Change) (read : Image) (outcomes : Image → Type 0) → Mixes part outcomes → Mixes part (LeftBy change read outcomes)
+unfolding Mixes
+mixes_by part (Wrote p at bytes) read outcomes mixes c d (b, left, on) (e, left_too, on_too) =
+    (mixed part b e, mixes b e left left_too, on_mixed part p (Torn at (length bytes)) b e c d on on_too)
+mixes_by part (WasCut p len) read outcomes mixes c d (b, left, on) (e, left_too, on_too) =
+    (mixed part b e, mixes b e left left_too, on_mixed part p (TornCut len) b e c d on on_too)
+mixes_by part (Synced p) read outcomes mixes c d (left, same) (left_too, same_too) = (
+  mixes c d left left_too,
+  elim (same_part part p) as (λ (k : Bool). (if k then c p else d p) ≡ read p) [ true ↦ same | false ↦ same_too ],
+)
+
+mixes_by_all : (part : Part) (changes : List Change) (read : Image) (outcomes : Image → Type 0) → Mixes part outcomes → Mixes part (LeftByAll changes read outcomes)
+unfolding LeftByAll
+mixes_by_all part [] read outcomes mixes = mixes
+mixes_by_all part (change ∷ changes) read outcomes mixes =
+    mixes_by_all part changes (λ q. bytes_after q change (read q)) (LeftBy change read outcomes) (mixes_by part change read outcomes mixes)
+
+mixes_first : (part : Part) (first : Image) → Mixes part (λ d. d ≡ first)
+unfolding Mixes
+mixes_first part first c d is is_too =
+    (λ i q. if same_part part q then is i q else is_too i q) ∙ (λ i q. if_either (same_part part q) (first q) i)
+
+-- a crash may leave this part of one image and the others of another
+left_mixed : (disk : DiskState) (part : Part) (c d : Image) → MayLeave disk c → MayLeave disk d → MayLeave disk (mixed part c d)
+unfolding LeftOf Mixes
+left_mixed disk part = mixes_by_all part disk.changes (image_of disk.first) (λ d. d ≡ image_of disk.first) (mixes_first part (image_of disk.first))
 
 -- no change was made
 abbrev pub Kept : DiskState → DiskState → Type 0
@@ -190,3 +232,16 @@ module _ (part : Part) (old new : DiskState) where
   synced_durable grew b told c left =
       let is_old : reads old ≡ b = cc in
       (grew_left (Synced part) old new grew c left).1 ∙ ap (λ (image : Image). image part) is_old
+
+  -- the others may be left as they might have been, with this part as it reads
+  pub synced_others : Kept old new ⊎ Grew (Synced part) old new → KeepsOthers part (MayLeave old) (MayLeave new)
+  synced_others (inl kept) before left =
+      (before, along (λ first changes. LeftOf first changes before) _ _ _ _ kept.0 kept.1 left, λ q other. refl)
+  synced_others (inr grew) before left =
+      let now = mixed part (reads old) before in
+      let may : MayLeave old now = left_mixed old part (reads old) before (reads_now_of old (reads old) refl) left in
+      let added = left_by_change old (Synced part) now (may, if_same part _ _) in (
+        now,
+        along (λ first changes. LeftOf first changes now) _ _ _ _ grew.0 grew.1 added,
+        λ q other. if_other part q other _ _,
+      )

@@ -23,6 +23,11 @@ pub record On (part : Part) (step : List ℕ → List ℕ → Type 0) (old new :
 abbrev pub IsOnly : Part → Image → (Image → Type 0) → Type 0
 IsOnly part image outcomes = (c : Image) → outcomes c → c part ≡ image part
 
+-- each outcome before is one now, but for the bytes of this part: what a crash may leave of the others is as it was
+abbrev pub KeepsOthers : Part → (Image → Type 0) → (Image → Type 0) → Type 0
+KeepsOthers part old new = (before : Image) → old before
+    → (now : Image) × new now × ((q : Part) → q ≢ part → now q ≡ before q)
+
 -- an outcome, after a write of n bytes to this part that a crash may have cut short
 abbrev pub TornFrom : Part → ℕ → ℕ → (Image → Type 0) → Image → Type 0
 TornFrom part at n outcomes c = (d : Image) × outcomes d × On part (Torn at n) d c

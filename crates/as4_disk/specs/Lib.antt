@@ -1,6 +1,7 @@
 pub mod Bytes
 pub mod ByteLaws
 pub mod Runs
+pub mod Leaving
 pub mod Faults
 pub mod Image
 pub mod Files
@@ -8,4 +9,5 @@ pub mod Changes
 pub mod Picks
 pub mod Memory
 pub mod MemoryLaws
+pub mod MemoryMeaning
 pub mod FileState

@@ -1,8 +1,8 @@
--- What a device call does to the images of a crash, and what a run of calls does, for any type of image. A disk has a
--- moment, and for each moment the images that a crash might have left from it on.
+-- What a device call does to the images of a crash, for any type of image. A disk has a moment, and for each moment the
+-- images that a crash might have left from it on.
 use Rattle.std.specs.Prelude.{◌≡◌, ◌⊎◌, ℕ, ◌≤◌, Bool, true, false, List, [], ◌∷◌, Option, Some}
 
--- where both are told, the step leads from one to the other
+-- where both are observable, the step leads from one to the other
 abbrev pub Goes : {X : Type 0} → (X → X → Type 0) → Option X → Option X → Type 0
 Goes {X} step old new = (v w : X) → old ≡ Some v → new ≡ Some w → step v w
 
@@ -19,24 +19,6 @@ pub record Elapses {X : Type 0} (before now : ℕ) (past since : ℕ → X → T
   pub later : before ≤ now
   pub nothing_else : (t : ℕ) (c : X) → t ≤ before → since t c → past t c ⊎ may_leave c
   pub keeps : (t : ℕ) (c : X) → t ≤ before → past t c → since t c
-
--- a crash at any moment from old to new leaves an image that has P
-pub record LeavesOnly {D X : Type 0} (moment : D → ℕ) (left_since : D → ℕ → X → Type 0) (old new : D) (P : X → Type 0) : Type 0 where
-  pub later : moment old ≤ moment new
-  pub each : (c : X) → left_since new (moment old) c → P c
-  -- for a run that began earlier
-  pub before : (t : ℕ) (c : X) → t ≤ moment old → left_since new t c → left_since old t c ⊎ P c
-
--- from old to new only what has P; or up to some state between only that, and from there on only what has Q
-abbrev pub FirstThen : {D X : Type 0} → (D → ℕ) → (D → ℕ → X → Type 0) → D → D → (X → Type 0) → (X → Type 0) → Type 0
-FirstThen {D} {X} moment left_since old new P Q = LeavesOnly moment left_since old new P
-    ⊎ ((between : D) × LeavesOnly moment left_since old between P × LeavesOnly moment left_since between new Q)
-
--- nothing was written: the disk reads as before, and a crash at any moment leaves an image that it might have left before
-pub record Quiet {D X : Type 0} (moment : D → ℕ) (left_since : D → ℕ → X → Type 0) (seen : D → Option X) (may_leave : D → X → Type 0) (old new : D) : Type 0 where
-  pub same : seen new ≡ seen old
-  pub within : Within (may_leave old) (may_leave new)
-  pub run : LeavesOnly moment left_since old new (may_leave old)
 
 -- the calls of these changes were made, one after another, up to the first that failed, and whether none did
 abbrev pub MakesAll : {D C : Type 0} → (C → D → D → Bool → Type 0) → List C → D → D → Bool → Type 0

@@ -12,7 +12,7 @@ ghost use Rattle.as4_flow.specs.Flow.{Told};
 ghost use Rattle.as4_disk.specs.Bytes.{IsOverwritten, Torn, IsCut, TornCut};
 ghost use Rattle.as4_disk.specs.Faults.{HasCause};
 ghost use Rattle.as4_disk.specs.Runs.{Goes, Follows, Within, Elapses};
-ghost use Rattle.as4_disk.specs.Image.{Image, On, IsOnly};
+ghost use Rattle.as4_disk.specs.Image.{Image, On, IsOnly, KeepsOthers};
 ghost use Rattle.as4_disk.specs.declared.change.Change.{Change};
 ghost use Rattle.as4_disk.specs.declared.change.Change.TheVariants.{Wrote, WasCut, Synced};
 
@@ -23,7 +23,7 @@ use crate::Part;
 pub struct DiskFailed;
 
 pub trait Disk {
-    /// The bytes that a read gives, where the disk tells them.
+    /// The bytes that a read gives, where the disk's content is observable.
     ghost seen: { Self → Option Image };
 
     /// What a crash at this moment may leave.
@@ -87,11 +87,12 @@ pub trait Disk {
         ensures cause { HasCause (fault_count self.old) (fault_count self.new) result };
 
     /// Where it answers Ok, each crash from now on leaves of this part what a read gives. Where it fails, nothing is
-    /// settled.
+    /// settled. What a crash may leave of the other parts stays as it was.
     fn sync(&mut self, part: Part) -> Result<(), DiskFailed>
         ensures durable { OnOk result (Told (seen self.old) (λ b. IsOnly part b (may_leave self.new))) }
         ensures seen { seen self.new ≡ seen self.old }
         ensures crash { Within (may_leave self.old) (may_leave self.new) }
+        ensures others { KeepsOthers part (may_leave self.old) (may_leave self.new) }
         ensures makes { makes (Synced part) self.old self.new (is_ok result) }
         ensures time { Elapses (moment self.old) (moment self.new)
             (left_since self.old) (left_since self.new) (may_leave self.new) }

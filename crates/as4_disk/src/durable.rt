@@ -1,9 +1,9 @@
 //! A write that is durable once it has answered.
-ghost use Rattle.std.specs.Prelude.{◌≡◌, ◌≤◌, [], ◌∷◌, length, is_ok, is_some, OnOk};
+ghost use Rattle.std.specs.Prelude.{◌≡◌, ◌≤◌, [], ◌∷◌, length, is_ok, OnOk};
 ghost use Rattle.as4_flow.specs.Flow.{Told};
 ghost use Rattle.as4_disk.specs.Bytes.{IsOverwritten, Torn};
-ghost use Rattle.as4_disk.specs.Faults.{HasCause};
-ghost use Rattle.as4_disk.specs.Runs.{Goes, Follows, LeavesOnly, MakesAll};
+ghost use Rattle.as4_disk.specs.Leaving.{Counts, LeavesOnly};
+ghost use Rattle.as4_disk.specs.Runs.{Goes, Follows, MakesAll};
 ghost use Rattle.as4_disk.specs.Image.{On, IsOnly, TornFrom};
 ghost use Rattle.as4_disk.specs.declared.change.Change.TheVariants.{Synced, Wrote};
 
@@ -22,12 +22,11 @@ pub fn write_durably<D: Disk>(
         (Goes (On part (IsOverwritten at bytes.now)) (D.seen disk.old) (D.seen disk.new)) }
     ensures durable { OnOk result (Told (D.seen disk.new) (λ b. IsOnly part b (D.may_leave disk.new))) }
     ensures calls { MakesAll D.makes (Wrote part at bytes.now ∷ Synced part ∷ []) disk.old disk.new (is_ok result) }
-    ensures tells { is_some (D.seen disk.new) ≡ is_some (D.seen disk.old) }
 
-    ensures any_moment { LeavesOnly D.moment D.left_since disk.old disk.new
+    ensures any_moment { LeavesOnly D.Disk disk.old disk.new
         (TornFrom part at (length bytes.now) (D.may_leave disk.old)) }
     ensures crash { Follows (On part (Torn at (length bytes.now))) (D.may_leave disk.old) (D.may_leave disk.new) }
-    ensures cause { HasCause (D.fault_count disk.old) (D.fault_count disk.new) result }
+    ensures counts { Counts D.Disk disk.old disk.new result }
 {
     disk.write_at(part, at, bytes)?;
     disk.sync(part)

@@ -1,14 +1,13 @@
-//! A disk on three files of the system. It tells nothing of content; what it keeps is a count of the faults.
-ghost use Rattle.std.specs.Prelude.{◌≡◌, None, true, false, if◌then◌else◌, is_ok, IfOk, IsErr, OnErr, OnOk};
+//! A disk on three files of the system. Its content isn't observable. It keeps a count of the faults, whether a sync
+//! failed, and of each file whether its folder is still to be synced.
+ghost use Rattle.std.specs.Prelude.{◌≡◌, ◌≢◌, None, true, false, if◌then◌else◌, is_ok, is_some, IfOk, IsErr, OnErr, OnOk};
 ghost use Rattle.as4_flow.specs.Flow.{one_more};
 ghost use Rattle.as4_disk.specs.Faults.{HasCause};
 
+use crate::system::{OpenFiles, SystemFile};
 use crate::{Disk, DiskFailed, Part};
-use std::fs::{File, OpenOptions};
+use std::io;
 use std::io::ErrorKind;
-use std::os::unix::fs::FileExt;
-use std::path::Path;
-use std::{fs, io};
 
 /// The names of the files of a disk.
 #[derive(Clone, Copy)]
@@ -20,23 +19,24 @@ pub struct Paths<'a> {
 
 /// A disk on three files, each locked while it is open.
 #[derive(Drop)]
-pub struct FileDisk {
-    selector: PartFile,
-    leaf0: PartFile,
-    leaf1: PartFile,
+pub struct FileDisk<F> {
+    selector: PartFile<F>,
+    leaf0: PartFile<F>,
+    leaf1: PartFile<F>,
     // A sync has failed: what the system still keeps of the writes before it isn't known.
     is_lost: bool,
     faults: u64,
 }
 
-impl FileDisk {
-    ghost use Rattle.as4_disk.specs.FileState.{file_faults, is_lost};
+impl<F: SystemFile + Drop> FileDisk<F> {
+    ghost use Rattle.as4_disk.specs.FileState.{file_faults, is_lost, owes_folder};
 
     /// Opens the three files, and makes those that aren't there. A file that another open holds locked is refused with
     /// `ErrorKind::WouldBlock`.
-    pub fn open<R: fs::Files<File = File>>(system: &R, paths: Paths<'_>) -> io::Result<FileDisk>
+    pub fn open<S: OpenFiles<F>>(system: &S, paths: Paths<'_>) -> io::Result<FileDisk<F>>
         ensures faults { IfOk result (λ disk. file_faults disk ≡ 0) }
         ensures found { IfOk result (λ disk. is_lost disk ≡ false) }
+        ensures folders { IfOk result (λ disk. (q : _) → owes_folder disk q ≡ true) }
     {
         let leaf0 = PartFile::open(system, paths.leaf0)?;
         let leaf1 = PartFile::open(system, paths.leaf1)?;
@@ -50,7 +50,7 @@ impl FileDisk {
         })
     }
 
-    fn part(&self, part: Part) -> io::Result<&PartFile>
+    fn part(&self, part: Part) -> io::Result<&PartFile<F>>
         ensures { is_lost self.now ≡ true → IsErr result }
     {
         if self.is_lost {
@@ -66,13 +66,13 @@ impl FileDisk {
     fn len_of(&self, part: Part) -> io::Result<u64>
         ensures { is_lost self.now ≡ true → IsErr result }
     {
-        self.part(part)?.len()
+        self.part(part)?.file.length()
     }
 
     fn read_of(&self, part: Part, at: u64, room: &mut [u8]) -> io::Result<()>
         ensures { is_lost self.now ≡ true → IsErr result }
     {
-        self.part(part)?.file.read_exact_at(room, at)
+        self.part(part)?.file.read_from(at, room)
     }
 
     fn write_of(&self, part: Part, at: u64, bytes: &[u8]) -> io::Result<()>
@@ -89,6 +89,8 @@ impl FileDisk {
 
     fn sync_of(&mut self, part: Part) -> io::Result<()>
         ensures faults { file_faults self.new ≡ file_faults self.old }
+        ensures folder { OnOk result (owes_folder self.new part ≡ false) }
+        ensures others { (q : _) → q ≢ part → owes_folder self.new q ≡ owes_folder self.old q }
         ensures lost { is_lost self.old ≡ true → IsErr result }
         ensures loses { OnErr result (is_lost self.new ≡ true) }
         ensures kept { OnOk result (is_lost self.new ≡ is_lost self.old) }
@@ -111,6 +113,7 @@ impl FileDisk {
             (if is_ok result then file_faults self.old else one_more (file_faults self.old)) }
         ensures cause { HasCause (file_faults self.old) (file_faults self.new) result }
         ensures lost { is_lost self.new ≡ is_lost self.old }
+        ensures folders { (q : _) → owes_folder self.new q ≡ owes_folder self.old q }
         ensures variant { is_ok result ≡ is_ok answer }
     {
         match answer {
@@ -125,48 +128,43 @@ impl FileDisk {
 
 // One file.
 #[derive(Drop)]
-struct PartFile {
-    file: File,
-    // The folder that it stands in, until that was synced too.
-    folder: Option<File>,
+struct PartFile<F> {
+    file: F,
+    // The folder that it is in, until that was synced too.
+    folder: Option<F>,
 }
 
-impl PartFile {
-    fn open<R: fs::Files<File = File>>(system: &R, path: &str) -> io::Result<PartFile> {
-        let file = OpenOptions::new()
-            .read(true)
-            .write(true)
-            .create(true)
-            .open(system, path)?;
-        file.try_lock()?;
-        let folder = folder_of(system, path)?;
+impl<F: SystemFile + Drop> PartFile<F> {
+    fn open<S: OpenFiles<F>>(system: &S, path: &str) -> io::Result<PartFile<F>>
+        ensures { IfOk result (λ file. is_some file.folder ≡ true) }
+    {
+        let file = system.open_file(path)?;
+        let folder = system.open_folder_of(path)?;
         Ok(PartFile {
             file,
             folder: Some(folder),
         })
     }
 
-    fn len(&self) -> io::Result<u64> {
-        Ok(self.file.metadata()?.len())
-    }
-
     fn write_at(&self, at: u64, bytes: &[u8]) -> io::Result<()> {
-        if self.len()? < at {
+        if self.file.length()? < at {
             return Err(ErrorKind::InvalidInput.into());
         }
-        self.file.write_all_at(bytes, at)
+        self.file.write_to(at, bytes)
     }
 
     fn cut(&self, len: u64) -> io::Result<()> {
-        if self.len()? < len {
+        if self.file.length()? < len {
             return Err(ErrorKind::InvalidInput.into());
         }
-        self.file.set_len(len)
+        self.file.cut_to(len)
     }
 
     // The first sync includes the entry in the folder, where the system syncs folders.
-    fn sync(&mut self) -> io::Result<()> {
-        self.file.sync_all()?;
+    fn sync(&mut self) -> io::Result<()>
+        ensures { OnOk result (is_some self.new.folder ≡ false) }
+    {
+        self.file.sync()?;
         if let Some(folder) = &self.folder {
             sync_folder(folder)?;
             self.folder = None;
@@ -175,23 +173,15 @@ impl PartFile {
     }
 }
 
-// The folder that the path stands in.
-fn folder_of<R: fs::Files<File = File>>(system: &R, path: &str) -> io::Result<File> {
-    match Path::new(path).parent() {
-        Some(folder) if !folder.as_str().is_empty() => File::open(system, folder),
-        _ => File::open(system, "."),
-    }
-}
-
-fn sync_folder(folder: &File) -> io::Result<()> {
-    match folder.sync_all() {
+fn sync_folder<F: SystemFile>(folder: &F) -> io::Result<()> {
+    match folder.sync() {
         Err(error) if error.kind() != ErrorKind::InvalidInput => Err(error),
         _ => Ok(()),
     }
 }
 
-impl Disk for FileDisk {
-    ghost use Rattle.as4_disk.specs.FileState.{file_faults, is_lost};
+impl<F: SystemFile + Drop> Disk for FileDisk<F> {
+    ghost use Rattle.as4_disk.specs.FileState.{file_faults, is_lost, owes_folder};
 
     ghost seen = { λ _. None };
 
@@ -262,6 +252,8 @@ impl Disk for FileDisk {
         ensures lost { is_lost self.old ≡ true → IsErr result }
         ensures loses { OnErr result (is_lost self.new ≡ true) }
         ensures kept { OnOk result (is_lost self.new ≡ is_lost self.old) }
+        ensures folder { OnOk result (owes_folder self.new part ≡ false) }
+        ensures others { (q : _) → q ≢ part → owes_folder self.new q ≡ owes_folder self.old q }
     {
         let answer = self.sync_of(part);
         self.counted(answer)

@@ -1,4 +1,4 @@
-//! A disk in memory that tells everything, and fails and stops where it is told to.
+//! A disk in memory. All of it is observable, and it fails and stops at the calls that a test names.
 //!
 //! It keeps what it had at first and each change since, so that all its images can be named; of what it reads it has
 //! one copy, which is written in place.
@@ -7,7 +7,7 @@ ghost use Rattle.as4_flow.specs.Flow.{Told};
 ghost use Rattle.as4_disk.specs.Bytes.{IsOverwritten, Torn, IsCut, TornCut};
 ghost use Rattle.as4_disk.specs.Faults.{HasCause};
 ghost use Rattle.as4_disk.specs.Runs.{Goes, Follows, Within, Elapses, MakesAll};
-ghost use Rattle.as4_disk.specs.Image.{Image, On, IsOnly};
+ghost use Rattle.as4_disk.specs.Image.{Image, On, IsOnly, KeepsOthers};
 ghost use Rattle.as4_disk.specs.Files.{image_of};
 ghost use Rattle.as4_disk.specs.Changes.{LeftSince};
 ghost use Rattle.as4_disk.specs.Memory.{DiskState, new_disk, reads, MayLeave, picked, turn_of, called, changed, failed, starved, Answers, MakesChange, stopped_at};
@@ -93,7 +93,7 @@ impl MemoryDisk {
         self.stop = Some(call);
     }
 
-    /// Whether a device call has failed for want of memory.
+    /// Whether a device call has failed because memory ran out.
     pub fn ran_out(&self) -> bool
         ensures { result ≡ self.now.ran_out }
     {
@@ -371,6 +371,7 @@ impl Disk for MemoryDisk {
         ensures durable { OnOk result (Told (Some (reads self.old)) (λ b. IsOnly part b (MayLeave self.new))) }
         ensures seen { Some (reads self.new) ≡ Some (reads self.old) }
         ensures crash { Within (MayLeave self.old) (MayLeave self.new) }
+        ensures others { KeepsOthers part (MayLeave self.old) (MayLeave self.new) }
         ensures time { Elapses (length self.old.changes) (length self.new.changes)
             (LeftSince self.old.first self.old.changes) (LeftSince self.new.first self.new.changes)
             (MayLeave self.new) }

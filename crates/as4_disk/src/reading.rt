@@ -2,7 +2,7 @@
 ghost use Rattle.std.specs.Prelude.{◌≡◌, ◌+◌, ◌<◌, ◌≤◌, length, take, drop, IfOk, IfSome, IfNone};
 ghost use Rattle.as4_flow.specs.Flow.{Told};
 ghost use Rattle.as4_disk.specs.Faults.{HasReadCause};
-ghost use Rattle.as4_disk.specs.Runs.{Quiet};
+ghost use Rattle.as4_disk.specs.Leaving.{Quiet};
 
 use crate::{Disk, DiskFailed, Part};
 use std::alloc::{AllocError, Global};
@@ -49,7 +49,7 @@ pub fn read_some<D: Disk>(
     ensures none { IfOk result (λ found. IfNone found (Told (D.seen disk.old) (λ b. length (b part) < at + count))) }
     ensures len { IfOk result (λ found. IfSome found (λ bytes. length bytes.items ≡ count)) }
 
-    ensures quiet { Quiet D.moment D.left_since D.seen D.may_leave disk.old disk.new }
+    ensures quiet { Quiet D.Disk disk.old disk.new }
     ensures cause { HasReadCause (D.fault_count disk.old) (D.fault_count disk.new) result }
 {
     let len = disk.len(part)?;

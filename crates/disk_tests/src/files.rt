@@ -1,5 +1,6 @@
 //! A disk on the system's files, once from end to end.
 use as4_disk::{Disk, FileDisk, Part, Paths};
+use std::fs::File;
 use std::io::ErrorKind;
 use std::test::Fail;
 use std::{fs, io};
@@ -13,7 +14,7 @@ const PATHS: Paths<'static> = Paths {
 };
 
 /// How many of these calls answer as told.
-fn told_calls(disk: &mut FileDisk) -> usize {
+fn told_calls(disk: &mut FileDisk<File>) -> usize {
     let mut room = [0; 4];
     let answers = [
         disk.len(Part::Leaf0) == Ok(0),

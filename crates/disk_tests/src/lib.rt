@@ -8,4 +8,6 @@ mod files;
 #[cfg(test)]
 mod images;
 #[cfg(test)]
+mod noted;
+#[cfg(test)]
 mod steps;

@@ -4,6 +4,7 @@ use Rattle.std.specs.Prelude.{is_some}
 use Rattle.std.proofs.lemmas.Bool.{leb-true, leb-false}
 use Rattle.as4_disk.specs.Image.{Image}
 use Rattle.as4_disk.specs.Memory.{DiskState, MakesChange, MayLeave, picked, reads}
+use Rattle.as4_disk.specs.MemoryMeaning.{memory_meaning}
 use Rattle.as4_disk.specs.Runs.{MakesAll}
 use Rattle.as4_disk.specs.declared.change.Pick.{Pick}
 use Rattle.as4_disk.specs.declared.change.Pick.TheVariants.{Old, New, Other}
@@ -23,9 +24,6 @@ use Rattle.exchange_model.specs.Table.{Step}
 use Rattle.exchange_model.specs.declared.event.Event.{Event}
 use Rattle.office.specs.Recording.{IsRecorded, Writes}
 use Rattle.office.specs.State.{OfficeState}
-
-abbrev pub seen : DiskState → Option Image
-seen disk = Some (reads disk)
 
 -- the laws of these disks
 
@@ -61,7 +59,7 @@ opens_of law image end P opens current = record {
 }
 
 -- an end that a disk keeps is that of each image
-pub kept_of : ReadsWhole → LeavesPicks → (disk : DiskState) (end : End) → KeepsEnd seen MayLeave disk end → (pick : Pick) → IsOf end (picked pick disk)
+pub kept_of : ReadsWhole → LeavesPicks → (disk : DiskState) (end : End) → KeepsEnd memory_meaning disk end → (pick : Pick) → IsOf end (picked pick disk)
 kept_of law leaves disk end kept pick =
     let at = kept (reads disk) refl (picked pick disk) (leaves disk (λ _. pick)) in
     opens_of law (picked pick disk) end _ at.0 at.1
@@ -82,7 +80,7 @@ empty_of image empty =
 
 -- where a record was put on a disk that stops there
 
-module _ (law : ReadsWhole) (stopped : StoppedStands) (old new : DiskState) (end next : End) (ok : Bool) (call : ℕ) (writes : Writes seen MayLeave MakesChange old new end next ok) (sound : old.failing ≡ []) (stops : old.stop ≡ Some call) (some : 1 ≤ call) (few : call ≤ 4) where
+module _ (law : ReadsWhole) (stopped : StoppedStands) (old new : DiskState) (end next : End) (ok : Bool) (call : ℕ) (writes : Writes memory_meaning old new end next ok) (sound : old.failing ≡ []) (stops : old.stop ≡ Some call) (some : 1 ≤ call) (few : call ≤ 4) where
   of_pick : (pick : Pick) → (ok ≡ false) × (new.ran_out ≡ false
       → (3 ≤ call → pick ≡ New → IsAt (picked pick new) next)
       × ((call < 3) ⊎ (pick ≢ New)
@@ -116,19 +114,19 @@ either_way false end next same = refl
 
 -- a step that was replied to had nothing to write
 pub replied_disk : ReadsWhole → LeavesPicks → StoppedStands → (old new : DiskState) (end : End) (outcome : Outcome) (call : ℕ)
-    → IsRecorded seen MayLeave MakesChange old new end outcome true → KeepsEnd seen MayLeave new (applied outcome.effects end)
+    → IsRecorded memory_meaning old new end outcome true → KeepsEnd memory_meaning new (applied outcome.effects end)
     → old.failing ≡ [] → old.stop ≡ Some call → 1 ≤ call → call ≤ 4 → IsStoppedDisk call end outcome new
 replied_disk law leaves stopped old new end outcome call (inl rests) kept sound stops some few = λ pick.
     let same : applied outcome.effects end ≡ end = nothing_applied outcome.effects end rests.0 in
     subst (λ (e : End). IsOf e (picked pick new)) (sym (either_way (stands call pick) end (applied outcome.effects end) same))
-    (kept_of law leaves new end (subst (KeepsEnd seen MayLeave new) same kept) pick)
+    (kept_of law leaves new end (subst (KeepsEnd memory_meaning new) same kept) pick)
 replied_disk law leaves stopped old new end outcome call (inr writes) kept sound stops some few =
     let never : true ≡ false = failed law stopped old new end (applied outcome.effects end) true call writes.1 sound stops some few in
     absurd cc
 
 -- a step that the disk stopped stands or doesn't
 pub stopped_step : ReadsWhole → StoppedStands → (old new : DiskState) (end : End) (outcome : Outcome) (call : ℕ)
-    → IsRecorded seen MayLeave MakesChange old new end outcome false → new.ran_out ≡ false
+    → IsRecorded memory_meaning old new end outcome false → new.ran_out ≡ false
     → old.failing ≡ [] → old.stop ≡ Some call → 1 ≤ call → call ≤ 4 → IsStoppedDisk call end outcome new
 stopped_step law stopped old new end outcome call (inl rests) whole sound stops some few = absurd (cc rests.2)
 stopped_step law stopped old new end outcome call (inr writes) whole sound stops some few =

@@ -10,11 +10,11 @@ use Rattle.drill.specs.Next.{HoldsNoLine}
 use Rattle.drill.specs.Running.{SoFar}
 use Rattle.drill.specs.Transcript.{DrillState, Plays, PlaysAll, doing_of, new_state, script_text, end_lines, is_right, is_too_many, is_placed, lines_limit}
 use Rattle.drill.specs.declared.script.DrillEnd.TheVariants as ends
-use Rattle.drill_script.specs.Lacking.{parted}
+use Rattle.byte_forms.specs.Parted.{parted}
 use Rattle.drill_script.specs.LineText.{line_text, is_line, line_limit}
 use Rattle.drill_script.specs.Lines.{ahead_limit}
 use Rattle.drill_script.specs.declared.line.Line.{Line}
-use Rattle.drill_script.proofs.LackingLemmas.{one_cut}
+use Rattle.byte_forms.proofs.PartedLemmas.{one_cut}
 use Rattle.drill_script.proofs.OneLineLemmas.{one_line}
 use Rattle.drill.proofs.UnbrokenLemmas.{line_unbroken}
 use Rattle.exchange_model.specs.DeliveredOnce.{HasDeliveredOnce}

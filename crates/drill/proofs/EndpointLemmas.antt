@@ -5,7 +5,7 @@ use Rattle.std.specs.List.{Contains}
 use Rattle.std.proofs.lemmas.List.Elements.{All-append, Contains-get_or}
 use Rattle.std.proofs.lemmas.Bool.{ltb-true}
 use Rattle.as4_values.specs.declared.message.Message.{Message}
-use Rattle.as4_values.specs.declared.mode.Mode.{Mode}
+use Rattle.mode_values.specs.declared.mode.Mode.{Mode}
 use Rattle.as4_disk.specs.Memory.{DiskState}
 use Rattle.as4_disk.specs.Image.{Image}
 use Rattle.drill.specs.Disks.{IsOf}

@@ -10,7 +10,7 @@ use Rattle.std.proofs.lemmas.List.{get_or_append_left}
 use Rattle.std.proofs.lemmas.List.Elements.{All-append}
 use Rattle.std.proofs.lemmas.Slice.Eq.{bytes_eq-Decides}
 use Rattle.as4_values.specs.PlainTexts.{IsPlainText}
-use Rattle.as4_values.specs.declared.mode.Mode.{Mode}
+use Rattle.mode_values.specs.declared.mode.Mode.{Mode}
 use Rattle.drill_script.specs.LineText.{is_name}
 use Rattle.drill_script.specs.declared.line.Way.{Way}
 use Rattle.drill_texts.specs.Modes.{AreDrillModes, IsDrillMode, IsSomeDrillMode}

@@ -2,12 +2,12 @@
 use Rattle.std.proofs.Common.{◌≡◌, ◌≢◌, ℕ, ◌+◌, ◌<◌, ◌≤◌, List, ◌∷◌, ◌++◌, length, take, Option, None, Some, IsTrue, sym, ◌∙◌, ap, subst, arith, append_assoc, length-append}
 use Rattle.as4_flow.specs.Flow.{Told, before}
 use Rattle.drill.specs.Next.{HoldsNoLine}
-use Rattle.drill_script.specs.Lacking.{Lacks, parted}
+use Rattle.byte_forms.specs.Parted.{Lacks, parted}
 use Rattle.drill_script.specs.Lines.{BeginsLong}
 use Rattle.drill_script.specs.LineText.{line_text, is_line, line_limit}
 use Rattle.drill_script.specs.declared.line.Line.{Line}
 use Rattle.drill_script.proofs.FrontLemmas.{lacking_front}
-use Rattle.drill_script.proofs.LackingLemmas.{Lacks_unparted, one_cut}
+use Rattle.byte_forms.proofs.PartedLemmas.{Lacks_unparted, one_cut}
 use Rattle.drill.proofs.UnbrokenLemmas.{line_unbroken}
 
 -- bytes without an LF hold no line

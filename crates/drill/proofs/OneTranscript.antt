@@ -4,11 +4,11 @@ use Rattle.std.specs.Prelude.{IsTrue}
 use Rattle.std.proofs.Props.{props}
 use Rattle.as4_effects.proofs.PartLemmas.{side_told}
 use Rattle.as4_effects.specs.Parts.{side_parts}
-use Rattle.as4_values.specs.ModeRanges.{is_mode_name, is_short, is_short_side, is_short_service, is_mode_agreement, is_mode_route, may_collect, IsRetries, IsPeriod}
+use Rattle.mode_values.specs.ModeRanges.{is_mode_name, is_short, is_short_side, is_short_service, is_mode_agreement, is_mode_route, may_collect, IsRetries, IsPeriod}
 use Rattle.as4_values.specs.declared.header.Agreement.{Agreement}
 use Rattle.as4_values.specs.declared.header.Service.{Service}
 use Rattle.as4_values.specs.declared.header.Side.{Side}
-use Rattle.as4_values.specs.declared.mode.Mode.{Mode}
+use Rattle.mode_values.specs.declared.mode.Mode.{Mode}
 use Rattle.as4_values.specs.declared.moment.TheConstants.{MAX_MOMENT}
 use Rattle.as4_values.specs.declared.route.Route.{Route}
 use Rattle.as4_disk.specs.declared.change.Pick.{Pick}

@@ -6,7 +6,7 @@ use Rattle.std.specs.Str.{bytes_eq}
 use Rattle.std.specs.Option.{unwrap_or}
 use Rattle.std.proofs.lemmas.Bool.{and_from, and_parts, le-leb, leb-true, lt-ltb}
 use Rattle.as4_disk.specs.declared.change.Pick.{Pick}
-use Rattle.as4_values.specs.declared.mode.Mode.{Mode}
+use Rattle.mode_values.specs.declared.mode.Mode.{Mode}
 use Rattle.drill.specs.Events.{Asked, Doing, Sets, Does, Stops, Reopens, Folds, Says, site_of}
 use Rattle.drill.specs.Endpoints.{EndpointState, FoldsTo, IsStoppedAt, MatchFold, Meets}
 use Rattle.drill.specs.States.{IsAtEnd, Performs, endpoint_at, world_with}

@@ -10,7 +10,8 @@ use Rattle.std.proofs.lemmas.Fmt.{decimal_is_IsNumeral}
 use Rattle.as4_disk.specs.declared.change.Pick.{Pick}
 use Rattle.as4_disk.specs.declared.change.Pick.TheVariants as pick
 use Rattle.byte_forms.specs.Digits.{hex_digit}
-use Rattle.drill_script.specs.Lacking.{Lacks, spaced}
+use Rattle.drill_script.specs.Lacking.{spaced}
+use Rattle.byte_forms.specs.Parted.{Lacks}
 use Rattle.drill_script.specs.LineText.{line_text, is_line, is_drill_byte, is_name, is_load, is_stoppable, end_text, way_text, pick_text, load_text, hex_text, stoppable_text}
 use Rattle.drill_script.specs.declared.line.EndName.{EndName}
 use Rattle.drill_script.specs.declared.line.EndName.TheVariants.{A, B}
@@ -22,7 +23,7 @@ use Rattle.drill_script.specs.declared.line.Stoppable.{Stoppable}
 use Rattle.drill_script.specs.declared.line.Stoppable.TheVariants as run
 use Rattle.drill_script.specs.declared.line.Way.{Way}
 use Rattle.drill_script.specs.declared.line.Way.TheVariants.{Push, Pull}
-use Rattle.drill_script.proofs.LackingLemmas.{Lacks_none, Lacks_more, Lacks_append, Lacks_tested}
+use Rattle.byte_forms.proofs.PartedLemmas.{Lacks_none, Lacks_more, Lacks_append, Lacks_tested}
 use Rattle.drill_script.proofs.LineLemmas.{stop_tail}
 
 -- words parted by a space

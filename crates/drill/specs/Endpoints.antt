@@ -2,7 +2,7 @@
 use Rattle.std.specs.Prelude.{◌≡◌, ◌⊎◌, ℕ, ◌<◌, ◌≤◌, List, Bool, true, IsTrue, if◌then◌else◌, length}
 use Rattle.std.specs.List.{All}
 use Rattle.as4_values.specs.declared.message.Message.{Message}
-use Rattle.as4_values.specs.declared.mode.Mode.{Mode}
+use Rattle.mode_values.specs.declared.mode.Mode.{Mode}
 use Rattle.drill_script.specs.declared.line.EndName.{EndName}
 use Rattle.drill_texts.specs.Texts.{said_line, reply_text}
 use Rattle.exchange_model.specs.Coming.{may_come}

@@ -1,6 +1,6 @@
 -- What the state of a drill keeps, and what becomes of what a line does.
 use Rattle.std.specs.Prelude.{◌≡◌, ℕ, ◌≤◌, List, Bool, true, false, Ok, Err, None, Option, Result, Some}
-use Rattle.as4_values.specs.declared.mode.Mode.{Mode}
+use Rattle.mode_values.specs.declared.mode.Mode.{Mode}
 use Rattle.drill.specs.Events.{Doing, stopped}
 use Rattle.drill.specs.Endpoints.{EndpointState}
 use Rattle.drill.specs.Transcript.{Acts, DrillState, events_limit, is_full_for}

@@ -4,7 +4,7 @@ use Rattle.std.specs.Prelude.{◌≡◌, ℕ, ◌+◌, List, [], ◌∷◌, ◌+
 use Rattle.std.specs.List.{flat_map, list_any}
 use Rattle.std.specs.Option.{unwrap_or}
 use Rattle.std.specs.Str.{bytes_eq}
-use Rattle.as4_values.specs.declared.mode.Mode.{Mode}
+use Rattle.mode_values.specs.declared.mode.Mode.{Mode}
 use Rattle.as4_disk.specs.declared.change.Pick.{Pick}
 use Rattle.as4_disk.specs.declared.change.Pick.TheVariants.{New}
 use Rattle.drill.specs.Endpoints.{MatchFold}

@@ -2,13 +2,14 @@
 ghost use Rattle.std.specs.Prelude.{◌≡◌, ◌<◌, ◌≤◌, ◌++◌, ◌∷◌, [], IfOk, IsTrue, OnErr, OnOk, length};
 ghost use Rattle.std.specs.List.{list_any};
 ghost use Rattle.std.specs.Str.{bytes_eq};
-ghost use Rattle.as4_values.specs.declared.mode.Mode.{Mode as ModeValue};
+ghost use Rattle.mode_values.specs.declared.mode.Mode.{Mode as ModeValue};
 ghost use Rattle.drill_script.specs.LineText.{is_name};
 ghost use Rattle.drill_texts.specs.Modes.{IsDrillMode};
 
-use as4_values::{Mode, NoMemory, Octets, PlainData, Seq, Text};
+use as4_values::{NoMemory, Octets, PlainData, Seq, Text};
 use drill_script::Way;
 use drill_texts::drill_mode;
+use mode_values::Mode;
 use std::alloc::Global;
 
 /// Copies of modes.

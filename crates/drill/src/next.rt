@@ -2,7 +2,7 @@
 ghost use Rattle.std.specs.Prelude.{◌≡◌, ◌≢◌, [], ◌≤◌, IsTrue, length};
 ghost use Rattle.as4_flow.specs.Flow.{Rose, Told, before};
 ghost use Rattle.drill.specs.Next.{HoldsNoLine, IfLine, ReadsAhead};
-ghost use Rattle.drill_script.specs.Lacking.{parted};
+ghost use Rattle.byte_forms.specs.Parted.{parted};
 ghost use Rattle.drill_script.specs.LineParts.{BeginsKept};
 ghost use Rattle.drill_script.specs.LineText.{is_line, line_limit, line_text};
 ghost use Rattle.drill_script.specs.Lines.{BeginsLong, ahead_limit};

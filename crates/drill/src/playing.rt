@@ -1,7 +1,7 @@
 //! What each line of a script does.
 ghost use Rattle.std.specs.Prelude.{◌≡◌, ◌≢◌, ◌<◌, ◌≤◌, ◌∷◌, [], ◌++◌, Err, IfOk, IfSome, IsTrue, Some, codes, false, length, nat_le, true};
 ghost use Rattle.std.specs.Option.{unwrap_or};
-ghost use Rattle.as4_values.specs.declared.mode.Mode.{Mode as ModeValue};
+ghost use Rattle.mode_values.specs.declared.mode.Mode.{Mode as ModeValue};
 ghost use Rattle.drill.specs.Events.{Does, asked, comes, id_at, package_for, site_of, tells};
 ghost use Rattle.drill.specs.States.{IsAtEnd, IsCall, Performs, until};
 ghost use Rattle.drill.specs.Transcript.{Plays, doing_of, events_limit, is_placed, is_right, is_too_many, running_of};

@@ -4,7 +4,7 @@ ghost use Rattle.as4_flow.specs.Flow.{Flow, between, flow, Told, before};
 ghost use Rattle.drill.specs.Ends.{Ends};
 ghost use Rattle.drill.specs.Running.{SoFar};
 ghost use Rattle.drill.specs.Transcript.{is_right, is_too_many, lines_limit};
-ghost use Rattle.drill_script.specs.Lacking.{parted};
+ghost use Rattle.byte_forms.specs.Parted.{parted};
 ghost use Rattle.drill_script.specs.LineText.{is_line, line_limit, line_text};
 
 use crate::laws::a_drill_delivers_once;

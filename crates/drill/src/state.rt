@@ -14,10 +14,11 @@ ghost use Rattle.exchange_model.specs.declared.what.What.TheVariants.{Came};
 
 use crate::endpoint::{Endpoint, StopAt};
 use crate::naming::copies_of;
-use as4_values::{MAX_MOMENT, Message, MessageId, Mode, NoMemory, Octets, Seq};
+use as4_values::{MAX_MOMENT, Message, MessageId, NoMemory, Octets, Seq};
 use drill_script::EndName;
 use drill_texts::{folded_line, modes_of, reopened_line};
 use exchange_model::Event;
+use mode_values::Mode;
 use pmodes::Modes;
 use std::alloc::Global;
 use std::marker::Model;

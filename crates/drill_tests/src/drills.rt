@@ -1,12 +1,12 @@
-//! What no clause says: that memory suffices. Scripts with what they write, and scripts that end early. The whole
-//! examples are run by `as4_examples`.
+//! What the contracts don't cover: that memory suffices. Scripts with their output, and scripts that end early.
+//! `as4_examples` runs the full examples.
 ghost use Rattle.std.specs.Prelude.{◌≤◌};
 
 use as4_flow::{MemorySink, MemorySource};
 use drill::{DrillEnd, drill, generate};
 use std::alloc::{AllocError, Global};
 
-/// Whether the script ends so, and writes this.
+/// Whether the script ends so and writes this text.
 pub(crate) fn plays(alloc: Global, script: &[u8], end: DrillEnd, wanted: &[u8]) -> bool {
     match script.to_vec(alloc) {
         Ok(bytes) => {
@@ -22,7 +22,7 @@ pub(crate) fn plays(alloc: Global, script: &[u8], end: DrillEnd, wanted: &[u8]) 
     }
 }
 
-/// The same of a script and a text that are made for this.
+/// The same for a script and a text that are built first.
 pub(crate) fn plays_made(
     alloc: Global,
     script: Result<Vec<u8>, AllocError>,
@@ -44,7 +44,7 @@ pub(crate) fn plays_made(
     }
 }
 
-/// The front, so many times the middle, and the back.
+/// The front, the middle repeated this many times, and the back.
 pub(crate) fn repeated(
     alloc: Global,
     front: &[u8],
@@ -76,7 +76,7 @@ fn put_repeated(
     bytes.extend_from_slice(back)
 }
 
-/// The numbers of two ends to which nothing was handed in.
+/// The totals of two endpoints without submissions.
 const ENDS_OF_NOTHING: &[u8] = b"a end 0 0 0 0 0\nb end 0 0 0 0 0\n";
 
 #[test]
@@ -114,7 +114,7 @@ fn a_mode_is_named_once(rt: HostRuntime) {
     assert!(rt; plays(rt.alloc(), script, DrillEnd::Line { number: 2 }, wanted));
 }
 
-/// A pull request for a channel in which nothing waits: the answer warns, and changes neither end.
+/// A pull request for an empty channel: the reply warns, and changes neither endpoint.
 #[test]
 fn an_empty_channel_is_told(rt: HostRuntime) {
     let script = b"mode m pull 3 1000\nask b m\ncame a 0\n";
@@ -195,8 +195,8 @@ a end 1 1 0 0 0
 b end 0 0 0 0 1
 ";
 
-/// A pull of an empty channel, a mode that isn't there or only pushes, a number past the inbox, and a message that comes
-/// again once it was taken over.
+/// A pull of an empty channel, a mode that doesn't exist or only pushes, a number past the inbox, and a message that is
+/// received again after its confirmation.
 #[test]
 fn each_end_answers_by_the_rules(rt: HostRuntime) {
     assert!(rt; plays(rt.alloc(), ANSWERS, DrillEnd::Read, ANSWERS_TEXT));
@@ -227,13 +227,13 @@ a end 2 1 0 0 0
 b end 0 0 0 0 1
 ";
 
-/// A receipt comes with the pull request for the next message; it comes again, and the channel is empty.
+/// A receipt is sent with the pull request for the next message; the pair is repeated, and then the channel is empty.
 #[test]
 fn a_receipt_is_bundled_with_the_next_pull(rt: HostRuntime) {
     assert!(rt; plays(rt.alloc(), PAIRS, DrillEnd::Read, PAIRS_TEXT));
 }
 
-/// Where nothing came, there is no receipt to bundle.
+/// Without a delivered message, there is no receipt to bundle.
 #[test]
 fn a_pair_of_no_entry_is_told(rt: HostRuntime) {
     let script = b"mode m pull 3 1000\npair b m 0\n";
@@ -275,8 +275,8 @@ a end 1 1 0 0 0
 b end 0 0 0 0 1
 ";
 
-/// A mode that isn't there or only pushes, numbers before and past what the inbox holds, and the receipt of a message
-/// that was pushed with a pull request of another channel.
+/// A mode that doesn't exist or only pushes, numbers before and past the inbox, and the receipt for a pushed message
+/// with a pull request for another channel.
 #[test]
 fn a_pair_is_answered_by_the_rules(rt: HostRuntime) {
     assert!(rt; plays(rt.alloc(), PAIR_ANSWERS, DrillEnd::Read, PAIR_ANSWERS_TEXT));
@@ -290,14 +290,14 @@ a end 1 0 0 0 0
 b end 0 0 0 0 1
 ";
 
-/// Whether a line with a load of 524,280 bytes, behind this front, ends the drill so.
+/// Whether a line with a load of 524,280 bytes, after this front, ends the drill so.
 fn plays_long(alloc: Global, front: &[u8], end: DrillEnd, wanted: &[u8]) -> bool {
     let back = b"\ntake a\ncame b 0\nread b 0\n";
     let script = repeated(alloc, front, b"5a", 524_280, back);
     plays_made(alloc, script, end, wanted.to_vec(alloc))
 }
 
-/// A line of 1,048,576 bytes is read to its last digit, and one of a byte more isn't.
+/// A line of 1,048,576 bytes is read to its last digit; a line of one more byte is refused.
 #[test]
 fn a_line_has_at_most_1048576_bytes(rt: HostRuntime) {
     let longest = b"mode mm push 0 1\nsubmit a mm hex=";
@@ -307,10 +307,10 @@ fn a_line_has_at_most_1048576_bytes(rt: HostRuntime) {
     assert!(rt; plays_long(rt.alloc(), too_long, end, b""));
 }
 
-/// How a drill ends whose second line is none.
+/// The end of a drill whose second line is wrong.
 const WRONG: DrillEnd = DrillEnd::Line { number: 2 };
 
-/// A line, how a drill ends with it, and what it writes.
+/// A line, the end of a drill with it, and the text that the drill writes.
 const LIMITS: [(&[u8], DrillEnd, &[u8]); 17] = [
     (
         b"came a 18446744073709551615\n",
@@ -351,7 +351,7 @@ const LIMITS: [(&[u8], DrillEnd, &[u8]); 17] = [
     (b"ask a abcdefghijklmnopqrstuvwxyz0123456\n", WRONG, b""),
 ];
 
-/// Whether the line, behind that of a mode, ends the drill so, and writes this.
+/// Whether the line, after a line of a mode, ends the drill so and writes this text.
 fn plays_second(alloc: Global, line: &[u8], end: DrillEnd, wanted: &[u8]) -> bool {
     let ends = if end == DrillEnd::Read {
         ENDS_OF_NOTHING
@@ -362,7 +362,7 @@ fn plays_second(alloc: Global, line: &[u8], end: DrillEnd, wanted: &[u8]) -> boo
     plays_made(alloc, script, end, repeated(alloc, wanted, ends, 1, b""))
 }
 
-/// The first row that ends otherwise, or writes something else.
+/// The first row with another end or another text.
 fn first_other(alloc: Global, rows: &[(&[u8], DrillEnd, &[u8])]) -> Option<usize> {
     for (row, (line, end, wanted)) in rows.iter().enumerate() {
         if !plays_second(alloc, line, *end, wanted) {
@@ -372,13 +372,13 @@ fn first_other(alloc: Global, rows: &[(&[u8], DrillEnd, &[u8])]) -> Option<usize
     None
 }
 
-/// What a line says is in range up to its limit, and one past it the line is none.
+/// The values of a line are in range up to their limits; one past a limit, the line is wrong.
 #[test]
 fn numbers_and_names_have_limits(rt: HostRuntime) {
     assert_eq!(rt; first_other(rt.alloc(), &LIMITS), None);
 }
 
-/// The longest load that a line can name is taken in.
+/// The largest load that a line can name is submitted.
 #[test]
 fn a_load_of_16777216_bytes_is_handed_in(rt: HostRuntime) {
     let script = b"mode m push 0 1\nsubmit a m size=16777216\n";
@@ -389,7 +389,7 @@ fn a_load_of_16777216_bytes_is_handed_in(rt: HostRuntime) {
 
 const LETTERS: &[u8; 32] = b"abcdefghijklmnopqrstuvwxyz012345";
 
-/// So many modes as names of two of the letters can be made, and this line.
+/// As many modes as there are names of two of the letters, followed by this line.
 fn modes_and(alloc: Global, line: &[u8]) -> Result<Vec<u8>, AllocError> {
     let mut script = Vec::new(alloc);
     match put_modes(&mut script, line) {
@@ -417,7 +417,7 @@ fn put_modes_of(script: &mut Vec<u8>, first: u8) -> Result<(), AllocError> {
     Ok(())
 }
 
-/// 1,024 modes are named, and one more isn't in its place.
+/// 1,024 modes are allowed, and one more is refused.
 #[test]
 fn a_script_has_at_most_1024_modes(rt: HostRuntime) {
     let alloc = rt.alloc();
@@ -430,7 +430,7 @@ fn a_script_has_at_most_1024_modes(rt: HostRuntime) {
     assert!(rt; plays_made(alloc, names, end, Ok(Vec::new(alloc))));
 }
 
-/// Event 100,000 is made, and lines that make none may follow it; the next event is too many.
+/// Event 100,000 is made, and lines without an event may follow it; the next event is too many.
 #[test]
 fn event_100001_is_too_many(rt: HostRuntime) {
     let alloc = rt.alloc();
@@ -440,7 +440,7 @@ fn event_100001_is_too_many(rt: HostRuntime) {
     assert!(rt; plays_made(alloc, script, DrillEnd::TooMany, wanted));
 }
 
-/// Whether a world with so many messages comes to its end, and this is written of it.
+/// Whether a generated drill with this many messages ends, and writes this text.
 fn settles(alloc: Global, count: u64, wanted: &[u8]) -> bool
     requires { count ≤ 1000 }
 {
@@ -451,7 +451,7 @@ fn settles(alloc: Global, count: u64, wanted: &[u8]) -> bool
     end == DrillEnd::Read && is_written
 }
 
-/// A large world with losses and repeats: every message arrives once, and each sender holds its receipt.
+/// A large generated drill with losses and repeats: every message is delivered once, and each sender holds its receipt.
 #[test]
 fn a_generated_world_settles(rt: HostRuntime) {
     let some = b"a end 200 200 0 0 0\nb end 0 0 0 0 200\n";
@@ -459,8 +459,8 @@ fn a_generated_world_settles(rt: HostRuntime) {
     assert!(rt; settles(rt.alloc(), 200, some));
 }
 
-/// A script, which read and which write fail, the first being 1, how the drill ends then, and how many bytes of the
-/// script are left. A read gives seven bytes at most.
+/// A script, the numbers of the read and the write that fail (the first is 1), the end of the drill, and the number of
+/// bytes left of the script. A read returns at most seven bytes.
 const FAULTS: [(&[u8], u64, u64, DrillEnd, usize); 9] = [
     (b"take a\ntake a\n", 0, 0, DrillEnd::Read, 0),
     (b"take a\ntake a\n", 1, 0, DrillEnd::ReadFault, 14),
@@ -479,7 +479,7 @@ const FAULTS: [(&[u8], u64, u64, DrillEnd, usize); 9] = [
     ),
 ];
 
-/// How the drill of a script ends where these calls fail, and how many bytes of it are left.
+/// The end of a script's drill in which these calls fail, and the number of bytes left.
 fn ends_with(alloc: Global, script: &[u8], read: u64, write: u64) -> Option<(DrillEnd, usize)> {
     match (
         script.to_vec(alloc),
@@ -506,7 +506,7 @@ fn ends_with(alloc: Global, script: &[u8], read: u64, write: u64) -> Option<(Dri
     }
 }
 
-/// The first row that ends otherwise.
+/// The first row with another end.
 fn first_other_fault(alloc: Global, rows: &[(&[u8], u64, u64, DrillEnd, usize)]) -> Option<usize> {
     for (row, (script, read, write, end, left)) in rows.iter().enumerate() {
         if ends_with(alloc, script, *read, *write) != Some((*end, *left)) {
@@ -516,7 +516,7 @@ fn first_other_fault(alloc: Global, rows: &[(&[u8], u64, u64, DrillEnd, usize)])
     None
 }
 
-/// No fault is read or written over, and a drill that has ended reads no further.
+/// Each fault is reported, and a drill that has ended reads no further.
 #[test]
 fn a_fault_ends_a_drill(rt: HostRuntime) {
     assert_eq!(rt; first_other_fault(rt.alloc(), &FAULTS), None);

@@ -1,4 +1,4 @@
-//! Tests of `as4_flow`, `drill_script`, `drill_texts`, `drill`, by what they make public.
+//! Tests of the public interfaces of `as4_flow`, `drill_script`, `drill_texts` and `drill`.
 #![tactic(auto)]
 
 #[cfg(test)]

@@ -1,4 +1,5 @@
-//! What no clause says: that memory suffices. Each line of the grammar, lines that are none, and sources line by line.
+//! What the contracts don't cover: that memory suffices. Each line of the grammar, wrong lines, and sources line by
+//! line.
 use as4_disk::Pick;
 use as4_flow::MemorySource;
 use drill_script::{
@@ -7,11 +8,11 @@ use drill_script::{
 use std::alloc::{AllocError, Global};
 use std::test::Fail;
 
-/// What a line says, in short.
+/// A line in a short form.
 #[derive(Clone, Copy, Debug, PartialEq, Eq)]
 struct Shape {
     kind: u8,
-    // Whether it is of the end b, or pulled.
+    // Whether it names the endpoint b, or a pull.
     is_second: bool,
     named: usize,
     number: u64,
@@ -49,7 +50,7 @@ fn run_shape_of(line: &Stoppable) -> Shape {
     }
 }
 
-// The shape of the line with a kind of capital letters, and the call and a letter for the pick.
+// The shape of the stopped line, with a capital letter as its kind, and the call and a letter for the pick.
 fn stopped_shape(call: u8, pick: Pick, shape: Shape) -> Shape {
     let letter = match pick {
         Pick::Old => b'o',
@@ -77,7 +78,7 @@ fn is_b(end: EndName) -> bool {
     end == EndName::B
 }
 
-// A size, or the last of the bytes.
+// The size of a load, or its last byte.
 fn weight_of(load: &ScriptLoad) -> u64 {
     match load {
         ScriptLoad::Nothing => 0,
@@ -89,7 +90,7 @@ fn weight_of(load: &ScriptLoad) -> u64 {
     }
 }
 
-/// What the line of these bytes says, if they are one.
+/// The shape of the line with these bytes, if they are one.
 fn shape_in(alloc: Global, bytes: &[u8]) -> Result<Option<Shape>, Fail> {
     match line_of(alloc, bytes) {
         Ok(Some(line)) => {
@@ -102,7 +103,7 @@ fn shape_in(alloc: Global, bytes: &[u8]) -> Result<Option<Shape>, Fail> {
     }
 }
 
-/// Lines, and what each says: the fields of its shape.
+/// Lines, and the fields of their shapes.
 const LINES: [(&[u8], u8, bool, usize, u64); 22] = [
     (b"mode m1 push 3 5000", b'm', false, 2, 5_000),
     (b"mode z pull 1000 1000000000", b'm', true, 1, 1_000_000_000),
@@ -134,7 +135,7 @@ const LINES: [(&[u8], u8, bool, usize, u64); 22] = [
     (b"fold a", b'z', false, 0, 0),
 ];
 
-/// The first row that doesn't say this.
+/// The first row with another shape.
 fn first_other(alloc: Global) -> Result<Option<usize>, Fail> {
     for (row, (bytes, kind, is_second, named, number)) in LINES.iter().enumerate() {
         let shape = told(*kind, *is_second, *named, *number);
@@ -210,7 +211,7 @@ fn what_is_no_line_is_refused(rt: HostRuntime) -> Result<(), Fail> {
     Ok(())
 }
 
-/// Adds a letter for the next answer, and the line.
+/// Adds a letter for the next result, and the line.
 fn put_next(
     reader: &mut LineReader,
     source: &mut MemorySource,
@@ -247,7 +248,7 @@ fn put_answers(
     Ok(())
 }
 
-/// A source of these bytes: first in so many pieces of one byte, and then the rest at once. One call fails.
+/// A source of these bytes: first this many pieces of one byte, and then the rest at once. One call fails.
 fn source_of(alloc: Global, bytes: &[u8], pieces: usize, fails: u64) -> Option<MemorySource> {
     match (
         bytes.to_vec(alloc),
@@ -264,7 +265,7 @@ fn source_of(alloc: Global, bytes: &[u8], pieces: usize, fails: u64) -> Option<M
     }
 }
 
-/// The first answers, so many, to the reader of this source.
+/// The first results of the reader for this source.
 fn told_by(alloc: Global, mut source: MemorySource, answers: usize) -> Option<Vec<u8>> {
     let mut reader = LineReader::new(alloc);
     let mut told = Vec::new(alloc);
@@ -280,7 +281,7 @@ fn told_by(alloc: Global, mut source: MemorySource, answers: usize) -> Option<Ve
     }
 }
 
-/// Whether the first answers, so many, are these.
+/// Whether these are the first results.
 fn is_told(
     alloc: Global,
     source: Option<MemorySource>,
@@ -295,7 +296,7 @@ fn is_told(
 
 #[test]
 fn a_source_is_read_line_by_line(rt: HostRuntime) {
-    // Whole, and in pieces of one byte. The second call fails.
+    // At once, and in pieces of one byte. The second call fails.
     let alloc = rt.alloc();
     let bytes = b"take a\n\nask b m1\ntick";
     let whole = is_told(
@@ -332,7 +333,7 @@ fn line_source(alloc: Global, length: usize) -> Option<MemorySource> {
     }
 }
 
-/// The letter that is told of a line of this length.
+/// The letter for a line of this length.
 fn letter_of(alloc: Global, length: usize) -> Option<u8> {
     let source = line_source(alloc, length)?;
     let told = told_by(alloc, source, 1)?;

@@ -1,10 +1,10 @@
-//! What no clause says: that memory suffices. Power that fails in a line, and between two; journals that are folded.
+//! What the contracts don't cover: that memory suffices. Power failures within a line and between two, and compaction.
 use crate::drills::{plays, plays_made, repeated};
 use drill::DrillEnd;
 use std::alloc::Global;
 
-/// A line that is stopped: what the script has before it, the line and what the script has behind it; what is written up
-/// to the stop, and behind it where the step of the line is gone, and where it stands.
+/// A stopped line: the script before it, the line and the script after it; the text up to the stop, the text after it
+/// if the step of the line is lost, and the text after it if the step is durable.
 struct Stop {
     front: &'static [u8],
     rest: &'static [u8],
@@ -100,7 +100,8 @@ b end 0 0 0 0 1
     },
 ];
 
-/// A stop at a device call with an image of the disk, as a script spells them, and whether the step of the line stands.
+/// A stop at a device call with an image of the disk, in the script's spelling, and whether the step of the line is
+/// durable.
 const PLACES: [(&[u8], bool); 12] = [
     (b"stop 1 old ", false),
     (b"stop 1 new ", false),
@@ -126,7 +127,7 @@ fn stops_so(alloc: Global, stop: &Stop, place: &[u8], stands: bool) -> bool {
     )
 }
 
-/// The first place at which the line isn't stopped so.
+/// The first place with another text.
 fn first_other_place(alloc: Global, stop: &Stop) -> Option<usize> {
     for (number, (place, stands)) in PLACES.iter().enumerate() {
         if !stops_so(alloc, stop, place, *stands) {
@@ -145,8 +146,8 @@ fn first_other(alloc: Global) -> Option<(usize, usize)> {
     None
 }
 
-/// A step stands where its record was whole and is left: one of the last two calls came to the disk, and all of it is
-/// opened again.
+/// A step is durable if its whole record reached the disk and remains there: one of the last two calls took effect, and
+/// the image includes all of it.
 #[test]
 fn each_line_is_stopped_at_each_call(rt: HostRuntime) {
     assert_eq!(rt; first_other(rt.alloc()), None);
@@ -171,8 +172,8 @@ a end 1 0 0 0 0
 b end 0 0 0 0 0
 ";
 
-/// A line that writes nothing to the disk ends before its power fails. Each makes an event, but for one whose package
-/// isn't there: that is told, and nothing is stopped.
+/// A line that writes nothing to the disk ends before the power failure. Each such line makes an event, except one
+/// whose package doesn't exist: that is reported, and nothing is stopped.
 #[test]
 fn a_line_that_writes_nothing_is_stopped_behind_it(rt: HostRuntime) {
     assert!(rt;
@@ -189,7 +190,7 @@ const CRASHES: &[u8] = b"crash b
 mode m push 3 1000
 ";
 
-/// Power that fails is more than a mode.
+/// No mode may follow a power failure.
 #[test]
 fn modes_come_before_a_crash(rt: HostRuntime) {
     let end = DrillEnd::Line { number: 2 };
@@ -233,7 +234,7 @@ a end 1 1 0 0 0
 b end 0 0 0 0 1
 ";
 
-/// What was answered stands, whichever power fails between two lines.
+/// A reply remains valid, whichever endpoint loses power between two lines.
 #[test]
 fn a_crash_takes_nothing_back(rt: HostRuntime) {
     assert!(rt; plays(rt.alloc(), BOTH_CRASH, DrillEnd::Read, BOTH_CRASH_TEXT));
@@ -286,8 +287,8 @@ a end 1 0 1 0 0
 b end 0 0 0 0 1
 ";
 
-/// A fold is no event, and the end goes on as if its journal had stayed: with its clock, what was taken over, the tries
-/// of a message and how it was settled.
+/// A compaction is no event, and the endpoint continues as before: with its clock, the confirmed messages, and the
+/// tries and the standing of a submission.
 #[test]
 fn a_fold_changes_nothing_that_is_told(rt: HostRuntime) {
     assert!(rt; plays(rt.alloc(), FOLDS, DrillEnd::Read, FOLDS_TEXT));

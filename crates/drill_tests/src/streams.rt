@@ -1,4 +1,4 @@
-//! What no clause says: that memory suffices, and that what the system's streams carry arrives.
+//! What the contracts don't cover: that memory suffices, and that the bytes of the system's streams arrive.
 ghost use Rattle.std.specs.Prelude.{◌≡◌, ◌≤◌, IfOk};
 
 use as4_flow::{
@@ -9,7 +9,7 @@ use std::alloc::{AllocError, Global};
 use std::io;
 use std::io::{ErrorKind, Read, Write};
 
-/// A source of these bytes in these pieces, of which one call fails.
+/// A source of these bytes in these pieces; one call fails.
 fn source_of(alloc: Global, bytes: &[u8], pieces: &[usize], fails: u64) -> Option<MemorySource> {
     match (
         bytes.to_vec(alloc),
@@ -26,7 +26,7 @@ fn source_of(alloc: Global, bytes: &[u8], pieces: &[usize], fails: u64) -> Optio
     }
 }
 
-/// A sink that takes these pieces, of which one call fails.
+/// A sink that takes these pieces; one call fails.
 fn sink_of(alloc: Global, pieces: &[usize], fails: u64) -> Option<MemorySink> {
     match (pieces.to_vec(alloc), vec![in alloc; fails]) {
         (Ok(pieces), Ok(failing)) => Some(MemorySink::of(alloc, pieces, failing)),
@@ -38,7 +38,7 @@ fn sink_of(alloc: Global, pieces: &[usize], fails: u64) -> Option<MemorySink> {
     }
 }
 
-/// What each read answers, and the room after it.
+/// The result of each read, and the room after it.
 const READS: [(Got, [u8; 5]); 7] = [
     (Got::Gave(3), *b"012.."),
     (Got::Failed, *b"012.."),
@@ -49,7 +49,7 @@ const READS: [(Got, [u8; 5]); 7] = [
     (Got::End, *b"8967."),
 ];
 
-/// The first read that answers or leaves something else.
+/// The first read with another result or other room.
 fn first_other_read(source: &mut MemorySource) -> Option<usize> {
     let mut room = *b".....";
     for (call, (answer, after)) in READS.iter().enumerate() {
@@ -60,7 +60,7 @@ fn first_other_read(source: &mut MemorySource) -> Option<usize> {
     None
 }
 
-/// The first read that is another, and how many bytes are left behind the reads.
+/// The first read with another result, and the number of bytes left after the reads.
 fn reads(alloc: Global) -> Option<(Option<usize>, usize)> {
     let mut source = source_of(alloc, b"0123456789", &[3, 0, 4], 2)?;
     let other = first_other_read(&mut source);
@@ -74,10 +74,10 @@ fn a_source_gives_its_pieces_and_faults(rt: HostRuntime) {
     assert_eq!(rt; reads(rt.alloc()), Some((None, 0)));
 }
 
-/// What each write of four bytes answers.
+/// The result of each write of four bytes.
 const WRITES: [Put; 4] = [Put::Took(3), Put::Failed, Put::Took(1), Put::Took(4)];
 
-/// The first write that answers something else.
+/// The first write with another result.
 fn first_other_write(sink: &mut MemorySink) -> Option<usize> {
     for (call, answer) in WRITES.iter().enumerate() {
         if sink.write(b"0123") != *answer {
@@ -87,8 +87,8 @@ fn first_other_write(sink: &mut MemorySink) -> Option<usize> {
     None
 }
 
-/// Whether the memory is there, the first write that is another, whether the sink has what it took, and whether it gives
-/// that up.
+/// Whether memory suffices, the first write with another result, whether the sink has the bytes that it took, and
+/// whether it returns them.
 fn writes(alloc: Global) -> Option<(bool, Option<usize>, bool, bool)> {
     let mut sink = sink_of(alloc, &[3, 0], 2)?;
     let is_reserved = sink.reserve(9).is_ok();
@@ -105,7 +105,7 @@ fn a_sink_takes_its_pieces_and_faults(rt: HostRuntime) {
     assert_eq!(rt; writes(rt.alloc()), Some((true, None, true, true)));
 }
 
-/// How many of ten bytes, in pieces of 4, 4 and 2, are read within the limit, where one call fails.
+/// The number of bytes, of ten in pieces of 4, 4 and 2, that are read within the limit when one call fails.
 fn length_read(alloc: Global, limit: usize, fails: u64) -> Option<Result<usize, ReadRefusal>> {
     let mut source = source_of(alloc, b"0123456789", &[4, 4], fails)?;
     let read = read_all(alloc, &mut source, limit);
@@ -120,7 +120,7 @@ fn length_read(alloc: Global, limit: usize, fails: u64) -> Option<Result<usize, 
     }
 }
 
-/// The limit, the call that fails and the answer.
+/// The limit, the call that fails, and the result.
 const LIMITS: [(usize, u64, Result<usize, ReadRefusal>); 8] = [
     (10, 0, Ok(10)),
     (usize::MAX, 0, Ok(10)),
@@ -132,7 +132,7 @@ const LIMITS: [(usize, u64, Result<usize, ReadRefusal>); 8] = [
     (5, 3, Err(ReadRefusal::TooLong)),
 ];
 
-/// The first row that is answered otherwise.
+/// The first row with another result.
 fn first_other_limit(alloc: Global) -> Option<usize> {
     for (row, (limit, fails, answer)) in LIMITS.iter().enumerate() {
         if length_read(alloc, *limit, *fails) != Some(*answer) {
@@ -168,7 +168,7 @@ fn arrives(alloc: Global, bytes: &[u8]) -> Option<bool> {
     Some(is_read(read, bytes))
 }
 
-/// Adds each byte so often.
+/// Adds each byte this many times.
 fn put_each_byte(bytes: &mut Vec<u8>, times: u32) -> Result<(), AllocError> {
     for byte in 0..=255u8 {
         put_often(bytes, byte, times)?;
@@ -234,7 +234,7 @@ fn the_systems_streams_carry_all(rt: HostRuntime) {
     assert!(rt; is_carried_out(rt.alloc(), b"0123456789"));
 }
 
-/// A stream whose calls are interrupted twice, then carry one byte, and then fail.
+/// A stream whose calls are interrupted twice, then transfer one byte, and then fail.
 #[derive(Drop)]
 struct Halting {
     calls: u8,
@@ -269,7 +269,7 @@ impl Write for Halting {
     }
 }
 
-/// What two reads of such a stream answer, and the room after the first.
+/// The results of two reads from such a stream, and the room after the first.
 fn halting_reads(alloc: Global) -> Option<(Got, [u8; 4], Got)> {
     let mut source = ReaderSource::of(alloc, Halting { calls: 0 }).ok()?;
     let mut room = [7; 4];
@@ -280,7 +280,7 @@ fn halting_reads(alloc: Global) -> Option<(Got, [u8; 4], Got)> {
     Some((first, after, second))
 }
 
-/// What two writes to such a stream answer.
+/// The results of two writes to such a stream.
 fn halting_writes() -> (Put, Put) {
     let mut sink = WriterSink::of(Halting { calls: 0 });
     let first = sink.write(b"0123");
@@ -296,7 +296,7 @@ fn an_interrupted_call_is_made_again_and_a_fault_is_told(rt: HostRuntime) {
     assert_eq!(rt; halting_writes(), (Put::Took(1), Put::Failed));
 }
 
-/// A stream that carries one byte, fails once, and then has so many answers of one byte more before it ends.
+/// A stream that transfers one byte, fails once, and then transfers this many more single bytes before it ends.
 #[derive(Drop)]
 struct Stumbling {
     calls: u8,
@@ -338,7 +338,7 @@ impl Write for Stumbling {
     }
 }
 
-/// What three reads of a stream answer that fails once and then ends.
+/// The results of three reads from a stream that fails once and then ends.
 fn stumbling_reads(alloc: Global) -> Option<(Got, Got, Got)> {
     let mut source = ReaderSource::of(alloc, Stumbling { calls: 0, more: 0 }).ok()?;
     let mut room = [7; 4];
@@ -349,7 +349,7 @@ fn stumbling_reads(alloc: Global) -> Option<(Got, Got, Got)> {
     Some((first, second, third))
 }
 
-/// Whether a stream that fails once, and then has so many bytes more, is read to its end, and whether the fault is told.
+/// Whether a stream that fails once, and then has this many more bytes, is read to its end despite the fault.
 fn is_read_over(alloc: Global, more: u8) -> Option<bool> {
     let mut source = ReaderSource::of(alloc, Stumbling { calls: 0, more }).ok()?;
     let read = read_all(alloc, &mut source, 100);
@@ -363,7 +363,7 @@ fn is_read_over(alloc: Global, more: u8) -> Option<bool> {
     }
 }
 
-/// Whether all is sent to a stream that fails once and then takes so many bytes more.
+/// Whether all bytes are sent to a stream that fails once and then takes this many more.
 fn is_sent_over(more: u8) -> bool {
     let mut sink = WriterSink::of(Stumbling { calls: 0, more });
     let sent = send_all(&mut sink, b"0123");

@@ -1,4 +1,5 @@
-//! What no clause says: that memory suffices. A line of each kind of reply, a mode of each way, and loads of each kind.
+//! What the contracts don't cover: that memory suffices. A line of each kind of reply, a mode of each way, and loads of
+//! each kind.
 
 ghost use Rattle.std.specs.Prelude.{IfOk, IsTrue};
 ghost use Rattle.drill_script.specs.LineText.{is_name};
@@ -6,7 +7,7 @@ ghost use Rattle.drill_texts.specs.Modes.{AreDrillModes, IsDrillMode};
 
 mod made;
 
-use as4_values::{Load, Message, Mode, NoMemory, Octets, Route, Seq};
+use as4_values::{Load, Message, NoMemory, Octets, Route, Seq};
 use drill_script::{EndName, ScriptLoad, Way};
 use drill_texts::{
     drill_mode, end_line, folded_line, loads_of, modes_of, no_package_line, reopened_line,
@@ -14,6 +15,7 @@ use drill_texts::{
 };
 use end_tables::Totals;
 use exchange_model::Reply;
+use mode_values::Mode;
 use std::alloc::Global;
 
 fn is_line(line: Result<Octets, NoMemory>, wanted: &[u8]) -> bool {
@@ -23,19 +25,19 @@ fn is_line(line: Result<Octets, NoMemory>, wanted: &[u8]) -> bool {
     }
 }
 
-/// Whether this is written of the reply to a line of the number 0, at an end that has sent no package.
+/// Whether this is the text for the reply to a line with the number 0, at an endpoint that has sent no package.
 fn shows(alloc: Global, end: EndName, lost: bool, reply: &Reply, wanted: &[u8]) -> bool {
     is_line(reply_line(alloc, end, 0, lost, 0, reply), wanted)
 }
 
-/// The same; the reply is let go by name, which is proved sooner than where its scope ends.
+/// The same. The reply is dropped explicitly: that is proved faster than a drop at the end of its scope.
 fn writes(alloc: Global, end: EndName, reply: Reply, wanted: &[u8]) -> bool {
     let shown = shows(alloc, end, false, &reply, wanted);
     drop(reply);
     shown
 }
 
-/// Whether this is written of a message that goes back from the end b.
+/// Whether this is the text for a message that the endpoint b returns.
 fn answers(alloc: Global, lost: bool, message: Option<Message>, wanted: &[u8]) -> bool {
     match message {
         Some(message) => answers_so(alloc, lost, Reply::Answer(message), wanted),
@@ -99,7 +101,7 @@ fn a_status_is_told_with_the_number(rt: HostRuntime) {
     assert_eq!(rt; written, [true; 4]);
 }
 
-/// Whether this is written of a reply with parts, at the end a.
+/// Whether this is the text for a reply with parts, at the endpoint a.
 fn tells(alloc: Global, reply: Option<Reply>, wanted: &[u8]) -> bool {
     match reply {
         Some(reply) => writes(alloc, EndName::A, reply, wanted),
@@ -172,7 +174,7 @@ fn an_end_is_told_by_its_numbers(rt: HostRuntime) {
     );
 }
 
-/// A mode that sends a message again up to three times, five seconds apart.
+/// A mode with up to three retries, five seconds apart.
 fn mode(alloc: Global, name: &[u8], way: Way) -> Result<Mode, NoMemory>
     requires { IsTrue (is_name name.now) }
     ensures { IfOk result (IsDrillMode name.now way 3 5000) }
@@ -190,7 +192,7 @@ fn is_route(route: &Route, channel: Option<&[u8]>) -> bool {
     mpc == channel && address.bytes() == b"http://drill/".as_slice()
 }
 
-/// Whether the mode goes from the sender to the receiver, and is named so.
+/// Whether the mode goes from the sender to the receiver, and has this name.
 fn is_drill_mode(mode: &Mode, name: &[u8]) -> bool {
     mode.name.bytes() == name
         && mode.action.bytes() == name
@@ -198,7 +200,7 @@ fn is_drill_mode(mode: &Mode, name: &[u8]) -> bool {
         && mode.to.role.bytes() == b"receiver".as_slice()
 }
 
-/// Whether the mode was made, is named so, and is pushed or pulled from this channel.
+/// Whether the mode was made, has this name, and is a push or a pull from this channel.
 fn is_made(mode: Result<Mode, NoMemory>, name: &[u8], channel: Option<&[u8]>) -> bool {
     match mode {
         Ok(mode) => {
@@ -246,7 +248,7 @@ fn is_named(mode: Option<&Mode>, name: &[u8]) -> bool {
     }
 }
 
-/// Whether the first mode is the first of the script, and the second the second.
+/// Whether the modes are in the order of the script.
 fn stand_in_order(alloc: Global) -> Option<(bool, bool)> {
     let list = two_modes(alloc).ok()?;
     let modes = modes_of(alloc, list).ok()?;
@@ -264,7 +266,7 @@ fn is_load(load: &Load, wanted: &[u8]) -> bool {
     load.media.bytes() == b"application/octet-stream".as_slice() && load.content.bytes() == wanted
 }
 
-/// Whether there is one load, of these bytes.
+/// Whether there is exactly one load, with these bytes.
 fn carries(loads: Result<Seq<Load>, NoMemory>, wanted: &[u8]) -> bool {
     match loads {
         Ok(loads) => {
@@ -279,7 +281,7 @@ fn carries(loads: Result<Seq<Load>, NoMemory>, wanted: &[u8]) -> bool {
     }
 }
 
-/// The last two bytes of the one load.
+/// The last two bytes of the only load.
 fn last_two(loads: &Seq<Load>) -> Option<(u8, u8)> {
     match loads.items() {
         [load] => match load.content.bytes() {
@@ -290,7 +292,7 @@ fn last_two(loads: &Seq<Load>) -> Option<(u8, u8)> {
     }
 }
 
-/// How many loads there are where a message carries nothing.
+/// The number of loads of a message without a payload.
 fn count_of_nothing(alloc: Global) -> Option<usize> {
     let loads = loads_of(alloc, &ScriptLoad::Nothing).ok()?;
     let count = loads.items().len();
@@ -298,7 +300,7 @@ fn count_of_nothing(alloc: Global) -> Option<usize> {
     Some(count)
 }
 
-/// Whether the two bytes `hi` are carried.
+/// Whether the two bytes `hi` become the load.
 fn carries_given(alloc: Global) -> Option<bool> {
     let load = ScriptLoad::Hex(Octets::of(b"hi".to_vec(alloc).ok()?));
     let loads = loads_of(alloc, &load);
@@ -312,7 +314,7 @@ fn a_message_carries_nothing_or_one_load(rt: HostRuntime) {
     assert_eq!(rt; carries_given(rt.alloc()), Some(true));
 }
 
-/// The last two bytes of a load of 252.
+/// The last two bytes of a load of 252 bytes.
 fn last_of_252(alloc: Global) -> Option<(u8, u8)> {
     let loads = loads_of(alloc, &ScriptLoad::Size(252)).ok()?;
     let last = last_two(&loads);

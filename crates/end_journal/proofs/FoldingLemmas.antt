@@ -6,8 +6,9 @@ use Rattle.std.proofs.Math.Seq.{take-suc}
 use Rattle.std.proofs.lemmas.List.{map-append, take_all}
 use Rattle.std.proofs.lemmas.List.Sums.{sum_by-append, sum_by-cons}
 use Rattle.std.proofs.lemmas.Option.{same_Some, slice_get_cases, slice_get_within, get_or_from_slice_get}
+use Rattle.as4_disk.specs.declared.disk.Disk.{Ghosts as DiskMeaning}
 use Rattle.as4_disk.specs.Image.{Image}
-use Rattle.as4_disk.specs.Runs.{FirstThen, LeavesOnly}
+use Rattle.as4_disk.specs.Leaving.{FirstThen, LeavesOnly}
 use Rattle.as4_disk.proofs.RunLemmas.{no_call, then}
 use Rattle.as4_effects.specs.declared.effect.Effect.{Effect}
 use Rattle.as4_flow.specs.Flow.{Told}
@@ -128,8 +129,8 @@ effects_lead end effects reached folded spelled =
 
 -- ---- the parts
 
-module _ {D : Type 0} (seen : D → Option Image) (may_leave : D → Image → Type 0) where
-  pub added_none : (first : Journal D) (effects : List Effect) → first.fold ≡ Some 8 → HasAdded seen may_leave first first (take 0 effects)
+module _ {D : Type 0} (M : DiskMeaning D) where
+  pub added_none : (first : Journal D) (effects : List Effect) → first.fold ≡ Some 8 → HasAdded M first first (take 0 effects)
   added_none first effects fold = record {
     spelled = tt;
     gate = refl;
@@ -139,42 +140,42 @@ module _ {D : Type 0} (seen : D → Option Image) (may_leave : D → Image → T
   }
 
   pub added_more : (first old new : Journal D) (effects : List Effect) (part : ℕ) (effect : Effect) → slice_get effects part ≡ Some effect
-      → HasAdded seen may_leave first old (take part effects) → AddsPart seen may_leave old new effect → HasAdded seen may_leave first new (take (part + 1) effects)
+      → HasAdded M first old (take part effects) → AddsPart M old new effect → HasAdded M first new (take (part + 1) effects)
   added_more first old new effects part effect found so_far adds =
       let taken = take part effects in
       let place : 8 + bytes_of taken + record_len (effect ∷ []) ≡ 8 + bytes_of (taken ++ effect ∷ []) = omega (arith, bytes_more taken effect) in
-      let one : HasAdded seen may_leave first new (taken ++ effect ∷ []) = record {
+      let one : HasAdded M first new (taken ++ effect ∷ []) = record {
         spelled = spelled_more taken effect so_far.spelled adds.spelled;
         gate = adds.gate ∙ so_far.gate;
         version = adds.version ∙ so_far.version;
         fold = adds.fold (8 + bytes_of taken) so_far.fold ∙ ap (λ (n : ℕ). Some n) place;
         added = λ bodies has.
-            let F : List (List ℕ) → Type 0 = λ l. HasFold seen may_leave new bodies l in
+            let F : List (List ℕ) → Type 0 = λ l. HasFold M new bodies l in
             subst F (sym (map-append alone taken (effect ∷ []))) (adds.added bodies (map alone taken) (so_far.added bodies has));
       } in
-      let P : List Effect → Type 0 = λ l. HasAdded seen may_leave first new l in
+      let P : List Effect → Type 0 = λ l. HasAdded M first new l in
       subst P (sym (take_more effects part effect found)) one
 
   -- behind the last part
-  pub added_all : (first now : Journal D) (effects : List Effect) (part : ℕ) → slice_get effects part ≡ None → HasAdded seen may_leave first now (take part effects) → HasAdded seen may_leave first now effects
+  pub added_all : (first now : Journal D) (effects : List Effect) (part : ℕ) → slice_get effects part ≡ None → HasAdded M first now (take part effects) → HasAdded M first now effects
   added_all first now effects part none so_far =
-      let P : List Effect → Type 0 = λ l. HasAdded seen may_leave first now l in
+      let P : List Effect → Type 0 = λ l. HasAdded M first now l in
       subst P (take_all part effects (all_taken effects part none)) so_far
 
   -- where a part wasn't added, the parts before it were
-  pub starved_parts : (first old new : Journal D) (effects : List Effect) → new ≡ old → HasAdded seen may_leave first old effects
-      → (new.gate ≡ first.gate) × (new.version ≡ first.version) × ((bodies : List (List ℕ)) → HasFold seen may_leave first bodies [] → (folded : List (List ℕ)) × HasFold seen may_leave new bodies folded)
+  pub starved_parts : (first old new : Journal D) (effects : List Effect) → new ≡ old → HasAdded M first old effects
+      → (new.gate ≡ first.gate) × (new.version ≡ first.version) × ((bodies : List (List ℕ)) → HasFold M first bodies [] → (folded : List (List ℕ)) × HasFold M new bodies folded)
   starved_parts first old new effects same so_far =
-      let P : Journal D → Type 0 = λ j. HasAdded seen may_leave first j effects in
-      let now : HasAdded seen may_leave first new effects = subst P (sym same) so_far in
+      let P : Journal D → Type 0 = λ j. HasAdded M first j effects in
+      let now : HasAdded M first new effects = subst P (sym same) so_far in
       (now.gate, now.version, λ bodies has. (map alone effects, now.added bodies has))
 
   -- the journal whose records are the fold's
-  pub folded_journal : (old started added new : Journal D) (end : End) (effects : List Effect) → IsReached end → IsFolded end effects → HasAdded seen may_leave started added effects
-      → ((bodies : List (List ℕ)) → HasRecords seen may_leave old bodies → HasFold seen may_leave started bodies [])
-      → ((bodies folded : List (List ℕ)) → HasFold seen may_leave added bodies folded → HasRecords seen may_leave new folded)
-      → new.version ≡ Two → IsNone new.fold → added.fold ≡ Some new.gate → is_some (seen new.disk) ≡ is_some (seen old.disk) → Told (seen old.disk) (λ b. (bodies : List (List ℕ)) × HasRecords seen may_leave old bodies)
-      → IsJournalOf seen may_leave (resized (folded_size effects) end) new
+  pub folded_journal : (old started added new : Journal D) (end : End) (effects : List Effect) → IsReached end → IsFolded end effects → HasAdded M started added effects
+      → ((bodies : List (List ℕ)) → HasRecords M old bodies → HasFold M started bodies [])
+      → ((bodies folded : List (List ℕ)) → HasFold M added bodies folded → HasRecords M new folded)
+      → new.version ≡ Two → IsNone new.fold → added.fold ≡ Some new.gate → is_some (M.seen new.disk) ≡ is_some (M.seen old.disk) → Told (M.seen old.disk) (λ b. (bodies : List (List ℕ)) × HasRecords M old bodies)
+      → IsJournalOf M (resized (folded_size effects) end) new
   folded_journal old started added new end effects reached folded parts start finish version no_fold at tells records =
       let gate : new.gate ≡ 8 + bytes_of effects = same_Some _ _ (sym at ∙ parts.fold) in
       record {
@@ -182,57 +183,57 @@ module _ {D : Type 0} (seen : D → Option Image) (may_leave : D → Image → T
         no_fold = no_fold;
         size = omega (arith, gate, size_of_fold effects);
         records = λ b told.
-            let was = told_before (seen old.disk) (seen new.disk) b tells told in
+            let was = told_before (M.seen old.disk) (M.seen new.disk) b tells told in
             let had = records was.0 was.1 in
             (map alone effects, finish had.0 (map alone effects) (parts.added had.0 (start had.0 had.1)), effects_lead end effects reached folded parts.spelled);
       }
 
-module _ {D : Type 0} (moment : D → ℕ) (left_since : D → ℕ → Image → Type 0) (seen : D → Option Image) (may_leave : D → Image → Type 0) where
+module _ {D : Type 0} (M : DiskMeaning D) where
   -- while no part is added a crash leaves the records
-  pub still_fold : ((disk : D) (c : Image) → left_since disk (moment disk) c → may_leave disk c) → (journal : Journal D) (bodies folded : List (List ℕ)) → HasFold seen may_leave journal bodies folded
-      → LeavesOnly moment left_since journal.disk journal.disk (InVersion journal.version (OpensSettled bodies))
+  pub still_fold : ((disk : D) (c : Image) → M.left_since disk (M.moment disk) c → M.may_leave disk c) → (journal : Journal D) (bodies folded : List (List ℕ)) → HasFold M journal bodies folded
+      → LeavesOnly M journal.disk journal.disk (InVersion journal.version (OpensSettled bodies))
   still_fold only_now journal bodies folded has =
       let leaf = front_of journal.version bodies ++ 0 ∷ has.rest in
-      no_call moment left_since journal.disk (InVersion journal.version (OpensSettled bodies))
-      (λ c left. closed_in journal.version bodies has.rest c has.within (settled_left seen may_leave journal.disk journal.is_second leaf c has.settled (only_now journal.disk c left)).2)
+      no_call M journal.disk (InVersion journal.version (OpensSettled bodies))
+      (λ c left. closed_in journal.version bodies has.rest c has.within (settled_left M journal.disk journal.is_second leaf c has.settled (only_now journal.disk c left)).2)
 
   -- and while one more is
-  pub fold_run_on : (first old new : Journal D) (effects : List Effect) → HasAdded seen may_leave first old effects
-      → ((bodies : List (List ℕ)) → HasFold seen may_leave first bodies [] → LeavesOnly moment left_since first.disk old.disk (InVersion first.version (OpensSettled bodies)))
-      → ((bodies folded : List (List ℕ)) → HasFold seen may_leave old bodies folded → LeavesOnly moment left_since old.disk new.disk (InVersion old.version (OpensSettled bodies)))
-      → (bodies : List (List ℕ)) → HasFold seen may_leave first bodies [] → LeavesOnly moment left_since first.disk new.disk (InVersion first.version (OpensSettled bodies))
+  pub fold_run_on : (first old new : Journal D) (effects : List Effect) → HasAdded M first old effects
+      → ((bodies : List (List ℕ)) → HasFold M first bodies [] → LeavesOnly M first.disk old.disk (InVersion first.version (OpensSettled bodies)))
+      → ((bodies folded : List (List ℕ)) → HasFold M old bodies folded → LeavesOnly M old.disk new.disk (InVersion old.version (OpensSettled bodies)))
+      → (bodies : List (List ℕ)) → HasFold M first bodies [] → LeavesOnly M first.disk new.disk (InVersion first.version (OpensSettled bodies))
   fold_run_on first old new effects so_far run next bodies has =
-      let P : Version → Type 0 = λ v. LeavesOnly moment left_since old.disk new.disk (InVersion v (OpensSettled bodies)) in
-      then moment left_since first.disk old.disk new.disk (InVersion first.version (OpensSettled bodies)) (run bodies has) (subst P so_far.version (next bodies (map alone effects) (so_far.added bodies has)))
+      let P : Version → Type 0 = λ v. LeavesOnly M old.disk new.disk (InVersion v (OpensSettled bodies)) in
+      then M first.disk old.disk new.disk (InVersion first.version (OpensSettled bodies)) (run bodies has) (subst P so_far.version (next bodies (map alone effects) (so_far.added bodies has)))
 
 -- a whole fold
-module _ {D : Type 0} (moment : D → ℕ) (left_since : D → ℕ → Image → Type 0) (old started added : Journal D) (bodies : List (List ℕ)) (starts : LeavesOnly moment left_since old.disk started.disk (InVersion old.version (OpensSettled bodies))) (adds : LeavesOnly moment left_since started.disk added.disk (InVersion started.version (OpensSettled bodies))) (same : started.version ≡ old.version) (end : End) (size : ℕ) where
+module _ {D : Type 0} (M : DiskMeaning D) (old started added : Journal D) (bodies : List (List ℕ)) (starts : LeavesOnly M old.disk started.disk (InVersion old.version (OpensSettled bodies))) (adds : LeavesOnly M started.disk added.disk (InVersion started.version (OpensSettled bodies))) (same : started.version ≡ old.version) (end : End) (size : ℕ) where
   abbrev Before : Image → Type 0
   Before = InVersion old.version (OpensSettled bodies)
 
   abbrev After : Image → Type 0
   After c = Before c ⊎ IsAt c (resized size end)
 
-  added_run : LeavesOnly moment left_since old.disk added.disk Before
+  added_run : LeavesOnly M old.disk added.disk Before
   added_run =
-      let P : Version → Type 0 = λ v. LeavesOnly moment left_since started.disk added.disk (InVersion v (OpensSettled bodies)) in
-      then moment left_since old.disk started.disk added.disk Before starts (subst P same adds)
+      let P : Version → Type 0 = λ v. LeavesOnly M started.disk added.disk (InVersion v (OpensSettled bodies)) in
+      then M old.disk started.disk added.disk Before starts (subst P same adds)
 
   -- none of its records was picked
-  pub dropped_run : (new : D) → new ≡ added.disk → FirstThen moment left_since old.disk new Before After
+  pub dropped_run : (new : D) → new ≡ added.disk → FirstThen M old.disk new Before After
   dropped_run new dropped =
-      let P : D → Type 0 = λ d. LeavesOnly moment left_since old.disk d Before in
+      let P : D → Type 0 = λ d. LeavesOnly M old.disk d Before in
       inl (subst P (sym dropped) added_run)
 
   pub finished_run : (new : D) (effects : List Effect) → added.version ≡ started.version → IsReached end → IsFolded end effects → AreSpelled effects → IsFoldedSize end size
-      → FirstThen moment left_since added.disk new (InVersion added.version (OpensSettled bodies)) (OpensToEither added.version bodies (map alone effects)) → FirstThen moment left_since old.disk new Before After
+      → FirstThen M added.disk new (InVersion added.version (OpensSettled bodies)) (OpensToEither added.version bodies (map alone effects)) → FirstThen M old.disk new Before After
   finished_run new effects kept reached folded spelled (others, also, is) finishes =
       let sizes : folded_size effects ≡ size = ap folded_size (one_fold end effects others folded also) ∙ sym is in
       let P : ℕ → Type 0 = λ n. RecordsLead (map alone effects) empty_end (resized n end) in
       let leads = subst P sizes (effects_lead end effects reached folded spelled) in
-      let Q : Version → Type 0 = λ v. FirstThen moment left_since added.disk new (InVersion v (OpensSettled bodies)) (OpensToEither v bodies (map alone effects)) in
-      then_first moment left_since old.disk added.disk new Before After added_run
-      (first_weaken moment left_since added.disk new Before (OpensToEither old.version bodies (map alone effects)) Before After
+      let Q : Version → Type 0 = λ v. FirstThen M added.disk new (InVersion v (OpensSettled bodies)) (OpensToEither v bodies (map alone effects)) in
+      then_first M old.disk added.disk new Before After added_run
+      (first_weaken M added.disk new Before (OpensToEither old.version bodies (map alone effects)) Before After
       (λ c has. has)
       (λ c one. ⊎_elim (λ (was : Before c). inl was) (λ (now : InVersion Two (OpensSettled (map alone effects)) c). inr (settled_at (map alone effects) (resized size end) c leads now)) one)
       (subst Q (kept ∙ same) finishes))

@@ -1,9 +1,10 @@
 -- What a journal that was opened gives back, and what the disk reopens as meanwhile.
-use Rattle.std.proofs.Common.{◌≡◌, ◌⊎◌, inl, inr, ⊎_elim, ℕ, ◌+◌, ◌*◌, ◌<◌, ◌≤◌, ◌^◌, List, [], ◌∷◌, ◌++◌, Option, Some, IsNone, length, take, refl, sym, ap, subst, ◌∙◌, arith}
+use Rattle.std.proofs.Common.{◌≡◌, ◌⊎◌, inl, inr, ⊎_elim, ℕ, ◌+◌, ◌*◌, ◌<◌, ◌≤◌, ◌^◌, List, [], ◌∷◌, ◌++◌, Some, IsNone, length, take, refl, sym, ap, subst, ◌∙◌, arith}
 use Rattle.std.specs.List.{sum_by}
 use Rattle.std.proofs.lemmas.Bool.{cases_lt}
+use Rattle.as4_disk.specs.declared.disk.Disk.{Ghosts as DiskMeaning}
 use Rattle.as4_disk.specs.Image.{Image}
-use Rattle.as4_disk.specs.Runs.{FirstThen, LeavesOnly}
+use Rattle.as4_disk.specs.Leaving.{FirstThen, LeavesOnly}
 use Rattle.as4_disk.proofs.RunLemmas.{then, weaken}
 use Rattle.as4_flow.specs.Flow.{Told}
 use Rattle.exchange_model.specs.End.{End, empty_end}
@@ -134,10 +135,10 @@ pub is_one : (version : Version) → (number_of version ≡ 2 → ⊥) → versi
 is_one One differs = refl
 is_one Two differs = absurd (differs refl)
 
-module _ {D : Type 0} (seen : D → Option Image) (may_leave : D → Image → Type 0) where
-  module _ (journal : Journal D) (b d : Image) (keeps : KeepsLeaf b d) (read : HasRead seen may_leave journal []) (told : seen journal.disk ≡ Some d) (new : IsNew (picked_leaf d) → journal.version ≡ Two) where
+module _ {D : Type 0} (M : DiskMeaning D) where
+  module _ (journal : Journal D) (b d : Image) (keeps : KeepsLeaf b d) (read : HasRead M journal []) (told : M.seen journal.disk ≡ Some d) (new : IsNew (picked_leaf d) → journal.version ≡ Two) where
     front : (rest : List ℕ) × (picked_leaf d ≡ front_of journal.version [] ++ rest) × (length (front_of journal.version []) < limit_of journal.version)
-    front = read_front seen may_leave journal [] d read told
+    front = read_front M journal [] d read told
 
     magic : HasMagic journal.version (picked_leaf d)
     magic = magic_in journal.version [] front.0 (picked_leaf d) front.1
@@ -171,8 +172,8 @@ module _ {D : Type 0} (seen : D → Option Image) (may_leave : D → Image → T
         (reads_kept b d end keeps reads, λ old. was_one (old_version old), λ young. was_two (young_version young))
 
   -- a journal of version 2 of which all was read
-  pub whole_journal : (first now : Journal D) (end : End) (bodies : List (List ℕ)) → HasReplayedAll seen may_leave first now end bodies → now.version ≡ Two → IsNone first.fold
-      → Told (seen now.disk) (λ b. HasRead seen may_leave first []) → IsJournalOf seen may_leave end now
+  pub whole_journal : (first now : Journal D) (end : End) (bodies : List (List ℕ)) → HasReplayedAll M first now end bodies → now.version ≡ Two → IsNone first.fold
+      → Told (M.seen now.disk) (λ b. HasRead M first []) → IsJournalOf M end now
   whole_journal first now end bodies all two none read =
       let P : Version → Type 0 = λ v. now.gate ≡ length (front_of v bodies) in
       let place : now.gate ≡ length (front_of Two bodies) = subst P two all.place in
@@ -184,13 +185,13 @@ module _ {D : Type 0} (seen : D → Option Image) (may_leave : D → Image → T
       }
 
   -- and its end is the one that was read
-  pub read_end : (first now : Journal D) (end : End) (bodies : List (List ℕ)) → HasReplayedAll seen may_leave first now end bodies → now.version ≡ Two → HasRead seen may_leave first []
-      → Told (seen first.disk) (λ b. (x : End) × ReadsAs b x × (first.version ≡ One → (size : ℕ) × IsFoldedSize x size × (end ≡ resized size x)) × (first.version ≡ Two → end ≡ x))
+  pub read_end : (first now : Journal D) (end : End) (bodies : List (List ℕ)) → HasReplayedAll M first now end bodies → now.version ≡ Two → HasRead M first []
+      → Told (M.seen first.disk) (λ b. (x : End) × ReadsAs b x × (first.version ≡ One → (size : ℕ) × IsFoldedSize x size × (end ≡ resized size x)) × (first.version ≡ Two → end ≡ x))
   read_end first now end bodies all two has b told =
       (end, (bodies, all.all has b told, all.leads), λ was. let differs : One ≡ Two = sym was ∙ sym all.version ∙ two in absurd cc, λ was. refl)
 
   -- of version 1, and the fold is short
-  pub short_fold : (first now : Journal D) (end : End) (bodies : List (List ℕ)) → HasReplayedAll seen may_leave first now end bodies → now.version ≡ One
+  pub short_fold : (first now : Journal D) (end : End) (bodies : List (List ℕ)) → HasReplayedAll M first now end bodies → now.version ≡ One
       → (size : ℕ) → size ≤ 29 + 4 * sum_by length bodies → size < 2 ^ 32
   short_fold first now end bodies all one size most =
       let P : Version → Type 0 = λ v. now.gate ≡ length (front_of v bodies) in
@@ -200,37 +201,37 @@ module _ {D : Type 0} (seen : D → Option Image) (may_leave : D → Image → T
       omega (arith, place, within, front_len One bodies, most)
 
   -- and its fold gives the end with another size
-  pub folded_end : (first now : Journal D) (end new : End) (bodies : List (List ℕ)) → HasReplayedAll seen may_leave first now end bodies → now.version ≡ One
-      → ((size : ℕ) → IsFoldedSize end size → new ≡ resized size end) → HasRead seen may_leave first []
-      → Told (seen first.disk) (λ b. (x : End) × ReadsAs b x × (first.version ≡ One → (size : ℕ) × IsFoldedSize x size × (new ≡ resized size x)) × (first.version ≡ Two → new ≡ x))
+  pub folded_end : (first now : Journal D) (end new : End) (bodies : List (List ℕ)) → HasReplayedAll M first now end bodies → now.version ≡ One
+      → ((size : ℕ) → IsFoldedSize end size → new ≡ resized size end) → HasRead M first []
+      → Told (M.seen first.disk) (λ b. (x : End) × ReadsAs b x × (first.version ≡ One → (size : ℕ) × IsFoldedSize x size × (new ≡ resized size x)) × (first.version ≡ Two → new ≡ x))
   folded_end first now end new bodies all one law has b told =
       let size = has_folded_size bodies end all.leads in
       (end, (bodies, all.all has b told, all.leads), λ was. (size.0, size.1, law size.0 size.1), λ two. let differs : One ≡ Two = sym one ∙ all.version ∙ two in absurd cc)
 
-module _ {D : Type 0} (moment : D → ℕ) (left_since : D → ℕ → Image → Type 0) where
+module _ {D : Type 0} (M : DiskMeaning D) where
   -- while all is read
-  pub reread_run : (old new : D) (b : Image) → LeavesOnly moment left_since old new (Reopens b) → LeavesOnly moment left_since old new (ReopensAs b)
-  reread_run old new b = weaken moment left_since old new (Reopens b) (ReopensAs b) (reopens_as b)
+  pub reread_run : (old new : D) (b : Image) → LeavesOnly M old new (Reopens b) → LeavesOnly M old new (ReopensAs b)
+  reread_run old new b = weaken M old new (Reopens b) (ReopensAs b) (reopens_as b)
 
   -- and while the journal is folded
   pub refolded_run : HasOneBody → (version : Version) (old mid new : D) (b : Image) (bodies : List (List ℕ)) (end : End) (size : ℕ) → IsOld (picked_leaf b) → Lists bodies (picked_leaf b) → RecordsLead bodies empty_end end → IsFoldedSize end size
-      → LeavesOnly moment left_since old mid (Reopens b) → FirstThen moment left_since mid new (InVersion version (OpensSettled bodies)) (λ (c : Image). InVersion version (OpensSettled bodies) c ⊎ IsAt c (resized size end))
-      → LeavesOnly moment left_since old new (ReopensAs b)
+      → LeavesOnly M old mid (Reopens b) → FirstThen M mid new (InVersion version (OpensSettled bodies)) (λ (c : Image). InVersion version (OpensSettled bodies) c ⊎ IsAt c (resized size end))
+      → LeavesOnly M old new (ReopensAs b)
   refolded_run one version old mid new b bodies end size is_old lists leads folded reads folds =
-      then moment left_since old mid new (ReopensAs b) (reread_run old mid b reads)
-      (first_all moment left_since mid new (InVersion version (OpensSettled bodies)) (λ (c : Image). InVersion version (OpensSettled bodies) c ⊎ IsAt c (resized size end)) (ReopensAs b)
+      then M old mid new (ReopensAs b) (reread_run old mid b reads)
+      (first_all M mid new (InVersion version (OpensSettled bodies)) (λ (c : Image). InVersion version (OpensSettled bodies) c ⊎ IsAt c (resized size end)) (ReopensAs b)
       (λ c settled. settled_reopens b c is_old bodies lists settled.0)
       (λ c either. ⊎_elim (λ (settled : InVersion version (OpensSettled bodies) c). settled_reopens b c is_old bodies lists settled.0) (λ (at : IsAt c (resized size end)). folded_reopens b c is_old bodies lists one end size leads folded at) either)
       folds)
 
   -- while the leaf is settled
-  pub settling_run : (old new : D) (may_leave : Image → Type 0) (b : Image) → FirstThen moment left_since old new may_leave (KeepsLeaf b) → FirstThen moment left_since old new may_leave (ReopensAs b)
+  pub settling_run : (old new : D) (may_leave : Image → Type 0) (b : Image) → FirstThen M old new may_leave (KeepsLeaf b) → FirstThen M old new may_leave (ReopensAs b)
   settling_run old new may_leave b =
-      first_weaken moment left_since old new may_leave (KeepsLeaf b) may_leave (ReopensAs b) (λ c may. may) (λ c keeps. reopens_as b c (keeps_reopens b c keeps))
+      first_weaken M old new may_leave (KeepsLeaf b) may_leave (ReopensAs b) (λ c may. may) (λ c keeps. reopens_as b c (keeps_reopens b c keeps))
 
   -- and then brought up
-  pub opening_run : (old mid new : D) (may_leave : Image → Type 0) (b d : Image) → KeepsLeaf b d → FirstThen moment left_since old mid may_leave (KeepsLeaf b) → LeavesOnly moment left_since mid new (ReopensAs d)
-      → FirstThen moment left_since old new may_leave (ReopensAs b)
+  pub opening_run : (old mid new : D) (may_leave : Image → Type 0) (b d : Image) → KeepsLeaf b d → FirstThen M old mid may_leave (KeepsLeaf b) → LeavesOnly M mid new (ReopensAs d)
+      → FirstThen M old new may_leave (ReopensAs b)
   opening_run old mid new may_leave b d keeps settles brings =
-      first_then_next moment left_since old mid new may_leave (ReopensAs b) (settling_run old mid may_leave b settles)
-      (weaken moment left_since mid new (ReopensAs d) (ReopensAs b) (λ c reopens. reopens_then b d c keeps reopens) brings)
+      first_then_next M old mid new may_leave (ReopensAs b) (settling_run old mid may_leave b settles)
+      (weaken M mid new (ReopensAs d) (ReopensAs b) (λ c reopens. reopens_then b d c keeps reopens) brings)

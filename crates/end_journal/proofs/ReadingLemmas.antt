@@ -1,7 +1,8 @@
 -- What one record more that was read leads to, and what stands where it leads nowhere.
-use Rattle.std.proofs.Common.{◌≡◌, inl, inr, ℕ, ◌+◌, ◌<◌, ◌≤◌, ◌^◌, List, [], ◌∷◌, ◌++◌, Option, Some, length, refl, sym, ap, subst, ◌∙◌, arith}
+use Rattle.std.proofs.Common.{◌≡◌, inl, inr, ℕ, ◌+◌, ◌<◌, ◌≤◌, ◌^◌, List, [], ◌∷◌, ◌++◌, Some, length, refl, sym, ap, subst, ◌∙◌, arith}
+use Rattle.as4_disk.specs.declared.disk.Disk.{Ghosts as DiskMeaning}
 use Rattle.as4_disk.specs.Image.{Image}
-use Rattle.as4_disk.specs.Runs.{LeavesOnly}
+use Rattle.as4_disk.specs.Leaving.{LeavesOnly}
 use Rattle.as4_disk.proofs.RunLemmas.{no_call, then}
 use Rattle.as4_flow.specs.Flow.{Told}
 use Rattle.as4_effects.specs.Effects.{effects_body}
@@ -35,9 +36,9 @@ pub len_of_record : (effects : List Effect) (body : List ℕ) → body ≡ effec
 unfolding record_len
 len_of_record effects body bytes = ap (λ (b : List ℕ). length b + 9) (sym bytes)
 
-module _ {D : Type 0} (seen : D → Option Image) (may_leave : D → Image → Type 0) where
+module _ {D : Type 0} (M : DiskMeaning D) where
   -- before the first record
-  pub read_none : (first : Journal D) → first.gate ≡ 8 → HasReplayed seen may_leave first first empty_end []
+  pub read_none : (first : Journal D) → first.gate ≡ 8 → HasReplayed M first first empty_end []
   read_none first gate =
       let magic : length (front_of first.version []) ≡ 8 = ap (λ (l : List ℕ). length l) (front_none first.version) ∙ length-magic first.version in
       record {
@@ -55,8 +56,8 @@ module _ {D : Type 0} (seen : D → Option Image) (may_leave : D → Image → T
       first_place Two gate is = omega (arith, is)
 
   -- and one more
-  pub read_on : (first old new : Journal D) (start end : End) (bodies : List (List ℕ)) → HasReplayed seen may_leave first old start bodies → (on : ReadsOn seen may_leave old new start end)
-      → HasReplayed seen may_leave first new end (bodies ++ on.body ∷ [])
+  pub read_on : (first old new : Journal D) (start end : End) (bodies : List (List ℕ)) → HasReplayed M first old start bodies → (on : ReadsOn M old new start end)
+      → HasReplayed M first new end (bodies ++ on.body ∷ [])
   read_on first old new start end bodies so_far on =
       let P : Version → Type 0 = λ v. new.gate ≡ length (front_of v (bodies ++ on.body ∷ [])) in
       let Q : Version → Type 0 = λ v. new.gate < limit_of v in
@@ -73,20 +74,20 @@ module _ {D : Type 0} (seen : D → Option Image) (may_leave : D → Image → T
       }
 
   -- the next record is cut short
-  pub cut_next : (old : Journal D) (bodies : List (List ℕ)) (at : ℕ) (end : End) (b : Image) → HasRead seen may_leave old bodies → at ≡ old.gate → seen old.disk ≡ Some b → RecordsLead bodies empty_end end → IsBroken at (picked_leaf b) → IsNoJournal at (picked_leaf b)
+  pub cut_next : (old : Journal D) (bodies : List (List ℕ)) (at : ℕ) (end : End) (b : Image) → HasRead M old bodies → at ≡ old.gate → M.seen old.disk ≡ Some b → RecordsLead bodies empty_end end → IsBroken at (picked_leaf b) → IsNoJournal at (picked_leaf b)
   cut_next old bodies at end b has place told leads broken =
       let behind = has.next ∷ has.rest in
-      let bytes = (settled_told seen may_leave old.disk old.is_second (front_of old.version bodies ++ behind) b has.settled told).2 in
+      let bytes = (settled_told M old.disk old.is_second (front_of old.version bodies ++ behind) b has.settled told).2 in
       let cut = cut_short_here at old.version bodies behind (picked_leaf b) broken bytes has.within (omega arith) (place ∙ has.place) in (
         broken.0,
         inr (inl (record { version = old.version; bodies = bodies; rest = cut.0; cut = cut.1; place = place ∙ has.place; end = end; leads = leads })),
       )
 
   -- the next record leads nowhere
-  pub unfit_next : (old new : Journal D) (bodies : List (List ℕ)) (body : List ℕ) (at : ℕ) (end : End) (b : Image) → HasRead seen may_leave old bodies → HasRead seen may_leave new (bodies ++ body ∷ [])
-      → new.version ≡ old.version → at ≡ old.gate → seen new.disk ≡ seen old.disk → seen old.disk ≡ Some b → RecordsLead bodies empty_end end → ((next : End) → RecordLeads body end next → ⊥) → IsUnfit at (picked_leaf b)
+  pub unfit_next : (old new : Journal D) (bodies : List (List ℕ)) (body : List ℕ) (at : ℕ) (end : End) (b : Image) → HasRead M old bodies → HasRead M new (bodies ++ body ∷ [])
+      → new.version ≡ old.version → at ≡ old.gate → M.seen new.disk ≡ M.seen old.disk → M.seen old.disk ≡ Some b → RecordsLead bodies empty_end end → ((next : End) → RecordLeads body end next → ⊥) → IsUnfit at (picked_leaf b)
   unfit_next old new bodies body at end b has next version place same told leads none =
-      let front = read_front seen may_leave new (bodies ++ body ∷ []) b next (same ∙ told) in
+      let front = read_front M new (bodies ++ body ∷ []) b next (same ∙ told) in
       record {
         version = new.version;
         bodies = bodies;
@@ -100,20 +101,20 @@ module _ {D : Type 0} (seen : D → Option Image) (may_leave : D → Image → T
         none = none;
       }
 
-module _ {D : Type 0} (moment : D → ℕ) (left_since : D → ℕ → Image → Type 0) (seen : D → Option Image) (may_leave : D → Image → Type 0) where
+module _ {D : Type 0} (M : DiskMeaning D) where
   -- before the first record a crash leaves the leaf
-  pub still_run : ((disk : D) (c : Image) → left_since disk (moment disk) c → may_leave disk c) → (first : Journal D) (b : Image) → HasRead seen may_leave first [] → seen first.disk ≡ Some b
-      → LeavesOnly moment left_since first.disk first.disk (Reopens b)
+  pub still_run : ((disk : D) (c : Image) → M.left_since disk (M.moment disk) c → M.may_leave disk c) → (first : Journal D) (b : Image) → HasRead M first [] → M.seen first.disk ≡ Some b
+      → LeavesOnly M first.disk first.disk (Reopens b)
   still_run only_now first b has told =
       let leaf = front_of first.version [] ++ has.next ∷ has.rest in
-      let here = (settled_told seen may_leave first.disk first.is_second leaf b has.settled told).2 in
-      no_call moment left_since first.disk (Reopens b)
-      (λ c left. keeps_reopens b c (inl ((settled_left seen may_leave first.disk first.is_second leaf c has.settled (only_now first.disk c left)).2 ∙ sym here)))
+      let here = (settled_told M first.disk first.is_second leaf b has.settled told).2 in
+      no_call M first.disk (Reopens b)
+      (λ c left. keeps_reopens b c (inl ((settled_left M first.disk first.is_second leaf c has.settled (only_now first.disk c left)).2 ∙ sym here)))
 
   -- and while one more is read
-  pub run_on : (first old new : Journal D) (end : End) (bodies : List (List ℕ)) → HasReplayed seen may_leave first old end bodies
-      → (HasRead seen may_leave first [] → Told (seen first.disk) (λ b. LeavesOnly moment left_since first.disk old.disk (Reopens b)))
-      → ((read : List (List ℕ)) → HasRead seen may_leave old read → Told (seen old.disk) (λ b. LeavesOnly moment left_since old.disk new.disk (Reopens b)))
-      → HasRead seen may_leave first [] → Told (seen first.disk) (λ b. LeavesOnly moment left_since first.disk new.disk (Reopens b))
+  pub run_on : (first old new : Journal D) (end : End) (bodies : List (List ℕ)) → HasReplayed M first old end bodies
+      → (HasRead M first [] → Told (M.seen first.disk) (λ b. LeavesOnly M first.disk old.disk (Reopens b)))
+      → ((read : List (List ℕ)) → HasRead M old read → Told (M.seen old.disk) (λ b. LeavesOnly M old.disk new.disk (Reopens b)))
+      → HasRead M first [] → Told (M.seen first.disk) (λ b. LeavesOnly M first.disk new.disk (Reopens b))
   run_on first old new end bodies so_far run next has b told =
-      then moment left_since first.disk old.disk new.disk (Reopens b) (run has b told) (next bodies (so_far.read has) b (so_far.told ∙ told))
+      then M first.disk old.disk new.disk (Reopens b) (run has b told) (next bodies (so_far.read has) b (so_far.told ∙ told))

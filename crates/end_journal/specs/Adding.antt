@@ -1,7 +1,7 @@
 -- How the records of an end's fold are added to the other leaf.
-use Rattle.std.specs.Prelude.{◌≡◌, ℕ, ◌+◌, List, [], ◌∷◌, ◌++◌, Option, Some, map}
+use Rattle.std.specs.Prelude.{◌≡◌, ℕ, ◌+◌, List, [], ◌∷◌, ◌++◌, Some, map}
 use Rattle.std.specs.List.{sum_by}
-use Rattle.as4_disk.specs.Image.{Image}
+use Rattle.as4_disk.specs.declared.disk.Disk.{Ghosts as DiskMeaning}
 use Rattle.as4_effects.specs.declared.effect.Effect.{Effect}
 use Rattle.end_records.specs.Records.{alone}
 use Rattle.event_code.specs.Spelled.{AreSpelled, IsSpelledEffect}
@@ -13,14 +13,14 @@ use Rattle.journal.specs.declared.journal.Journal.{Journal}
 abbrev pub bytes_of : List Effect → ℕ
 bytes_of effects = sum_by (λ (e : Effect). record_len (e ∷ [])) effects
 
-module _ {D : Type 0} (seen : D → Option Image) (may_leave : D → Image → Type 0) where
+module _ {D : Type 0} (M : DiskMeaning D) where
   -- the record of this effect was added
   pub record AddsPart (old new : Journal D) (effect : Effect) : Type 0 where
     pub spelled : IsSpelledEffect effect
     pub gate : new.gate ≡ old.gate
     pub version : new.version ≡ old.version
     pub fold : (place : ℕ) → old.fold ≡ Some place → new.fold ≡ Some (place + record_len (effect ∷ []))
-    pub added : (bodies folded : List (List ℕ)) → HasFold seen may_leave old bodies folded → HasFold seen may_leave new bodies (folded ++ alone effect ∷ [])
+    pub added : (bodies folded : List (List ℕ)) → HasFold M old bodies folded → HasFold M new bodies (folded ++ alone effect ∷ [])
 
   -- to a fold that had no records those of these effects were added
   pub record HasAdded (first now : Journal D) (effects : List Effect) : Type 0 where
@@ -28,4 +28,4 @@ module _ {D : Type 0} (seen : D → Option Image) (may_leave : D → Image → T
     pub gate : now.gate ≡ first.gate
     pub version : now.version ≡ first.version
     pub fold : now.fold ≡ Some (8 + bytes_of effects)
-    pub added : (bodies : List (List ℕ)) → HasFold seen may_leave first bodies [] → HasFold seen may_leave now bodies (map alone effects)
+    pub added : (bodies : List (List ℕ)) → HasFold M first bodies [] → HasFold M now bodies (map alone effects)

@@ -1,7 +1,8 @@
 //! How a record of effects is made and put behind the others.
-ghost use Rattle.std.specs.Prelude.{◌≡◌, ◌+◌, ◌≤◌, ◌^◌, [], IfErr, IfOk, IsOk, OnOk, is_ok, is_some, length};
+ghost use Rattle.std.specs.Prelude.{◌≡◌, ◌+◌, ◌≤◌, ◌^◌, [], IfErr, IfOk, IsOk, OnOk, is_ok, length};
 ghost use Rattle.as4_disk.specs.Image.{Image};
-ghost use Rattle.as4_disk.specs.Runs.{LeavesOnly, MakesAll};
+ghost use Rattle.as4_disk.specs.Leaving.{LeavesOnly};
+ghost use Rattle.as4_disk.specs.Runs.{MakesAll};
 ghost use Rattle.as4_effects.specs.Effects.{effects_body, effects_limit};
 ghost use Rattle.as4_flow.specs.Flow.{Told};
 ghost use Rattle.end_journal.specs.Frames.{IsFrameOf};
@@ -9,7 +10,7 @@ ghost use Rattle.end_records.specs.Opens.{IsAtOneOf, IsJournalOf};
 ghost use Rattle.end_records.specs.Records.{RecordLeads};
 ghost use Rattle.exchange_model.specs.End.{End};
 ghost use Rattle.journal.specs.Calls.{record_calls};
-ghost use Rattle.journal.specs.Faults.{IsDiskFault, TellsCause};
+ghost use Rattle.journal.specs.Faults.{CountsFault, IsDiskFault};
 ghost use Rattle.journal.specs.Store.{leaf_of};
 
 use as4_disk::Disk;
@@ -37,18 +38,17 @@ pub fn frame_of(alloc: Global, effects: &Seq<Effect>) -> Result<Option<Frame>, N
 /// Puts the record behind the others. At `Ok` it is on the disk; in the call a crash leaves the records with it or
 /// without. It makes four device calls and takes no memory.
 pub fn add_record<D: Disk>(journal: &mut Journal<D>, frame: &Frame) -> Result<(), JournalFault>
-    requires ready { (end : End) × IsJournalOf D.seen D.may_leave end journal.old
+    requires ready { (end : End) × IsJournalOf D.Disk end journal.old
         × (end.size + (length frame.now + 9) ≤ 2 ^ 32) }
-    ensures kept { OnOk result ((end next : End) → IsJournalOf D.seen D.may_leave end journal.old
-        → RecordLeads frame.now end next → IsJournalOf D.seen D.may_leave next journal.new) }
-    ensures any_moment { (end next : End) → IsJournalOf D.seen D.may_leave end journal.old → RecordLeads frame.now end next
-        → Told (D.seen journal.old.disk) (λ _. LeavesOnly D.moment D.left_since journal.old.disk journal.new.disk
+    ensures kept { OnOk result ((end next : End) → IsJournalOf D.Disk end journal.old
+        → RecordLeads frame.now end next → IsJournalOf D.Disk next journal.new) }
+    ensures any_moment { (end next : End) → IsJournalOf D.Disk end journal.old → RecordLeads frame.now end next
+        → Told (D.seen journal.old.disk) (λ _. LeavesOnly D.Disk journal.old.disk journal.new.disk
         (λ (c : Image). IsAtOneOf c end next)) }
     ensures calls { MakesAll D.makes (record_calls (leaf_of journal.old.is_second) journal.old.gate frame.now)
         journal.old.disk journal.new.disk (is_ok result) }
     ensures faults { IfErr result IsDiskFault }
-    ensures cause { TellsCause (D.fault_count journal.old.disk) (D.fault_count journal.new.disk) result }
-    ensures tells { is_some (D.seen journal.new.disk) ≡ is_some (D.seen journal.old.disk) }
+    ensures counts { CountsFault D.Disk journal.old.disk journal.new.disk result }
 {
     journal.append(frame)?;
     Ok(())

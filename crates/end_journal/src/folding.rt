@@ -1,9 +1,9 @@
 //! How the journal of an end is folded: the effects that give the end back from the empty end, each in a record of its
 //! own, take the place of all records.
-ghost use Rattle.std.specs.Prelude.{◌≡◌, ◌⊎◌, ℕ, ◌+◌, ◌<◌, ◌^◌, List, [], ◌∷◌, None, Some, IfErr, IfOk, IsErrOf, IsNone, IsSomeAnd, OnErr, OnOk, is_some, true, false};
+ghost use Rattle.std.specs.Prelude.{◌≡◌, ◌⊎◌, ℕ, ◌+◌, ◌<◌, ◌^◌, List, [], ◌∷◌, None, Some, IfErr, IfOk, IsErrOf, IsNone, IsSomeAnd, OnErr, OnOk, true, false};
 ghost use Rattle.std.specs.List.{slice_get};
 ghost use Rattle.as4_disk.specs.Image.{Image};
-ghost use Rattle.as4_disk.specs.Runs.{FirstThen, LeavesOnly};
+ghost use Rattle.as4_disk.specs.Leaving.{FirstThen, LeavesOnly};
 ghost use Rattle.as4_effects.specs.declared.effect.Effect.{Effect as EffectValue};
 ghost use Rattle.as4_flow.specs.Flow.{Told};
 ghost use Rattle.end_journal.specs.Adding.{AddsPart, HasAdded};
@@ -13,7 +13,7 @@ ghost use Rattle.event_code.specs.Spelled.{IsSpelledEffect};
 ghost use Rattle.exchange_model.specs.Apply.{record_len};
 ghost use Rattle.exchange_model.specs.End.{End};
 ghost use Rattle.exchange_model.specs.Fold.{IsFolded, IsFoldedSize, resized};
-ghost use Rattle.journal.specs.Faults.{IsReadFault, TellsCause};
+ghost use Rattle.journal.specs.Faults.{CountsFault, IsReadFault};
 ghost use Rattle.journal.specs.State.{HasFold, HasRecords};
 ghost use Rattle.journal.specs.Store.{InVersion, OpensSettled};
 
@@ -35,25 +35,24 @@ pub fn fold_end<D: Disk>(
 ) -> Result<(), JournalFault>
     requires no_fold { IsNone journal.old.fold }
     requires settled { Told (D.seen journal.old.disk) (λ _. (bodies : List (List ℕ))
-        × HasRecords D.seen D.may_leave journal.old bodies) }
+        × HasRecords D.Disk journal.old bodies) }
     requires short { (size : ℕ) → IsFoldedSize core.old.end size → size < 2 ^ 32 }
-    ensures kept { OnOk result (IsJournalOf D.seen D.may_leave core.new.end journal.new) }
+    ensures kept { OnOk result (IsJournalOf D.Disk core.new.end journal.new) }
     ensures end { OnOk result ((size : ℕ) → IsFoldedSize core.old.end size → core.new.end ≡ resized size core.old.end) }
     ensures modes { core.new.modes ≡ core.old.modes }
     ensures same { OnErr result (core.new ≡ core.old) }
     ensures starved { IsErrOf result JournalFault.NoMemory
-        → (end : End) → IsJournalOf D.seen D.may_leave end journal.old → IsJournalOf D.seen D.may_leave end journal.new }
+        → (end : End) → IsJournalOf D.Disk end journal.old → IsJournalOf D.Disk end journal.new }
 
     // Until the other leaf has been settled a crash leaves the records in their version, and from then on these or the
     // folded end.
-    ensures any_moment { (bodies : List (List ℕ)) (size : ℕ) → HasRecords D.seen D.may_leave journal.old bodies
+    ensures any_moment { (bodies : List (List ℕ)) (size : ℕ) → HasRecords D.Disk journal.old bodies
         → IsFoldedSize core.old.end size
-        → FirstThen D.moment D.left_since journal.old.disk journal.new.disk
+        → FirstThen D.Disk journal.old.disk journal.new.disk
         (InVersion journal.old.version (OpensSettled bodies))
         (λ (c : Image). InVersion journal.old.version (OpensSettled bodies) c ⊎ IsAt c (resized size core.old.end)) }
     ensures faults { IfErr result IsReadFault }
-    ensures cause { TellsCause (D.fault_count journal.old.disk) (D.fault_count journal.new.disk) result }
-    ensures tells { is_some (D.seen journal.new.disk) ≡ is_some (D.seen journal.old.disk) }
+    ensures counts { CountsFault D.Disk journal.old.disk journal.new.disk result }
 {
     write_fold(alloc, journal, core)?;
     core.set_folded();
@@ -68,20 +67,19 @@ fn write_fold<D: Disk>(
 ) -> Result<(), JournalFault>
     requires no_fold { IsNone journal.old.fold }
     requires settled { Told (D.seen journal.old.disk) (λ _. (bodies : List (List ℕ))
-        × HasRecords D.seen D.may_leave journal.old bodies) }
+        × HasRecords D.Disk journal.old bodies) }
     requires short { (size : ℕ) → IsFoldedSize core.now.end size → size < 2 ^ 32 }
     ensures kept { OnOk result ((size : ℕ) × IsFoldedSize core.now.end size
-        × IsJournalOf D.seen D.may_leave (resized size core.now.end) journal.new) }
+        × IsJournalOf D.Disk (resized size core.now.end) journal.new) }
     ensures starved { IsErrOf result JournalFault.NoMemory
-        → (end : End) → IsJournalOf D.seen D.may_leave end journal.old → IsJournalOf D.seen D.may_leave end journal.new }
-    ensures any_moment { (bodies : List (List ℕ)) (size : ℕ) → HasRecords D.seen D.may_leave journal.old bodies
+        → (end : End) → IsJournalOf D.Disk end journal.old → IsJournalOf D.Disk end journal.new }
+    ensures any_moment { (bodies : List (List ℕ)) (size : ℕ) → HasRecords D.Disk journal.old bodies
         → IsFoldedSize core.now.end size
-        → FirstThen D.moment D.left_since journal.old.disk journal.new.disk
+        → FirstThen D.Disk journal.old.disk journal.new.disk
         (InVersion journal.old.version (OpensSettled bodies))
         (λ (c : Image). InVersion journal.old.version (OpensSettled bodies) c ⊎ IsAt c (resized size core.now.end)) }
     ensures faults { IfErr result IsReadFault }
-    ensures cause { TellsCause (D.fault_count journal.old.disk) (D.fault_count journal.new.disk) result }
-    ensures tells { is_some (D.seen journal.new.disk) ≡ is_some (D.seen journal.old.disk) }
+    ensures counts { CountsFault D.Disk journal.old.disk journal.new.disk result }
 {
     // So the end has a fold, which leads to it.
     let _ = core.folded_size();
@@ -106,21 +104,20 @@ fn add_parts<D: Disk>(
 ) -> Result<(), JournalFault>
     requires none { journal.old.fold ≡ Some 8 }
     requires settled { Told (D.seen journal.old.disk) (λ _. (bodies : List (List ℕ))
-        × HasFold D.seen D.may_leave journal.old bodies []) }
+        × HasFold D.Disk journal.old bodies []) }
     requires folded { (effects : List EffectValue) × IsFolded core.now.end effects }
     requires short { (size : ℕ) → IsFoldedSize core.now.end size → size < 2 ^ 32 }
     ensures added { OnOk result ((effects : List EffectValue) × IsFolded core.now.end effects
-        × HasAdded D.seen D.may_leave journal.old journal.new effects) }
+        × HasAdded D.Disk journal.old journal.new effects) }
     ensures starved { IsErrOf result JournalFault.NoMemory → (journal.new.gate ≡ journal.old.gate)
         × (journal.new.version ≡ journal.old.version) × ((bodies : List (List ℕ))
-        → HasFold D.seen D.may_leave journal.old bodies []
-        → (folded : List (List ℕ)) × HasFold D.seen D.may_leave journal.new bodies folded) }
-    ensures any_moment { (bodies : List (List ℕ)) → HasFold D.seen D.may_leave journal.old bodies []
-        → LeavesOnly D.moment D.left_since journal.old.disk journal.new.disk
+        → HasFold D.Disk journal.old bodies []
+        → (folded : List (List ℕ)) × HasFold D.Disk journal.new bodies folded) }
+    ensures any_moment { (bodies : List (List ℕ)) → HasFold D.Disk journal.old bodies []
+        → LeavesOnly D.Disk journal.old.disk journal.new.disk
         (InVersion journal.old.version (OpensSettled bodies)) }
     ensures faults { IfErr result IsReadFault }
-    ensures cause { TellsCause (D.fault_count journal.old.disk) (D.fault_count journal.new.disk) result }
-    ensures tells { is_some (D.seen journal.new.disk) ≡ is_some (D.seen journal.old.disk) }
+    ensures counts { CountsFault D.Disk journal.old.disk journal.new.disk result }
 {
     let mut part = 0;
     'parts: while add_part(alloc, journal, core, part)? {
@@ -140,19 +137,18 @@ fn add_part<D: Disk>(
         → slice_get effects part ≡ Some effect
         → IsSomeAnd journal.old.fold (λ place. place + record_len (effect ∷ []) + 1 < 2 ^ 32) }
     requires settled { Told (D.seen journal.old.disk) (λ _. (bodies : List (List ℕ)) × (folded : List (List ℕ))
-        × HasFold D.seen D.may_leave journal.old bodies folded) }
+        × HasFold D.Disk journal.old bodies folded) }
     ensures more { IfOk result (λ more. more ≡ true → (effects : List EffectValue) × (effect : EffectValue)
         × IsFolded core.now.end effects × (slice_get effects part ≡ Some effect)
-        × AddsPart D.seen D.may_leave journal.old journal.new effect) }
+        × AddsPart D.Disk journal.old journal.new effect) }
     ensures done { IfOk result (λ more. more ≡ false → (effects : List EffectValue)
         × IsFolded core.now.end effects × (slice_get effects part ≡ None) × (journal.new ≡ journal.old)) }
     ensures starved { IsErrOf result JournalFault.NoMemory → journal.new ≡ journal.old }
-    ensures any_moment { (bodies folded : List (List ℕ)) → HasFold D.seen D.may_leave journal.old bodies folded
-        → LeavesOnly D.moment D.left_since journal.old.disk journal.new.disk
+    ensures any_moment { (bodies folded : List (List ℕ)) → HasFold D.Disk journal.old bodies folded
+        → LeavesOnly D.Disk journal.old.disk journal.new.disk
         (InVersion journal.old.version (OpensSettled bodies)) }
     ensures faults { IfErr result IsReadFault }
-    ensures cause { TellsCause (D.fault_count journal.old.disk) (D.fault_count journal.new.disk) result }
-    ensures tells { is_some (D.seen journal.new.disk) ≡ is_some (D.seen journal.old.disk) }
+    ensures counts { CountsFault D.Disk journal.old.disk journal.new.disk result }
 {
     let effect = match core.folded(part) {
         Ok(Some(effect)) => effect,

@@ -1,13 +1,13 @@
 //! How the journal of an end is opened.
 ghost use Rattle.std.specs.Prelude.{◌≡◌, ℕ, [], IfErr, IfOk, IsNone, OnOk, is_some};
-ghost use Rattle.as4_disk.specs.Runs.{FirstThen, LeavesOnly, Quiet};
+ghost use Rattle.as4_disk.specs.Leaving.{FirstThen, LeavesOnly, Quiet};
 ghost use Rattle.as4_flow.specs.Flow.{Told};
 ghost use Rattle.end_records.specs.Opens.{IsJournalOf, IsOld, ReadsAs, ReopensAs};
 ghost use Rattle.end_records.specs.Unfit.{IsNoJournal};
 ghost use Rattle.exchange_model.specs.End.{End, empty_end};
 ghost use Rattle.exchange_model.specs.Fold.{IsFoldedSize, resized};
 ghost use Rattle.journal.specs.Leaf.{IsNew};
-ghost use Rattle.journal.specs.Faults.{IsCause, IsOpeningFault, TellsCause};
+ghost use Rattle.journal.specs.Faults.{CountsFault, IsCause, IsOpeningFault};
 ghost use Rattle.journal.specs.State.{HasRead};
 ghost use Rattle.journal.specs.Store.{picked_leaf};
 ghost use Rattle.journal.specs.declared.version.Version.TheVariants.{One, Two};
@@ -32,7 +32,7 @@ pub fn open_end<D: Disk>(
     disk: D,
     modes: Modes,
 ) -> Result<(Journal<D>, Core), (JournalFault, D)>
-    ensures kept { IfOk result (λ opened. IsJournalOf D.seen D.may_leave opened.1.end opened.0) }
+    ensures kept { IfOk result (λ opened. IsJournalOf D.Disk opened.1.end opened.0) }
     ensures modes { IfOk result (λ opened. opened.1.modes ≡ modes) }
 
     // The end is that of the records as the disk read; where the leaf was of version 1, its journal was folded.
@@ -43,18 +43,19 @@ pub fn open_end<D: Disk>(
     // Until the journal has settled its selector and its leaf a crash leaves what it might have left before, and from then
     // on a disk that opens as it read.
     ensures any_moment { IfOk result (λ opened. Told (D.seen disk) (λ b.
-        FirstThen D.moment D.left_since disk opened.0.disk (D.may_leave disk) (ReopensAs b))) }
+        FirstThen D.Disk disk opened.0.disk (D.may_leave disk) (ReopensAs b))) }
     ensures failed_moment { IfErr result (λ e. Told (D.seen disk) (λ b.
-        FirstThen D.moment D.left_since disk e.1 (D.may_leave disk) (ReopensAs b))) }
+        FirstThen D.Disk disk e.1 (D.may_leave disk) (ReopensAs b))) }
 
     ensures not_journal { IfErr result (λ e. (at : ℕ) → e.0 ≡ JournalFault.NotJournal at
         → Told (D.seen disk) (λ b. IsNoJournal at (picked_leaf b))) }
     ensures untouched { IfErr result (λ e. (at : ℕ) → e.0 ≡ JournalFault.NotJournal at
-        → Told (D.seen disk) (λ _. Quiet D.moment D.left_since D.seen D.may_leave disk e.1)) }
+        → Told (D.seen disk) (λ _. Quiet D.Disk disk e.1)) }
     ensures faults { IfErr result (λ e. IsOpeningFault e.0) }
     ensures cause { IfErr result (λ e. IsCause (D.fault_count disk) (D.fault_count e.1) e.0) }
     ensures fine { IfOk result (λ opened. D.fault_count opened.0.disk ≡ D.fault_count disk) }
     ensures tells { IfOk result (λ opened. is_some (D.seen opened.0.disk) ≡ is_some (D.seen disk)) }
+    ensures failed_tells { IfErr result (λ e. is_some (D.seen e.1) ≡ is_some (D.seen disk)) }
 {
     let mut journal = match Journal::open(alloc, disk) {
         Ok(journal) => journal,
@@ -80,24 +81,23 @@ fn bring_up<D: Disk>(
     core: &mut Core,
 ) -> Result<(), JournalFault>
     requires new { (core.old.end ≡ empty_end) × (journal.old.gate ≡ 8) × IsNone journal.old.fold }
-    requires read { Told (D.seen journal.old.disk) (λ _. HasRead D.seen D.may_leave journal.old []) }
+    requires read { Told (D.seen journal.old.disk) (λ _. HasRead D.Disk journal.old []) }
     requires version { Told (D.seen journal.old.disk) (λ b. IsNew (picked_leaf b) → journal.old.version ≡ Two) }
-    ensures kept { OnOk result (IsJournalOf D.seen D.may_leave core.new.end journal.new) }
+    ensures kept { OnOk result (IsJournalOf D.Disk core.new.end journal.new) }
     ensures modes { core.new.modes ≡ core.old.modes }
-    ensures end { OnOk result (HasRead D.seen D.may_leave journal.old [] → Told (D.seen journal.old.disk) (λ b. (end : End)
+    ensures end { OnOk result (HasRead D.Disk journal.old [] → Told (D.seen journal.old.disk) (λ b. (end : End)
         × ReadsAs b end
         × (journal.old.version ≡ One → (size : ℕ) × IsFoldedSize end size × (core.new.end ≡ resized size end))
         × (journal.old.version ≡ Two → core.new.end ≡ end))) }
-    ensures any_moment { HasRead D.seen D.may_leave journal.old [] → Told (D.seen journal.old.disk) (λ b.
-        LeavesOnly D.moment D.left_since journal.old.disk journal.new.disk (ReopensAs b)) }
+    ensures any_moment { HasRead D.Disk journal.old [] → Told (D.seen journal.old.disk) (λ b.
+        LeavesOnly D.Disk journal.old.disk journal.new.disk (ReopensAs b)) }
     ensures not_journal { IfErr result (λ e. (at : ℕ) → e ≡ JournalFault.NotJournal at
-        → HasRead D.seen D.may_leave journal.old [] → Told (D.seen journal.old.disk) (λ b.
+        → HasRead D.Disk journal.old [] → Told (D.seen journal.old.disk) (λ b.
         IsNoJournal at (picked_leaf b))) }
     ensures untouched { IfErr result (λ e. (at : ℕ) → e ≡ JournalFault.NotJournal at
-        → Quiet D.moment D.left_since D.seen D.may_leave journal.old.disk journal.new.disk) }
+        → Quiet D.Disk journal.old.disk journal.new.disk) }
     ensures faults { IfErr result IsOpeningFault }
-    ensures cause { TellsCause (D.fault_count journal.old.disk) (D.fault_count journal.new.disk) result }
-    ensures tells { is_some (D.seen journal.new.disk) ≡ is_some (D.seen journal.old.disk) }
+    ensures counts { CountsFault D.Disk journal.old.disk journal.new.disk result }
 {
     read_all(alloc, journal, core)?;
     if journal.version() == WRITTEN_VERSION {

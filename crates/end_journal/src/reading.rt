@@ -1,13 +1,13 @@
 //! How the records of a journal are read, and their effects made again.
-ghost use Rattle.std.specs.Prelude.{◌≡◌, ℕ, ◌+◌, ◌≤◌, ◌^◌, List, [], IfErr, IfOk, OnOk, is_some, length, true, false};
-ghost use Rattle.as4_disk.specs.Runs.{LeavesOnly, Quiet};
+ghost use Rattle.std.specs.Prelude.{◌≡◌, ℕ, ◌+◌, ◌≤◌, ◌^◌, List, [], IfErr, IfOk, OnOk, length, true, false};
+ghost use Rattle.as4_disk.specs.Leaving.{LeavesOnly, Quiet};
 ghost use Rattle.as4_flow.specs.Flow.{Told};
 ghost use Rattle.end_journal.specs.Reading.{EndsReading, HasReplayedAll, ReadsOn};
 ghost use Rattle.end_records.specs.Records.{RecordLeads, RecordsLead};
 ghost use Rattle.end_records.specs.Unfit.{IsNoJournal};
 ghost use Rattle.exchange_model.specs.End.{End, empty_end};
 ghost use Rattle.journal.specs.Leaf.{front_of};
-ghost use Rattle.journal.specs.Faults.{IsOpeningFault, TellsCause};
+ghost use Rattle.journal.specs.Faults.{CountsFault, IsOpeningFault};
 ghost use Rattle.journal.specs.State.{HasRead};
 ghost use Rattle.journal.specs.Store.{Reopens, picked_leaf};
 
@@ -26,18 +26,17 @@ pub(crate) fn read_all<D: Disk>(
 ) -> Result<(), JournalFault>
     requires new { (core.old.end ≡ empty_end) × (journal.old.gate ≡ 8) }
     ensures read { OnOk result ((bodies : List (List ℕ))
-        × HasReplayedAll D.seen D.may_leave journal.old journal.new core.new.end bodies) }
+        × HasReplayedAll D.Disk journal.old journal.new core.new.end bodies) }
     ensures modes { core.new.modes ≡ core.old.modes }
-    ensures any_moment { HasRead D.seen D.may_leave journal.old [] → Told (D.seen journal.old.disk) (λ b.
-        LeavesOnly D.moment D.left_since journal.old.disk journal.new.disk (Reopens b)) }
+    ensures any_moment { HasRead D.Disk journal.old [] → Told (D.seen journal.old.disk) (λ b.
+        LeavesOnly D.Disk journal.old.disk journal.new.disk (Reopens b)) }
     ensures not_journal { IfErr result (λ e. (at : ℕ) → e ≡ JournalFault.NotJournal at
-        → HasRead D.seen D.may_leave journal.old [] → Told (D.seen journal.old.disk) (λ b.
+        → HasRead D.Disk journal.old [] → Told (D.seen journal.old.disk) (λ b.
         IsNoJournal at (picked_leaf b))) }
     ensures untouched { IfErr result (λ e. (at : ℕ) → e ≡ JournalFault.NotJournal at
-        → Quiet D.moment D.left_since D.seen D.may_leave journal.old.disk journal.new.disk) }
+        → Quiet D.Disk journal.old.disk journal.new.disk) }
     ensures faults { IfErr result IsOpeningFault }
-    ensures cause { TellsCause (D.fault_count journal.old.disk) (D.fault_count journal.new.disk) result }
-    ensures tells { is_some (D.seen journal.new.disk) ≡ is_some (D.seen journal.old.disk) }
+    ensures counts { CountsFault D.Disk journal.old.disk journal.new.disk result }
 {
     'records: while replay_next(alloc, journal, core)? {}
     Ok(())
@@ -52,24 +51,23 @@ fn replay_next<D: Disk>(
     requires led { (bodies : List (List ℕ)) × RecordsLead bodies empty_end core.old.end
         × (journal.old.gate ≡ length (front_of journal.old.version bodies)) }
     ensures more { IfOk result (λ more. more ≡ true
-        → ReadsOn D.seen D.may_leave journal.old journal.new core.old.end core.new.end) }
+        → ReadsOn D.Disk journal.old journal.new core.old.end core.new.end) }
     ensures quiet { IfOk result (λ more. more ≡ true
-        → Quiet D.moment D.left_since D.seen D.may_leave journal.old.disk journal.new.disk) }
+        → Quiet D.Disk journal.old.disk journal.new.disk) }
     ensures done { IfOk result (λ more. more ≡ false
-        → EndsReading D.seen D.may_leave journal.old journal.new × (core.new.end ≡ core.old.end)) }
+        → EndsReading D.Disk journal.old journal.new × (core.new.end ≡ core.old.end)) }
     ensures modes { core.new.modes ≡ core.old.modes }
-    ensures any_moment { (bodies : List (List ℕ)) → HasRead D.seen D.may_leave journal.old bodies
+    ensures any_moment { (bodies : List (List ℕ)) → HasRead D.Disk journal.old bodies
         → Told (D.seen journal.old.disk) (λ b.
-        LeavesOnly D.moment D.left_since journal.old.disk journal.new.disk (Reopens b)) }
+        LeavesOnly D.Disk journal.old.disk journal.new.disk (Reopens b)) }
     ensures not_journal { IfErr result (λ e. (at : ℕ) → e ≡ JournalFault.NotJournal at
-        → (bodies : List (List ℕ)) → HasRead D.seen D.may_leave journal.old bodies
+        → (bodies : List (List ℕ)) → HasRead D.Disk journal.old bodies
         → RecordsLead bodies empty_end core.old.end → Told (D.seen journal.old.disk) (λ b.
         IsNoJournal at (picked_leaf b))) }
     ensures untouched { IfErr result (λ e. (at : ℕ) → e ≡ JournalFault.NotJournal at
-        → Quiet D.moment D.left_since D.seen D.may_leave journal.old.disk journal.new.disk) }
+        → Quiet D.Disk journal.old.disk journal.new.disk) }
     ensures faults { IfErr result IsOpeningFault }
-    ensures cause { TellsCause (D.fault_count journal.old.disk) (D.fault_count journal.new.disk) result }
-    ensures tells { is_some (D.seen journal.new.disk) ≡ is_some (D.seen journal.old.disk) }
+    ensures counts { CountsFault D.Disk journal.old.disk journal.new.disk result }
 {
     let Some((gate, body)) = journal.next_record(alloc)? else {
         return Ok(false);

@@ -1,5 +1,6 @@
 -- What a disk opens to, from the records that it opens to.
-use Rattle.std.proofs.Common.{◌≡◌, ◌⊎◌, inl, inr, ⊎_elim, ℕ, ◌<◌, List, [], ◌∷◌, ◌++◌, Option, length, refl, sym, subst, ◌∙◌}
+use Rattle.std.proofs.Common.{◌≡◌, ◌⊎◌, inl, inr, ⊎_elim, ℕ, ◌<◌, List, [], ◌∷◌, ◌++◌, length, refl, sym, subst, ◌∙◌}
+use Rattle.as4_disk.specs.declared.disk.Disk.{Ghosts as DiskMeaning}
 use Rattle.as4_disk.specs.Image.{Image}
 use Rattle.exchange_model.specs.End.{End, empty_end}
 use Rattle.journal.specs.Leaf.{HasMagic, front_of, limit_of}
@@ -100,9 +101,9 @@ reopens_as before after reopens = record { version = reopens.version One; opens 
         (reopens.records bodies by.records)
 
 -- each crash of the journal of an end is at the end
-pub kept_opens : {D : Type 0} (seen : D → Option Image) (may_leave : D → Image → Type 0) (end : End) (journal : Journal D) → IsJournalOf seen may_leave end journal → KeepsEnd seen may_leave journal.disk end
-kept_opens seen may_leave end journal is image told c left =
+pub kept_opens : {D : Type 0} (M : DiskMeaning D) (end : End) (journal : Journal D) → IsJournalOf M end journal → KeepsEnd M journal.disk end
+kept_opens M end journal is image told c left =
     let found = is.records image told in
     let has = found.1 in
-    let two = as_two seen may_leave journal found.0 is.version has in
-    is_at found.0 has.rest end c two.2 (settled_left seen may_leave journal.disk journal.is_second (front_of Two found.0 ++ 0 ∷ has.rest) c two.0 left).2 found.2
+    let two = as_two M journal found.0 is.version has in
+    is_at found.0 has.rest end c two.2 (settled_left M journal.disk journal.is_second (front_of Two found.0 ++ 0 ∷ has.rest) c two.0 left).2 found.2

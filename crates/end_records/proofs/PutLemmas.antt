@@ -1,5 +1,6 @@
 -- A record that is put behind the others.
-use Rattle.std.proofs.Common.{◌≡◌, ◌≢◌, ℕ, ◌+◌, ◌<◌, ◌≤◌, ◌^◌, Bool, List, [], ◌∷◌, ◌++◌, Option, Some, drop, length, refl, subst, ◌∙◌, arith}
+use Rattle.std.proofs.Common.{◌≡◌, ◌≢◌, ℕ, ◌+◌, ◌<◌, ◌≤◌, ◌^◌, Bool, List, [], ◌∷◌, ◌++◌, Some, drop, length, refl, subst, ◌∙◌, arith}
+use Rattle.as4_disk.specs.declared.disk.Disk.{Ghosts as DiskMeaning}
 use Rattle.as4_disk.specs.Bytes.{IsOverwritten, Torn}
 use Rattle.as4_disk.specs.Image.{Image, On}
 use Rattle.exchange_model.specs.End.{End, empty_end}
@@ -58,16 +59,16 @@ module _ (is_second : Bool) (bodies : List (List ℕ)) (body rest : List ℕ) (g
         not_old bodies (byte ∷ behind) e found.1,
       )
 
-pub put : {D : Type 0} (seen : D → Option Image) (may_leave : D → Image → Type 0) (journal : Journal D) (end next : End) (body : List ℕ) → IsJournalOf seen may_leave end journal → RecordLeads body end next → end.size + (length body + 9) ≤ 2 ^ 32
-    → (image : Image) → seen journal.disk ≡ Some image → Puts (may_leave journal.disk) (leaf_of journal.is_second) journal.gate (drop 1 (frame_of body)) end next
-put seen may_leave journal end next body is leads room image told =
+pub put : {D : Type 0} (M : DiskMeaning D) (journal : Journal D) (end next : End) (body : List ℕ) → IsJournalOf M end journal → RecordLeads body end next → end.size + (length body + 9) ≤ 2 ^ 32
+    → (image : Image) → M.seen journal.disk ≡ Some image → Puts (M.may_leave journal.disk) (leaf_of journal.is_second) journal.gate (drop 1 (frame_of body)) end next
+put M journal end next body is leads room image told =
     let found = is.records image told in
     let bodies = found.0 in
     let has = found.1 in
-    let two = as_two seen may_leave journal bodies is.version has in
+    let two = as_two M journal bodies is.version has in
     let within : length (front_of Two (bodies ++ body ∷ [])) < limit_of Two = omega (arith, room, is.size, two.1, length-front_more Two bodies body) in
-    let at : (c : Image) → may_leave journal.disk c → (is_second_of c ≡ journal.is_second) × (picked_leaf c ≡ front_of Two bodies ++ 0 ∷ has.rest) =
-    λ c left. (let was = settled_left seen may_leave journal.disk journal.is_second (front_of Two bodies ++ 0 ∷ has.rest) c two.0 left in (was.0, was.2)) in
+    let at : (c : Image) → M.may_leave journal.disk c → (is_second_of c ≡ journal.is_second) × (picked_leaf c ≡ front_of Two bodies ++ 0 ∷ has.rest) =
+    λ c left. (let was = settled_left M journal.disk journal.is_second (front_of Two bodies ++ 0 ∷ has.rest) c two.0 left in (was.0, was.2)) in
     let tail = drop 1 (frame_of body) in
     let P : Image → Image → List ℕ → Type 0 = λ c d l. On (leaf_of journal.is_second) (IsOverwritten (journal.gate + 1) l) c d in
     record {

@@ -1,7 +1,8 @@
 -- What a disk opens to, as an end. A leaf of version 1 opens to the end that its records lead to, with the size that
 -- they have in version 2, which is what an office writes.
-use Rattle.std.specs.Prelude.{◌≡◌, ◌⊎◌, ℕ, ◌+◌, List, Option, IsNone}
+use Rattle.std.specs.Prelude.{◌≡◌, ◌⊎◌, ℕ, ◌+◌, List, IsNone}
 use Rattle.as4_disk.specs.Image.{Image}
+use Rattle.as4_disk.specs.declared.disk.Disk.{Ghosts as DiskMeaning}
 use Rattle.as4_flow.specs.Flow.{Told}
 use Rattle.end_records.specs.Records.{RecordLeads, RecordsLead}
 use Rattle.exchange_model.specs.End.{End, empty_end}
@@ -81,13 +82,13 @@ abbrev pub ReadsAs : Image → End → Type 0
 ReadsAs image end = (bodies : List (List ℕ)) × Lists bodies (picked_leaf image) × RecordsLead bodies empty_end end
 
 -- on a disk that tells, each crash leaves one that is at this end
-abbrev pub KeepsEnd : {D : Type 0} → (D → Option Image) → (D → Image → Type 0) → D → End → Type 0
-KeepsEnd seen may_leave disk end = Told (seen disk) (λ _. (c : Image) → may_leave disk c → IsAt c end)
+abbrev pub KeepsEnd : {D : Type 0} → DiskMeaning D → D → End → Type 0
+KeepsEnd M disk end = Told (M.seen disk) (λ _. (c : Image) → M.may_leave disk c → IsAt c end)
 
 -- The journal of an end: of version 2, as long as the end says, and no fold is open. On a disk that tells it has records
 -- that lead to the end.
-pub record IsJournalOf {D : Type 0} (seen : D → Option Image) (may_leave : D → Image → Type 0) (end : End) (journal : Journal D) : Type 0 where
+pub record IsJournalOf {D : Type 0} (M : DiskMeaning D) (end : End) (journal : Journal D) : Type 0 where
   pub version : journal.version ≡ Two
   pub no_fold : IsNone journal.fold
   pub size : end.size ≡ journal.gate + 1
-  pub records : Told (seen journal.disk) (λ _. (bodies : List (List ℕ)) × HasRecords seen may_leave journal bodies × RecordsLead bodies empty_end end)
+  pub records : Told (M.seen journal.disk) (λ _. (bodies : List (List ℕ)) × HasRecords M journal bodies × RecordsLead bodies empty_end end)

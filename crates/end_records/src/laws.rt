@@ -53,7 +53,7 @@ pub fn no_whole_disk_is_unfit()
 /// A record that leads on from the end of a journal, and has room there, is put behind the others so that no crash leaves
 /// anything but the end before, the one behind, or the one before with this record pending.
 pub fn a_record_is_put<D: Disk>()
-    ensures { (journal : _) (end next : End) (body : List ℕ) → IsJournalOf D.seen D.may_leave end journal
+    ensures { (journal : _) (end next : End) (body : List ℕ) → IsJournalOf D.Disk end journal
         → RecordLeads body end next → end.size + (length body + 9) ≤ 2 ^ 32 → Told (D.seen journal.disk) (λ _.
         Puts (D.may_leave journal.disk) (leaf_of journal.is_second) journal.gate (drop 1 (frame_of body)) end next) }
 {}

@@ -1,11 +1,11 @@
 -- A record of a leaf, by the place of its gate.
-use Rattle.std.proofs.Common.{◌≡◌, ℕ, ◌<◌, Option, List, [], ◌∷◌, ◌++◌, length, drop, get_or, refl, sym, ◌∙◌, ap, subst, arith, append_assoc, length-append}
+use Rattle.std.proofs.Common.{◌≡◌, ℕ, ◌<◌, List, [], ◌∷◌, ◌++◌, length, drop, get_or, refl, sym, ◌∙◌, ap, subst, arith, append_assoc, length-append}
 use Rattle.std.specs.Prelude.{flat_map}
 use Rattle.std.proofs.lemmas.List.{drop_at}
 use Rattle.std.proofs.lemmas.List.Concat.{flat_map-append}
 use Rattle.as4_flow.specs.Flow.{Told}
+use Rattle.as4_disk.specs.declared.disk.Disk.{Ghosts as DiskMeaning}
 use Rattle.as4_disk.specs.declared.part.Part.{Part}
-use Rattle.as4_disk.specs.Image.{Image}
 use Rattle.journal.specs.declared.version.Version.{Version}
 use Rattle.journal.specs.Leaf.{magic_of, limit_of, length_bytes, record_of, front_of}
 use Rattle.journal.specs.declared.reading.Next.{Next}
@@ -82,9 +82,9 @@ module _ (version : Version) (before after : List (List ℕ)) (body rest : List 
   reads_record within Broken is = has_body within (is 1 from here).1
 
 -- over the leaf of a journal with these records
-pub fetched : {D : Type 0} (seen : D → Option Image) (may_leave : D → Image → Type 0) (journal : Journal D) (part : Part) (gate : ℕ) (next : Next) (before after : List (List ℕ)) (body : List ℕ) → HasRecords seen may_leave journal (before ++ body ∷ after) → gate ≡ length (front_of journal.version before)
-    → part ≡ leaf_of journal.is_second → Told (seen journal.disk) (λ b. IsNext journal.version gate (b part) next) → IsRecordOf body next
-fetched seen may_leave journal part gate next before after body has place picked read =
+pub fetched : {D : Type 0} (M : DiskMeaning D) (journal : Journal D) (part : Part) (gate : ℕ) (next : Next) (before after : List (List ℕ)) (body : List ℕ) → HasRecords M journal (before ++ body ∷ after) → gate ≡ length (front_of journal.version before)
+    → part ≡ leaf_of journal.is_second → Told (M.seen journal.disk) (λ b. IsNext journal.version gate (b part) next) → IsRecordOf body next
+fetched M journal part gate next before after body has place picked read =
     let P : List ℕ → Type 0 = λ l. IsNext journal.version gate l next in
     reads_record journal.version before after body has.rest gate place has.within next
     (subst P (ap has.settled.image picked ∙ has.settled.bytes) (read has.settled.image has.settled.told))

@@ -1,5 +1,6 @@
 -- What the layer above may cite of a journal's state, and of the images that a crash leaves.
-use Rattle.std.proofs.Common.{◌≡◌, inl, inr, ℕ, ◌<◌, List, ◌∷◌, ◌++◌, Option, Some, length, subst, arith}
+use Rattle.std.proofs.Common.{◌≡◌, inl, inr, ℕ, ◌<◌, List, ◌∷◌, ◌++◌, Some, length, subst, arith}
+use Rattle.as4_disk.specs.declared.disk.Disk.{Ghosts as DiskMeaning}
 use Rattle.as4_disk.specs.Image.{Image}
 use Rattle.journal.specs.declared.version.Version.{Version}
 use Rattle.journal.specs.declared.version.Version.TheVariants.{Two}
@@ -12,17 +13,17 @@ use Rattle.journal.proofs.StoreLemmas.{new_none, keeps_records, keeps_pending, s
 
 -- ---- a journal
 
-module _ {D : Type 0} (seen : D → Option Image) (may_leave : D → Image → Type 0) (journal : Journal D) (bodies : List (List ℕ)) where
+module _ {D : Type 0} (M : DiskMeaning D) (journal : Journal D) (bodies : List (List ℕ)) where
   -- the disk begins with what was read of it
-  pub read_front : (b : Image) → HasRead seen may_leave journal bodies → seen journal.disk ≡ Some b → (rest : List ℕ) × (picked_leaf b ≡ front_of journal.version bodies ++ rest) × (length (front_of journal.version bodies) < limit_of journal.version)
+  pub read_front : (b : Image) → HasRead M journal bodies → M.seen journal.disk ≡ Some b → (rest : List ℕ) × (picked_leaf b ≡ front_of journal.version bodies ++ rest) × (length (front_of journal.version bodies) < limit_of journal.version)
   read_front b read told =
-      (read.next ∷ read.rest, (settled_told seen may_leave journal.disk journal.is_second (front_of journal.version bodies ++ read.next ∷ read.rest) b read.settled told).2, read.within)
+      (read.next ∷ read.rest, (settled_told M journal.disk journal.is_second (front_of journal.version bodies ++ read.next ∷ read.rest) b read.settled told).2, read.within)
 
 -- a journal of version 2
-pub as_two : {D : Type 0} (seen : D → Option Image) (may_leave : D → Image → Type 0) (journal : Journal D) (bodies : List (List ℕ)) → journal.version ≡ Two → (has : HasRecords seen may_leave journal bodies)
-    → IsSettled seen may_leave journal.disk journal.is_second (front_of Two bodies ++ 0 ∷ has.rest) × (journal.gate ≡ length (front_of Two bodies)) × (length (front_of Two bodies) < limit_of Two)
-as_two seen may_leave journal bodies is_two has =
-    let P : Version → Type 0 = λ v. IsSettled seen may_leave journal.disk journal.is_second (front_of v bodies ++ 0 ∷ has.rest) × (journal.gate ≡ length (front_of v bodies)) × (length (front_of v bodies) < limit_of v) in
+pub as_two : {D : Type 0} (M : DiskMeaning D) (journal : Journal D) (bodies : List (List ℕ)) → journal.version ≡ Two → (has : HasRecords M journal bodies)
+    → IsSettled M journal.disk journal.is_second (front_of Two bodies ++ 0 ∷ has.rest) × (journal.gate ≡ length (front_of Two bodies)) × (length (front_of Two bodies) < limit_of Two)
+as_two M journal bodies is_two has =
+    let P : Version → Type 0 = λ v. IsSettled M journal.disk journal.is_second (front_of v bodies ++ 0 ∷ has.rest) × (journal.gate ≡ length (front_of v bodies)) × (length (front_of v bodies) < limit_of v) in
     subst P is_two (has.settled, has.place, has.within)
 
 -- ---- what keeps the leaf

@@ -1,11 +1,12 @@
 -- What is met at the gate behind the records that were read.
 use Rattle.std.proofs.Common.{◌≡◌, ◌≢◌, inl, ℕ, ◌<◌, Bool, List, [], ◌∷◌, ◌++◌, Option, Some, length, drop, get_or, sym, ◌∙◌, ap, subst, arith}
 use Rattle.std.proofs.lemmas.List.{drop_at}
+use Rattle.as4_disk.specs.declared.disk.Disk.{Ghosts as DiskMeaning}
 use Rattle.as4_disk.specs.Bytes.{Torn}
 use Rattle.as4_disk.specs.Image.{Image}
 use Rattle.as4_flow.specs.Flow.{Told}
 use Rattle.as4_disk.specs.declared.part.Part.{Part}
-use Rattle.as4_disk.specs.Runs.{LeavesOnly, Quiet}
+use Rattle.as4_disk.specs.Leaving.{LeavesOnly, Quiet}
 use Rattle.as4_disk.proofs.ByteLemmas.{torn_byte}
 use Rattle.as4_disk.proofs.RunLemmas.{then, weaken}
 use Rattle.journal.specs.declared.version.Version.{Version}
@@ -67,20 +68,20 @@ module _ (version : Version) (bodies : List (List ℕ)) (byte : ℕ) (rest : Lis
       closing_reopens version bodies byte any.0 rest before after within closed not_zero bytes any.1
 
 -- a read that wrote nothing, where the leaf was settled: the records, a gate and what stands behind it
-module _ {D : Type 0} (moment : D → ℕ) (left_since : D → ℕ → Image → Type 0) (seen : D → Option Image) (may_leave : D → Image → Type 0) (old mid : D) (quiet : Quiet moment left_since seen may_leave old mid) (is_second : Bool) (version : Version) (bodies : List (List ℕ)) (byte : ℕ) (rest : List ℕ) (gate : ℕ) (place : gate ≡ length (front_of version bodies)) (is : IsSettled seen may_leave old is_second (front_of version bodies ++ byte ∷ rest)) where
+module _ {D : Type 0} (M : DiskMeaning D) (old mid : D) (quiet : Quiet M old mid) (is_second : Bool) (version : Version) (bodies : List (List ℕ)) (byte : ℕ) (rest : List ℕ) (gate : ℕ) (place : gate ≡ length (front_of version bodies)) (is : IsSettled M old is_second (front_of version bodies ++ byte ∷ rest)) where
   abbrev leaf : List ℕ
   leaf = front_of version bodies ++ byte ∷ rest
 
-  pub still : IsSettled seen may_leave mid is_second leaf
-  still = settled_within seen may_leave old mid is_second leaf quiet.same quiet.within is
+  pub still : IsSettled M mid is_second leaf
+  still = settled_within M old mid is_second leaf quiet.same quiet.within is
 
-  pub read_run : (b : Image) → seen old ≡ Some b → LeavesOnly moment left_since old mid (Reopens b)
+  pub read_run : (b : Image) → M.seen old ≡ Some b → LeavesOnly M old mid (Reopens b)
   read_run b told =
-      weaken moment left_since old mid (may_leave old) (Reopens b)
-      (λ image left. keeps_reopens b image (inl ((settled_left seen may_leave old is_second leaf image is left).2 ∙ sym (settled_told seen may_leave old is_second leaf b is told).2)))
+      weaken M old mid (M.may_leave old) (Reopens b)
+      (λ image left. keeps_reopens b image (inl ((settled_left M old is_second leaf image is left).2 ∙ sym (settled_told M old is_second leaf b is told).2)))
       quiet.run
 
-  module _ (part : Part) (picked : part ≡ leaf_of is_second) (ahead : Option (List ℕ)) (is_ahead : IsAhead version (byte ∷ rest) ahead) (found : Next) (read : Told (seen old) (λ b. IsAhead version (drop gate (b part)) ahead → IsNext version gate (b part) found)) where
+  module _ (part : Part) (picked : part ≡ leaf_of is_second) (ahead : Option (List ℕ)) (is_ahead : IsAhead version (byte ∷ rest) ahead) (found : Next) (read : Told (M.seen old) (λ b. IsAhead version (drop gate (b part)) ahead → IsNext version gate (b part) found)) where
     of_leaf : (next : Next) → found ≡ next → IsNext version gate leaf next
     of_leaf next same =
         let P : List ℕ → Type 0 = λ l. IsAhead version (drop gate l) ahead → IsNext version gate l found in
@@ -88,13 +89,13 @@ module _ {D : Type 0} (moment : D → ℕ) (left_since : D → ℕ → Image →
         let R : List ℕ → Type 0 = λ l. IsAhead version l ahead in
         subst Q same (subst P (ap is.image picked ∙ is.bytes) (read is.image is.told) (subst R (sym (gate_here version bodies byte rest gate place)) is_ahead))
 
-    pub read_record : (body : List ℕ) (more : Option (List ℕ)) → found ≡ Record body more → Passes seen may_leave mid is_second version bodies byte rest (Record body more)
+    pub read_record : (body : List ℕ) (more : Option (List ℕ)) → found ≡ Record body more → Passes M mid is_second version bodies byte rest (Record body more)
     read_record body more same =
         let behind = passes_record version bodies byte rest gate place body more (of_leaf (Record body more) same) in
-        let P : List ℕ → Type 0 = IsSettled seen may_leave mid is_second in
+        let P : List ℕ → Type 0 = IsSettled M mid is_second in
         (behind.0, behind.1, subst P behind.2 still, behind.3, behind.4)
 
-    pub read_broken : found ≡ Broken → Passes seen may_leave mid is_second version bodies byte rest Broken
+    pub read_broken : found ≡ Broken → Passes M mid is_second version bodies byte rest Broken
     read_broken same = passes_broken version bodies byte rest gate place (of_leaf Broken same)
 
     pub read_closed : (met : ℕ) → found ≡ Closed met → (byte ≡ met) × (byte ≢ 1)
@@ -102,11 +103,11 @@ module _ {D : Type 0} (moment : D → ℕ) (left_since : D → ℕ → Image →
 
     -- and then the gate is closed
     pub closing_run : (new : D) (met : ℕ) → found ≡ Closed met → met ≢ 0 → length (front_of version bodies) < limit_of version
-        → ((l : List ℕ) → IsSettled seen may_leave mid is_second l → LeavesOnly moment left_since mid new (λ c. Torn gate 1 l (picked_leaf c)))
-        → (b : Image) → seen old ≡ Some b → LeavesOnly moment left_since old new (Reopens b)
+        → ((l : List ℕ) → IsSettled M mid is_second l → LeavesOnly M mid new (λ c. Torn gate 1 l (picked_leaf c)))
+        → (b : Image) → M.seen old ≡ Some b → LeavesOnly M old new (Reopens b)
     closing_run new met same not_zero within run b told =
         let closed = read_closed met same in
-        then moment left_since old mid new (Reopens b) (read_run b told)
-        (weaken moment left_since mid new (λ (image : Image). Torn gate 1 leaf (picked_leaf image)) (Reopens b)
-        (λ image torn. torn_gate version bodies byte rest gate place b image within closed.1 (λ zero_is. not_zero (sym closed.0 ∙ zero_is)) (settled_told seen may_leave old is_second leaf b is told).2 torn)
+        then M old mid new (Reopens b) (read_run b told)
+        (weaken M mid new (λ (image : Image). Torn gate 1 leaf (picked_leaf image)) (Reopens b)
+        (λ image torn. torn_gate version bodies byte rest gate place b image within closed.1 (λ zero_is. not_zero (sym closed.0 ∙ zero_is)) (settled_told M old is_second leaf b is told).2 torn)
         (run leaf still))

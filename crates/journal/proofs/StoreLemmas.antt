@@ -3,6 +3,7 @@ use Rattle.std.proofs.Common.{◌≡◌, ◌≢◌, ◌⊎◌, inl, inr, ⊎_eli
 use Rattle.std.specs.Prelude.{flat_map}
 use Rattle.std.proofs.lemmas.Bool.{cases_eq}
 use Rattle.std.proofs.lemmas.List.{append-nil}
+use Rattle.as4_disk.specs.declared.disk.Disk.{Ghosts as DiskMeaning}
 use Rattle.as4_disk.specs.declared.part.Part.{Part}
 use Rattle.as4_disk.specs.declared.part.Part.TheVariants.{Selector}
 use Rattle.as4_disk.specs.Bytes.{IsOverwritten, Torn}
@@ -214,41 +215,41 @@ picked_on part is_second step c d is_part picked on =
     let Q : List ℕ → Type 0 = λ l. step l (d part) in
     (still, subst (step (picked_leaf c)) now (subst Q was on.there))
 
-module _ {D : Type 0} (seen : D → Option Image) (may_leave : D → Image → Type 0) where
+module _ {D : Type 0} (M : DiskMeaning D) where
   -- what a read gives is what is settled
-  pub settled_told : (disk : D) (is_second : Bool) (leaf : List ℕ) (image : Image) → IsSettled seen may_leave disk is_second leaf → seen disk ≡ Some image → (is_second_of image ≡ is_second) × (image (leaf_of is_second) ≡ leaf) × (picked_leaf image ≡ leaf)
+  pub settled_told : (disk : D) (is_second : Bool) (leaf : List ℕ) (image : Image) → IsSettled M disk is_second leaf → M.seen disk ≡ Some image → (is_second_of image ≡ is_second) × (image (leaf_of is_second) ≡ leaf) × (picked_leaf image ≡ leaf)
   settled_told disk is_second leaf image is told =
       let same = told_same is.image image is.told told in
       let P : Image → Type 0 = λ i. (is_second_of i ≡ is_second) × (i (leaf_of is_second) ≡ leaf) × (picked_leaf i ≡ leaf) in
       subst P same (is.picked, is.bytes, picked_at is.image is_second is.picked ∙ is.bytes)
 
   -- and so is what a crash leaves
-  pub settled_left : (disk : D) (is_second : Bool) (leaf : List ℕ) (c : Image) → IsSettled seen may_leave disk is_second leaf → may_leave disk c → (is_second_of c ≡ is_second) × (c (leaf_of is_second) ≡ leaf) × (picked_leaf c ≡ leaf)
+  pub settled_left : (disk : D) (is_second : Bool) (leaf : List ℕ) (c : Image) → IsSettled M disk is_second leaf → M.may_leave disk c → (is_second_of c ≡ is_second) × (c (leaf_of is_second) ≡ leaf) × (picked_leaf c ≡ leaf)
   settled_left disk is_second leaf c is left =
       let picked : is_second_of c ≡ is_second = ap picks (is.selector_only c left) ∙ is.picked in
       let bytes : c (leaf_of is_second) ≡ leaf = is.leaf_only c left ∙ is.bytes in
       (picked, bytes, picked_at c is_second picked ∙ bytes)
 
   -- it stays where nothing is written
-  pub settled_within : (old new : D) (is_second : Bool) (leaf : List ℕ) → seen new ≡ seen old → Within (may_leave old) (may_leave new) → IsSettled seen may_leave old is_second leaf → IsSettled seen may_leave new is_second leaf
+  pub settled_within : (old new : D) (is_second : Bool) (leaf : List ℕ) → M.seen new ≡ M.seen old → Within (M.may_leave old) (M.may_leave new) → IsSettled M old is_second leaf → IsSettled M new is_second leaf
   settled_within old new is_second leaf same within is = record {
     image = is.image;
     told = same ∙ is.told;
     picked = is.picked;
     bytes = is.bytes;
-    selector_only = only_within Selector is.image (may_leave old) (may_leave new) within is.selector_only;
-    leaf_only = only_within (leaf_of is_second) is.image (may_leave old) (may_leave new) within is.leaf_only;
+    selector_only = only_within Selector is.image (M.may_leave old) (M.may_leave new) within is.selector_only;
+    leaf_only = only_within (leaf_of is_second) is.image (M.may_leave old) (M.may_leave new) within is.leaf_only;
   }
 
   -- a durable write to the picked leaf
   pub settled_written : (old new : D) (part : Part) (is_second : Bool) (front rest bytes : List ℕ) → part ≡ leaf_of is_second
-      → Goes (On part (IsOverwritten (length front) bytes)) (seen old) (seen new) → is_some (seen new) ≡ is_some (seen old)
-      → Follows (On part (Torn (length front) (length bytes))) (may_leave old) (may_leave new) → Told (seen new) (λ b. IsOnly part b (may_leave new))
-      → IsSettled seen may_leave old is_second (front ++ rest) → IsSettled seen may_leave new is_second (front ++ bytes ++ drop (length bytes) rest)
+      → Goes (On part (IsOverwritten (length front) bytes)) (M.seen old) (M.seen new) → is_some (M.seen new) ≡ is_some (M.seen old)
+      → Follows (On part (Torn (length front) (length bytes))) (M.may_leave old) (M.may_leave new) → Told (M.seen new) (λ b. IsOnly part b (M.may_leave new))
+      → IsSettled M old is_second (front ++ rest) → IsSettled M new is_second (front ++ bytes ++ drop (length bytes) rest)
   settled_written old new part is_second front rest bytes is_part goes tells crash durable is =
       let P : Part → Type 0 = λ p. Selector ≢ p in
       let other : Selector ≢ part = subst P (sym is_part) (leaf_not_selector is_second) in
-      let told = tells_some (seen new) (tells ∙ ap (λ (o : Option Image). is_some o) is.told) in
+      let told = tells_some (M.seen new) (tells ∙ ap (λ (o : Option Image). is_some o) is.told) in
       let step = goes is.image told.0 is.told told.1 in
       let here : told.0 (leaf_of is_second) ≡ front ++ bytes ++ drop (length bytes) rest =
       ap told.0 (sym is_part) ∙ overwritten_behind front rest bytes (told.0 part) (let Q : List ℕ → Type 0 = λ l. IsOverwritten (length front) bytes l (told.0 part) in subst Q (ap is.image is_part ∙ is.bytes) step.there) in
@@ -257,12 +258,12 @@ module _ {D : Type 0} (seen : D → Option Image) (may_leave : D → Image → T
         told = told.1;
         picked = ap picks (step.elsewhere Selector other) ∙ is.picked;
         bytes = here;
-        selector_only = λ c left. only_elsewhere Selector part (Torn (length front) (length bytes)) is.image (may_leave old) (may_leave new) other crash is.selector_only c left ∙ sym (step.elsewhere Selector other);
+        selector_only = λ c left. only_elsewhere Selector part (Torn (length front) (length bytes)) is.image (M.may_leave old) (M.may_leave new) other crash is.selector_only c left ∙ sym (step.elsewhere Selector other);
         leaf_only = λ c left. ap c (sym is_part) ∙ durable told.0 told.1 c left ∙ ap told.0 is_part;
       }
 
   -- and what a crash leaves in the middle of it
-  pub torn_picked : (old : D) (part : Part) (is_second : Bool) (at n : ℕ) (leaf : List ℕ) (c : Image) → part ≡ leaf_of is_second → IsSettled seen may_leave old is_second leaf → TornFrom part at n (may_leave old) c → Torn at n leaf (picked_leaf c)
+  pub torn_picked : (old : D) (part : Part) (is_second : Bool) (at n : ℕ) (leaf : List ℕ) (c : Image) → part ≡ leaf_of is_second → IsSettled M old is_second leaf → TornFrom part at n (M.may_leave old) c → Torn at n leaf (picked_leaf c)
   torn_picked old part is_second at n leaf c is_part is from =
       let was = settled_left old is_second leaf from.0 is from.1 in
       let P : List ℕ → Type 0 = λ l. Torn at n l (picked_leaf c) in

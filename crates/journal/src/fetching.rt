@@ -1,9 +1,9 @@
 //! One record of a journal, by the place of its gate.
 ghost use Rattle.std.specs.Prelude.{◌≡◌, ◌++◌, ◌∷◌, ◌<◌, IfOk, IfErr, length};
-ghost use Rattle.as4_disk.specs.Runs.{Quiet};
+ghost use Rattle.as4_disk.specs.Leaving.{Quiet};
 
+use crate::picked_leaf::leaf_part;
 use crate::reading::{Next, read_next};
-use crate::store::leaf_part;
 use crate::{Journal, JournalFault};
 use as4_disk::{Disk, ReadFault};
 use as4_values::Octets;
@@ -14,17 +14,17 @@ impl<D: Disk> Journal<D> {
     ghost use Rattle.journal.specs.Faults.{IsReadFault, TellsCause};
     ghost use Rattle.journal.specs.State.{HasRecords};
 
-    /// The body of the record whose gate stands at that place, as `next_record` or `append` gave it. Over a disk that
-    /// doesn't tell, where no record stands there, an empty body.
+    /// The body of the record whose gate is at that place, as `next_record` or `append` gave it. Over a disk whose
+    /// content isn't observable, an empty body where there is no record.
     pub fn fetch(&mut self, alloc: Global, gate: u64) -> Result<Octets, JournalFault>
         ensures found { IfOk result (λ got. (before : _) (body : _) (after : _)
-            → HasRecords D.seen D.may_leave self.old (before ++ body ∷ after)
+            → HasRecords D.Disk self.old (before ++ body ∷ after)
             → gate ≡ length (front_of self.old.version before) → got ≡ body) }
         ensures kept { (bodies : _)
-            → HasRecords D.seen D.may_leave self.old bodies → HasRecords D.seen D.may_leave self.new bodies }
+            → HasRecords D.Disk self.old bodies → HasRecords D.Disk self.new bodies }
         ensures same { (self.new.gate ≡ self.old.gate) × (self.new.version ≡ self.old.version)
             × (self.new.fold ≡ self.old.fold) }
-        ensures quiet { Quiet D.moment D.left_since D.seen D.may_leave self.old.disk self.new.disk }
+        ensures quiet { Quiet D.Disk self.old.disk self.new.disk }
 
         ensures faults { IfErr result IsReadFault }
         ensures cause { TellsCause (D.fault_count self.old.disk) (D.fault_count self.new.disk) result }

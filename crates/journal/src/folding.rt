@@ -1,7 +1,7 @@
-//! How a journal is folded: other records that stand for its own are written to the other leaf, which is then picked.
-ghost use Rattle.std.specs.Prelude.{◌≡◌, ◌+◌, ◌<◌, ◌^◌, ◌++◌, [], ◌∷◌, List, ℕ, Some, IfOk, IfErr, OnOk, IsNone, IsSome, IsSomeAnd, length, is_some};
+//! How a journal is compacted: other records are written to the other leaf, which is then picked.
+ghost use Rattle.std.specs.Prelude.{◌≡◌, ◌+◌, ◌<◌, ◌^◌, ◌++◌, [], ◌∷◌, List, ℕ, Some, IfOk, IfErr, OnOk, IsNone, IsSome, IsSomeAnd, length};
 ghost use Rattle.as4_flow.specs.Flow.{Told};
-ghost use Rattle.as4_disk.specs.Runs.{LeavesOnly, FirstThen};
+ghost use Rattle.as4_disk.specs.Leaving.{FirstThen, LeavesOnly};
 
 use crate::other::{empty_other, finish_other, write_other};
 use crate::version::Version;
@@ -10,26 +10,25 @@ use as4_disk::{Disk, DiskFailed};
 
 impl<D: Disk> Journal<D> {
     ghost use Rattle.journal.specs.Store.{InVersion, OpensSettled, OpensToEither};
-    ghost use Rattle.journal.specs.Faults.{IsDiskFault, TellsCause};
+    ghost use Rattle.journal.specs.Faults.{CountsFault, IsDiskFault};
     ghost use Rattle.journal.specs.State.{HasFold, HasRecords};
 
     /// Opens a fold, which has no records yet. All records have been read, and no call has answered Disk. It takes no
     /// memory.
     pub fn fold_start(&mut self) -> Result<(), JournalFault>
         requires settled { Told (D.seen self.old.disk) (λ _. (bodies : List (List ℕ))
-            × HasRecords D.seen D.may_leave self.old bodies) }
+            × HasRecords D.Disk self.old bodies) }
         requires no_fold { IsNone self.old.fold }
-        ensures open { OnOk result ((bodies : _) → HasRecords D.seen D.may_leave self.old bodies
-            → HasFold D.seen D.may_leave self.new bodies []) }
+        ensures open { OnOk result ((bodies : _) → HasRecords D.Disk self.old bodies
+            → HasFold D.Disk self.new bodies []) }
         ensures place { OnOk result (self.new.fold ≡ Some 8) }
         ensures same { (self.new.gate ≡ self.old.gate) × (self.new.version ≡ self.old.version) }
-        ensures any_moment { (bodies : _) → HasRecords D.seen D.may_leave self.old bodies
-            → LeavesOnly D.moment D.left_since self.old.disk self.new.disk
+        ensures any_moment { (bodies : _) → HasRecords D.Disk self.old bodies
+            → LeavesOnly D.Disk self.old.disk self.new.disk
             (InVersion self.old.version (OpensSettled bodies)) }
 
         ensures faults { IfErr result IsDiskFault }
-        ensures cause { TellsCause (D.fault_count self.old.disk) (D.fault_count self.new.disk) result }
-        ensures tells { is_some (D.seen self.new.disk) ≡ is_some (D.seen self.old.disk) }
+        ensures counts { CountsFault D.Disk self.old.disk self.new.disk result }
     {
         let before = self.disk.faults();
         match empty_other(&mut self.disk, self.is_second) {
@@ -49,19 +48,18 @@ impl<D: Disk> Journal<D> {
     pub fn fold_add(&mut self, frame: &Frame) -> Result<u64, JournalFault>
         requires room { IsSomeAnd self.old.fold (λ place. place + length frame.now + 10 < 2 ^ 32) }
         requires settled { Told (D.seen self.old.disk) (λ _. (bodies : List (List ℕ)) × (folded : List (List ℕ))
-            × HasFold D.seen D.may_leave self.old bodies folded) }
-        ensures added { OnOk result ((bodies : _) (folded : _) → HasFold D.seen D.may_leave self.old bodies folded
-            → HasFold D.seen D.may_leave self.new bodies (folded ++ frame.now ∷ [])) }
-        ensures any_moment { (bodies : _) (folded : _) → HasFold D.seen D.may_leave self.old bodies folded
-            → LeavesOnly D.moment D.left_since self.old.disk self.new.disk
+            × HasFold D.Disk self.old bodies folded) }
+        ensures added { OnOk result ((bodies : _) (folded : _) → HasFold D.Disk self.old bodies folded
+            → HasFold D.Disk self.new bodies (folded ++ frame.now ∷ [])) }
+        ensures any_moment { (bodies : _) (folded : _) → HasFold D.Disk self.old bodies folded
+            → LeavesOnly D.Disk self.old.disk self.new.disk
             (InVersion self.old.version (OpensSettled bodies)) }
         ensures gate { IfOk result (λ gate. self.old.fold ≡ Some gate) }
         ensures place { IfOk result (λ gate. self.new.fold ≡ Some (gate + 9 + length frame.now)) }
         ensures same { (self.new.gate ≡ self.old.gate) × (self.new.version ≡ self.old.version) }
 
         ensures faults { IfErr result IsDiskFault }
-        ensures cause { TellsCause (D.fault_count self.old.disk) (D.fault_count self.new.disk) result }
-        ensures tells { is_some (D.seen self.new.disk) ≡ is_some (D.seen self.old.disk) }
+        ensures counts { CountsFault D.Disk self.old.disk self.new.disk result }
     {
         let gate = self.fold.unwrap();
         let before = self.disk.faults();
@@ -81,22 +79,21 @@ impl<D: Disk> Journal<D> {
     pub fn fold_finish(&mut self) -> Result<(), JournalFault>
         requires open { IsSome self.old.fold }
         requires settled { Told (D.seen self.old.disk) (λ _. (bodies : List (List ℕ)) × (folded : List (List ℕ))
-            × HasFold D.seen D.may_leave self.old bodies folded) }
-        ensures folded { OnOk result ((bodies : _) (folded : _) → HasFold D.seen D.may_leave self.old bodies folded
-            → HasRecords D.seen D.may_leave self.new folded) }
+            × HasFold D.Disk self.old bodies folded) }
+        ensures folded { OnOk result ((bodies : _) (folded : _) → HasFold D.Disk self.old bodies folded
+            → HasRecords D.Disk self.new folded) }
         ensures version { OnOk result (self.new.version ≡ Version.Two) }
         ensures closed { OnOk result (IsNone self.new.fold) }
         ensures gate { OnOk result (self.old.fold ≡ Some self.new.gate) }
 
         // Until the other leaf has been settled a crash leaves the old records in the old version, and from then on
         // these or the new in version 2.
-        ensures any_moment { (bodies : _) (folded : _) → HasFold D.seen D.may_leave self.old bodies folded
-            → FirstThen D.moment D.left_since self.old.disk self.new.disk
+        ensures any_moment { (bodies : _) (folded : _) → HasFold D.Disk self.old bodies folded
+            → FirstThen D.Disk self.old.disk self.new.disk
             (InVersion self.old.version (OpensSettled bodies)) (OpensToEither self.old.version bodies folded) }
 
         ensures faults { IfErr result IsDiskFault }
-        ensures cause { TellsCause (D.fault_count self.old.disk) (D.fault_count self.new.disk) result }
-        ensures tells { is_some (D.seen self.new.disk) ≡ is_some (D.seen self.old.disk) }
+        ensures counts { CountsFault D.Disk self.old.disk self.new.disk result }
     {
         let gate = self.fold.unwrap();
         let before = self.disk.faults();
@@ -117,8 +114,8 @@ impl<D: Disk> Journal<D> {
 
     /// Closes the open fold without a device call. The journal's records stay.
     pub fn fold_drop(&mut self)
-        ensures records { (bodies : _) (folded : _) → HasFold D.seen D.may_leave self.old bodies folded
-            → HasRecords D.seen D.may_leave self.new bodies }
+        ensures records { (bodies : _) (folded : _) → HasFold D.Disk self.old bodies folded
+            → HasRecords D.Disk self.new bodies }
         ensures closed { IsNone self.new.fold }
         ensures same { self.new ≡ record self.old { fold = self.new.fold; fold_in_range = self.new.fold_in_range } }
     {

@@ -3,11 +3,11 @@
 //!     selector  its first byte's low bit picks leaf 1, else leaf 0 is picked
 //!     leaf      magic, gate, record, gate, record, .., gate: the last gate is closed
 //!
-//! A gate is open as the byte 1 and closed as any other. A record that is written has a gate 0 behind it before its own
+//! A gate is open as the byte 1 and closed as any other. A record that is written is followed by a gate 0 before its own
 //! gate is opened; so a crash leaves the records before it, and this one or not.
 ghost use Rattle.std.specs.Prelude.{◌≡◌, ◌+◌, ◌<◌, ◌^◌, [], IfOk, IfErr, IsNone, unwrap_or, is_some};
 ghost use Rattle.as4_flow.specs.Flow.{Told};
-ghost use Rattle.as4_disk.specs.Runs.{FirstThen, Quiet};
+ghost use Rattle.as4_disk.specs.Leaving.{FirstThen, Quiet};
 
 use crate::JournalFault;
 use crate::starting::start;
@@ -24,7 +24,7 @@ pub struct Journal<D> {
     pub(crate) version: Version,
     // The place of the next gate to be read, and then of the closed gate.
     pub(crate) gate: u64,
-    // That gate and the length behind it, where they were read with the record before.
+    // That gate and the length after it, where they were read with the record before.
     pub(crate) ahead: Option<[u8; 9]>,
     // While a fold is open, the place of its next gate in the other leaf.
     pub(crate) fold: Option<u64>,
@@ -41,7 +41,7 @@ impl<D: Disk> Journal<D> {
     /// Opens a journal: settles the selector and the picked leaf, and makes a leaf of at most 9 bytes a new one of
     /// version 2. The records are still to be read.
     pub fn open(alloc: Global, mut disk: D) -> Result<Journal<D>, (JournalFault, D)>
-        ensures read { IfOk result (λ j. Told (D.seen disk) (λ b. HasRead D.seen D.may_leave j []
+        ensures read { IfOk result (λ j. Told (D.seen disk) (λ b. HasRead D.Disk j []
             × Told (D.seen j.disk) (KeepsLeaf b))) }
         ensures new { IfOk result (λ j. Told (D.seen disk) (λ _. Told (D.seen j.disk) (λ b. IsNew (picked_leaf b)
             → j.version ≡ Version.Two))) }
@@ -51,22 +51,23 @@ impl<D: Disk> Journal<D> {
         // Until the selector and the leaf have been settled a crash leaves what it might have left before, and from then
         // on a leaf that opens as the disk read.
         ensures any_moment { IfOk result (λ j. Told (D.seen disk) (λ b.
-            FirstThen D.moment D.left_since disk j.disk (D.may_leave disk) (KeepsLeaf b))) }
+            FirstThen D.Disk disk j.disk (D.may_leave disk) (KeepsLeaf b))) }
         ensures failed_moment { IfErr result (λ e. Told (D.seen disk) (λ b.
-            FirstThen D.moment D.left_since disk e.1 (D.may_leave disk) (KeepsLeaf b))) }
+            FirstThen D.Disk disk e.1 (D.may_leave disk) (KeepsLeaf b))) }
 
         ensures not_journal { IfErr result (λ e. (at : _) → e.0 ≡ JournalFault.NotJournal at
             → (at ≡ 0) × Told (D.seen disk) (λ b. IsBroken 0 (picked_leaf b))) }
 
         // Nothing was written, unless the leaf was a new one.
         ensures quiet { IfOk result (λ j. Told (D.seen disk) (λ b. (IsNew (picked_leaf b) → ⊥)
-            → Quiet D.moment D.left_since D.seen D.may_leave disk j.disk)) }
+            → Quiet D.Disk disk j.disk)) }
         ensures untouched { IfErr result (λ e. (at : _) → e.0 ≡ JournalFault.NotJournal at
-            → Quiet D.moment D.left_since D.seen D.may_leave disk e.1) }
+            → Quiet D.Disk disk e.1) }
 
         ensures faults { IfErr result (λ e. IsOpeningFault e.0) }
         ensures cause { IfErr result (λ e. IsCause (D.fault_count disk) (D.fault_count e.1) e.0) }
         ensures tells { IfOk result (λ j. is_some (D.seen j.disk) ≡ is_some (D.seen disk)) }
+        ensures failed_tells { IfErr result (λ e. is_some (D.seen e.1) ≡ is_some (D.seen disk)) }
         ensures fine { IfOk result (λ j. D.fault_count j.disk ≡ D.fault_count disk) }
     {
         let before = disk.faults();
@@ -102,7 +103,7 @@ impl<D: Disk> Journal<D> {
         self.disk.faults()
     }
 
-    /// How many bytes the records take, with the magic and the closed gate behind them.
+    /// How many bytes the records take, with the magic and the closed gate after them.
     pub fn size(&self) -> u64
         ensures { result ≡ self.now.gate + 1 }
     {

@@ -11,10 +11,10 @@ mod journal;
 mod leaf;
 mod other;
 mod passing;
+mod picked_leaf;
 mod reading;
 mod records;
 mod starting;
-mod store;
 mod version;
 
 pub use fault::{JournalFault, LeafRefusal};

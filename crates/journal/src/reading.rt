@@ -1,8 +1,8 @@
-//! What stands at a gate of a leaf: a record, a closed gate, or neither.
+//! What is at a gate of a leaf: a record, a closed gate, or neither.
 ghost use Rattle.std.specs.Prelude.{◌≡◌, ℕ, ◌+◌, ◌<◌, ◌≤◌, ◌^◌, List, length, take, drop, IfOk, IfSome, IfNone, OnOk};
 ghost use Rattle.as4_flow.specs.Flow.{Told};
 ghost use Rattle.as4_disk.specs.Faults.{HasCause, HasReadCause};
-ghost use Rattle.as4_disk.specs.Runs.{Quiet};
+ghost use Rattle.as4_disk.specs.Leaving.{Quiet};
 ghost use Rattle.journal.specs.Leaf.{width_of, limit_of};
 ghost use Rattle.journal.specs.Reading.{IsNext, IsThere, IsWithin, IsAhead, IsLength, IsHead, HasNoBody, IsBodyAt};
 
@@ -11,20 +11,20 @@ use as4_disk::{Disk, DiskFailed, Part, ReadFault};
 use as4_values::Octets;
 use std::alloc::Global;
 
-/// What stands at a gate.
+/// What is at a gate.
 #[derive(Drop)]
 pub enum Next {
     /// An open gate, a record with this body, and another gate; and, where the leaf has both, that gate and the length
-    /// behind it.
+    /// after it.
     Record(Octets, Option<[u8; 9]>),
     /// A gate that is closed, as this byte.
     Closed(u8),
-    /// An open gate behind which no whole record stands.
+    /// An open gate that no whole record follows.
     Broken,
 }
 
-/// Reads what stands at a gate: one device call for the part's length, one for the gate and the length behind it unless
-/// they were read ahead, and one for the body and what stands behind it.
+/// Reads what is at a gate: one device call for the part's length, one for the gate and the length after it unless they
+/// were read ahead, and one for the body and what follows it.
 pub(crate) fn read_next<D: Disk>(
     alloc: Global,
     disk: &mut D,
@@ -39,7 +39,7 @@ pub(crate) fn read_next<D: Disk>(
     ensures there { IfOk result (λ next. Told (D.seen disk.old) (λ b. IsThere gate (b part) next)) }
     ensures within { IfOk result (λ next. IsWithin version gate next) }
 
-    ensures quiet { Quiet D.moment D.left_since D.seen D.may_leave disk.old disk.new }
+    ensures quiet { Quiet D.Disk disk.old disk.new }
     ensures cause { HasReadCause (D.fault_count disk.old) (D.fault_count disk.new) result }
 {
     let size = disk.len(part)?;
@@ -63,7 +63,7 @@ pub(crate) fn read_next<D: Disk>(
     Ok(Next::Record(body, ahead))
 }
 
-/// Reads the gate and the bytes behind it, as many as there is room for, unless they were read ahead.
+/// Reads the gate and the bytes after it, as many as there is room for, unless they were read ahead.
 fn read_head<D: Disk>(
     disk: &mut D,
     part: Part,
@@ -77,7 +77,7 @@ fn read_head<D: Disk>(
         → length head.old ≤ 1 + width_of version → IsAhead version (drop gate (b part)) ahead
         → head.new ≡ take (length head.old) (drop gate (b part)))) }
 
-    ensures quiet { Quiet D.moment D.left_since D.seen D.may_leave disk.old disk.new }
+    ensures quiet { Quiet D.Disk disk.old disk.new }
     ensures cause { HasCause (D.fault_count disk.old) (D.fault_count disk.new) result }
 {
     match ahead {
@@ -89,7 +89,7 @@ fn read_head<D: Disk>(
     }
 }
 
-/// Reads bytes that the part has, where it tells.
+/// Reads bytes that the part has, where the disk is observable.
 fn read_there<D: Disk>(
     alloc: Global,
     disk: &mut D,
@@ -101,7 +101,7 @@ fn read_there<D: Disk>(
     ensures bytes { IfOk result (λ bytes. Told (D.seen disk.old) (λ b. bytes.items ≡ take count (drop at (b part)))) }
     ensures len { IfOk result (λ bytes. length bytes.items ≡ count) }
 
-    ensures quiet { Quiet D.moment D.left_since D.seen D.may_leave disk.old disk.new }
+    ensures quiet { Quiet D.Disk disk.old disk.new }
     ensures cause { HasReadCause (D.fault_count disk.old) (D.fault_count disk.new) result }
 {
     let mut bytes = vec![in alloc; 0; count as usize]?;
@@ -109,7 +109,7 @@ fn read_there<D: Disk>(
     Ok(bytes)
 }
 
-/// The body of this length, and what was read behind it, where that is a gate and a length.
+/// The body of this length, and what was read after it, where that is a gate and a length.
 fn split_body(version: Version, bytes: Vec<u8>, len: usize) -> (Octets, Option<[u8; 9]>)
     requires { len ≤ length bytes.items }
     ensures body { result.0 ≡ take len bytes.items }
@@ -122,7 +122,7 @@ fn split_body(version: Version, bytes: Vec<u8>, len: usize) -> (Octets, Option<[
     (Octets::of(bytes), ahead)
 }
 
-/// These bytes, where they are a gate and a length, at the front of 9.
+/// These bytes, where they are a gate and a length, at the beginning of 9.
 fn head_of(version: Version, bytes: &[u8]) -> Option<[u8; 9]>
     ensures { IfSome result (λ head. (length bytes.now ≡ 1 + width_of version)
         × (bytes.now ≡ take (1 + width_of version) head)) }
@@ -135,7 +135,7 @@ fn head_of(version: Version, bytes: &[u8]) -> Option<[u8; 9]>
     Some(head)
 }
 
-/// How long the body behind an open gate is, where a whole record stands there: of the bytes behind the gate, `head` is
+/// How long the body after an open gate is, where a whole record is there: of the bytes after the gate, `head` is
 /// the front that a length takes, and there are `count` of them.
 pub(crate) fn body_len(version: Version, gate: u64, count: u64, head: &[u8]) -> Option<u64>
     requires { gate < 2 ^ 32 }

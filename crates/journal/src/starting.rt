@@ -1,13 +1,13 @@
 //! How a leaf is picked, settled and known, before its records are read.
-ghost use Rattle.std.specs.Prelude.{◌≡◌, [], IfOk, IfSome, IfNone, List, ℕ, is_some};
+ghost use Rattle.std.specs.Prelude.{◌≡◌, [], IfOk, IfSome, IfNone, List, ℕ};
 ghost use Rattle.as4_flow.specs.Flow.{Told};
 ghost use Rattle.as4_disk.specs.Faults.{HasReadCause};
-ghost use Rattle.as4_disk.specs.Runs.{FirstThen, LeavesOnly, Quiet};
+ghost use Rattle.as4_disk.specs.Leaving.{CountsRead, FirstThen, LeavesOnly, Quiet};
 ghost use Rattle.journal.specs.Leaf.{magic_of, IsBroken, IsNew};
 ghost use Rattle.journal.specs.Store.{KeepsLeaf, picked_leaf, picks, is_second_of};
 ghost use Rattle.journal.specs.Settled.{IsSettled, IsStart};
 
-use crate::store::{leaf_part, write_picked};
+use crate::picked_leaf::{leaf_part, write_picked};
 use crate::version::Version;
 use as4_disk::{Disk, Part, ReadFault, read_some};
 use std::alloc::Global;
@@ -24,17 +24,16 @@ pub(crate) fn start<D: Disk>(
     disk: &mut D,
 ) -> Result<Option<(bool, Version)>, ReadFault>
     ensures read { IfOk result (λ found. IfSome found (λ s. Told (D.seen disk.old) (λ b.
-        IsStart D.seen D.may_leave disk.new s.0 s.1 × Told (D.seen disk.new) (KeepsLeaf b)))) }
+        IsStart D.Disk disk.new s.0 s.1 × Told (D.seen disk.new) (KeepsLeaf b)))) }
     ensures none { IfOk result (λ found. IfNone found (Told (D.seen disk.old) (λ b. IsBroken 0 (picked_leaf b)))) }
     ensures quiet { IfOk result (λ found. IfSome found (λ _. Told (D.seen disk.old) (λ b. (IsNew (picked_leaf b) → ⊥)
-        → Quiet D.moment D.left_since D.seen D.may_leave disk.old disk.new))) }
+        → Quiet D.Disk disk.old disk.new))) }
     ensures untouched { IfOk result (λ found. IfNone found
-        (Quiet D.moment D.left_since D.seen D.may_leave disk.old disk.new)) }
+        (Quiet D.Disk disk.old disk.new)) }
 
     ensures any_moment { Told (D.seen disk.old) (λ b.
-        FirstThen D.moment D.left_since disk.old disk.new (D.may_leave disk.old) (KeepsLeaf b)) }
-    ensures tells { is_some (D.seen disk.new) ≡ is_some (D.seen disk.old) }
-    ensures cause { HasReadCause (D.fault_count disk.old) (D.fault_count disk.new) result }
+        FirstThen D.Disk disk.old disk.new (D.may_leave disk.old) (KeepsLeaf b)) }
+    ensures counts { CountsRead D.Disk disk.old disk.new result }
 {
     let is_second = settle(alloc, disk)?;
     match known(alloc, disk, is_second) {
@@ -47,9 +46,9 @@ pub(crate) fn start<D: Disk>(
 /// Syncs the selector, reads which leaf it picks, and syncs that.
 fn settle<D: Disk>(alloc: Global, disk: &mut D) -> Result<bool, ReadFault>
     ensures settled { IfOk result (λ is_second. Told (D.seen disk.old) (λ b.
-        IsSettled D.seen D.may_leave disk.new is_second (picked_leaf b))) }
+        IsSettled D.Disk disk.new is_second (picked_leaf b))) }
 
-    ensures quiet { Quiet D.moment D.left_since D.seen D.may_leave disk.old disk.new }
+    ensures quiet { Quiet D.Disk disk.old disk.new }
     ensures cause { HasReadCause (D.fault_count disk.old) (D.fault_count disk.new) result }
 {
     disk.sync(Part::Selector)?;
@@ -62,7 +61,7 @@ fn settle<D: Disk>(alloc: Global, disk: &mut D) -> Result<bool, ReadFault>
 fn read_selector<D: Disk>(alloc: Global, disk: &mut D) -> Result<bool, ReadFault>
     ensures picked { IfOk result (λ is_second. Told (D.seen disk.old) (λ b. is_second_of b ≡ is_second)) }
 
-    ensures quiet { Quiet D.moment D.left_since D.seen D.may_leave disk.old disk.new }
+    ensures quiet { Quiet D.Disk disk.old disk.new }
     ensures cause { HasReadCause (D.fault_count disk.old) (D.fault_count disk.new) result }
 {
     let Some(bytes) = read_some(alloc, disk, Part::Selector, 0, 1)? else {
@@ -89,21 +88,20 @@ fn known<D: Disk>(
     is_second: bool,
 ) -> Result<Option<Version>, ReadFault>
     ensures read { IfOk result (λ found. IfSome found (λ version. (leaf : List ℕ) → Told (D.seen disk.old) (λ b.
-        IsSettled D.seen D.may_leave disk.old is_second leaf
-        → IsStart D.seen D.may_leave disk.new is_second version × Told (D.seen disk.new) (KeepsLeaf b)))) }
+        IsSettled D.Disk disk.old is_second leaf
+        → IsStart D.Disk disk.new is_second version × Told (D.seen disk.new) (KeepsLeaf b)))) }
     ensures none { IfOk result (λ found. IfNone found ((leaf : List ℕ)
-        → IsSettled D.seen D.may_leave disk.old is_second leaf → IsBroken 0 leaf)) }
+        → IsSettled D.Disk disk.old is_second leaf → IsBroken 0 leaf)) }
     ensures quiet { IfOk result (λ found. IfSome found (λ _. (leaf : List ℕ) → Told (D.seen disk.old) (λ _.
-        IsSettled D.seen D.may_leave disk.old is_second leaf → (IsNew leaf → ⊥)
-        → Quiet D.moment D.left_since D.seen D.may_leave disk.old disk.new))) }
+        IsSettled D.Disk disk.old is_second leaf → (IsNew leaf → ⊥)
+        → Quiet D.Disk disk.old disk.new))) }
     ensures untouched { IfOk result (λ found. IfNone found
-        (Quiet D.moment D.left_since D.seen D.may_leave disk.old disk.new)) }
+        (Quiet D.Disk disk.old disk.new)) }
 
     ensures any_moment { (leaf : List ℕ) → Told (D.seen disk.old) (λ b.
-        IsSettled D.seen D.may_leave disk.old is_second leaf
-        → LeavesOnly D.moment D.left_since disk.old disk.new (KeepsLeaf b)) }
-    ensures tells { is_some (D.seen disk.new) ≡ is_some (D.seen disk.old) }
-    ensures cause { HasReadCause (D.fault_count disk.old) (D.fault_count disk.new) result }
+        IsSettled D.Disk disk.old is_second leaf
+        → LeavesOnly D.Disk disk.old disk.new (KeepsLeaf b)) }
+    ensures counts { CountsRead D.Disk disk.old disk.new result }
 {
     let Some(bytes) = read_some(alloc, disk, leaf_part(is_second), 0, 10)? else {
         write_picked(disk, is_second, 0, &NEW_LEAF)?;

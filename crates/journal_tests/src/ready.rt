@@ -7,7 +7,7 @@ use as4_disk::{Disk, MemoryDisk};
 use journal::{Frame, Journal};
 use std::alloc::Global;
 
-/// Opens a journal, reads it to its end, and puts each body and a `|` behind the bytes that are there. The disk comes
+/// Opens a journal, reads it to its end, and puts each body and a `|` after the bytes that are there. The disk comes
 /// back where that fails.
 pub fn open_all<D: Disk + Drop>(
     alloc: Global,
@@ -15,7 +15,7 @@ pub fn open_all<D: Disk + Drop>(
     bodies: &mut Vec<u8>,
 ) -> Result<Journal<D>, D>
     ensures records { IfOk result (λ j. Told (D.seen disk) (λ _. (all : List (List ℕ))
-        × HasRecords D.seen D.may_leave j all)) }
+        × HasRecords D.Disk j all)) }
     ensures no_fold { IfOk result (λ j. IsNone j.fold) }
 {
     let mut journal = match Journal::open(alloc, disk) {

@@ -3,7 +3,7 @@ use Rattle.std.proofs.Common.{◌≡◌, ℕ, ◌<◌, List, [], ◌∷◌, ◌+
 use Rattle.std.specs.List.{AllByRecursion}
 use Rattle.std.proofs.lemmas.Option.{same_Some}
 use Rattle.as4_flow.specs.Flow.{Rose}
-use Rattle.as4_values.specs.declared.mode.Mode.{Mode}
+use Rattle.mode_values.specs.declared.mode.Mode.{Mode}
 use Rattle.exchange_model.specs.Apply.{applied}
 use Rattle.exchange_model.specs.End.{End}
 use Rattle.exchange_model.specs.Fold.{IsFoldedSize, resized}
@@ -18,7 +18,7 @@ use Rattle.office.specs.Calls.{IsRefusedAt, Leads, stop_of}
 use Rattle.office.specs.Left.{IsLeft}
 use Rattle.office.specs.declared.call.Call.{Call}
 use Rattle.office.specs.declared.call.Call.TheVariants.{Done, Folded, Stop}
-use Rattle.office.specs.declared.call.Halt.{Halt}
+use Rattle.as4_disk.specs.declared.fault_counts.FaultCounts.{FaultCounts}
 
 -- behind a history without a fault
 pub stop_more : (calls : List Call) (call : Call) → stop_of calls ≡ None → stop_of (calls ++ call ∷ []) ≡ stop_of (call ∷ [])
@@ -28,7 +28,7 @@ stop_more (Folded size ∷ calls) call going = stop_more calls call going
 stop_more (Stop event halt ∷ calls) call going = absurd cc
 
 -- behind one with a fault
-pub stop_kept : (calls : List Call) (call : Call) (halt : Halt) → stop_of calls ≡ Some halt → stop_of (calls ++ call ∷ []) ≡ Some halt
+pub stop_kept : (calls : List Call) (call : Call) (halt : FaultCounts) → stop_of calls ≡ Some halt → stop_of (calls ++ call ∷ []) ≡ Some halt
 stop_kept [] call halt stopped = absurd cc
 stop_kept (Done event reply ∷ calls) call halt stopped = stop_kept calls call halt stopped
 stop_kept (Folded size ∷ calls) call halt stopped = stop_kept calls call halt stopped
@@ -51,7 +51,7 @@ left_more modes end (Folded size ∷ calls) call image going left = left_more mo
 left_more modes end (Stop event halt ∷ calls) call image going left = absurd cc
 
 -- behind a fault it stays what it was
-pub left_kept : (modes : List Mode) (end : End) (calls : List Call) (call : Call) (halt : Halt) (image : Image) → stop_of calls ≡ Some halt → IsLeft modes end calls image → IsLeft modes end (calls ++ call ∷ []) image
+pub left_kept : (modes : List Mode) (end : End) (calls : List Call) (call : Call) (halt : FaultCounts) (image : Image) → stop_of calls ≡ Some halt → IsLeft modes end calls image → IsLeft modes end (calls ++ call ∷ []) image
 left_kept modes end [] call halt image stopped left = absurd cc
 left_kept modes end (Done event reply ∷ calls) call halt image stopped left = left_kept modes end calls call halt image stopped left
 left_kept modes end (Folded size ∷ calls) call halt image stopped left = left_kept modes end calls call halt image stopped left
@@ -73,7 +73,7 @@ all_more : {X : Type 0} (P : X → Type 0) (xs : List X) (x : X) → AllByRecurs
 all_more P [] x all last = (last, tt)
 all_more P (y ∷ xs) x all last = (all.0, all_more P xs x all.1 last)
 
-pub leads_refused : (modes : List Mode) (calls : List Call) (event : Event) (halt : Halt) (start end : End) → stop_of calls ≡ Some halt → Leads modes start calls end
+pub leads_refused : (modes : List Mode) (calls : List Call) (event : Event) (halt : FaultCounts) (start end : End) → stop_of calls ≡ Some halt → Leads modes start calls end
     → Leads modes start (calls ++ Done event (Stopped halt.before halt.after) ∷ []) end
 leads_refused modes [] event halt start end stopped leads = absurd cc
 leads_refused modes (Done first reply ∷ calls) event halt start end stopped (outcome, step, is, rest) =
@@ -82,7 +82,7 @@ leads_refused modes (Folded size ∷ calls) event halt start end stopped (folded
     (folded, shorter, leads_refused modes calls event halt (resized size start) end stopped rest)
 leads_refused modes (Stop first at ∷ calls) event halt start end stopped (rose, all, here) =
     let same : at ≡ halt = same_Some at halt stopped in
-    (rose, all_more (IsRefusedAt at) calls (Done event (Stopped halt.before halt.after)) all (ap (λ (h : Halt). Stopped h.before h.after) (sym same)), here)
+    (rose, all_more (IsRefusedAt at) calls (Done event (Stopped halt.before halt.after)) all (ap (λ (h : FaultCounts). Stopped h.before h.after) (sym same)), here)
 
 -- ---- what a call does to the end that the history leads to
 
@@ -96,12 +96,12 @@ pub folded_leads : (modes : List Mode) (calls more : List Call) (size : ℕ) (en
 folded_leads modes calls more size end next going is folded shorter made start leads =
     subst (λ (l : List Call). Leads modes start l next) (sym is) (leads_more modes calls (Folded size) start end next going leads (folded, shorter, sym made))
 
-pub stop_leads : (modes : List Mode) (calls more : List Call) (event : Option Event) (halt : Halt) (end : End) → stop_of calls ≡ None → more ≡ calls ++ Stop event halt ∷ []
+pub stop_leads : (modes : List Mode) (calls more : List Call) (event : Option Event) (halt : FaultCounts) (end : End) → stop_of calls ≡ None → more ≡ calls ++ Stop event halt ∷ []
     → Rose halt.before halt.after → (start : End) → Leads modes start calls end → Leads modes start more end
 stop_leads modes calls more event halt end going is rose start leads =
     subst (λ (l : List Call). Leads modes start l end) (sym is) (leads_more modes calls (Stop event halt) start end end going leads (rose, tt, refl))
 
-pub refused_leads : (modes : List Mode) (calls more : List Call) (event : Event) (halt : Halt) (end : End) → stop_of calls ≡ Some halt → more ≡ calls ++ Done event (Stopped halt.before halt.after) ∷ []
+pub refused_leads : (modes : List Mode) (calls more : List Call) (event : Event) (halt : FaultCounts) (end : End) → stop_of calls ≡ Some halt → more ≡ calls ++ Done event (Stopped halt.before halt.after) ∷ []
     → (start : End) → Leads modes start calls end → Leads modes start more end
 refused_leads modes calls more event halt end stopped is start leads =
     subst (λ (l : List Call). Leads modes start l end) (sym is) (leads_refused modes calls event halt start end stopped leads)

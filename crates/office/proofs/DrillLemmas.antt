@@ -1,23 +1,20 @@
 -- An office over a disk in memory that is to stop: what the disk holds is as it was.
 use Rattle.std.proofs.Common.{ℕ, List, [], Option, Some}
-use Rattle.as4_disk.specs.Image.{Image}
-use Rattle.as4_disk.specs.Memory.{DiskState, MayLeave, reads}
-use Rattle.as4_values.specs.declared.mode.Mode.{Mode}
+use Rattle.as4_disk.specs.Memory.{DiskState}
+use Rattle.as4_disk.specs.MemoryMeaning.{memory_meaning}
+use Rattle.as4_disk.specs.declared.fault_counts.FaultCounts.{FaultCounts}
+use Rattle.mode_values.specs.declared.mode.Mode.{Mode}
 use Rattle.end_records.specs.Opens.{IsJournalOf}
 use Rattle.exchange_model.specs.End.{End}
 use Rattle.journal.specs.declared.journal.Journal.{Journal}
 use Rattle.office.specs.State.{IsInOrder}
 use Rattle.office.specs.declared.call.Call.{Call}
-use Rattle.office.specs.declared.call.Halt.{Halt}
-
-abbrev seen : DiskState → Option Image
-seen disk = Some (reads disk)
 
 module _ (journal : Journal DiskState) (call : ℕ) where
   abbrev pub to_stop : Journal DiskState
   to_stop = record journal { disk = record journal.disk { failing = []; stop = Some call } }
 
-  kept : (end : End) → IsJournalOf seen MayLeave end journal → IsJournalOf seen MayLeave end to_stop
+  kept : (end : End) → IsJournalOf memory_meaning end journal → IsJournalOf memory_meaning end to_stop
   kept end is = record {
     version = is.version;
     no_fold = is.no_fold;
@@ -44,8 +41,8 @@ module _ (journal : Journal DiskState) (call : ℕ) where
         );
   }
 
-  pub order_to_stop : (end : End) (modes : List Mode) (halt : Option Halt) (list : List Call) → IsInOrder seen MayLeave (λ disk. disk.faults) journal end modes halt list
-      → IsInOrder seen MayLeave (λ disk. disk.faults) to_stop end modes halt list
+  pub order_to_stop : (end : End) (modes : List Mode) (halt : Option FaultCounts) (list : List Call) → IsInOrder memory_meaning journal end modes halt list
+      → IsInOrder memory_meaning to_stop end modes halt list
   order_to_stop end modes halt list order = record {
     halted = order.halted;
     kept = λ none. kept end (order.kept none);

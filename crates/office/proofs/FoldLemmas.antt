@@ -1,7 +1,8 @@
 -- What a checkpoint does.
 use Rattle.std.proofs.Common.{◌≡◌, ◌⊎◌, inl, inr, ℕ, ◌<◌, ◌^◌, List, subst, arith}
+use Rattle.as4_disk.specs.declared.disk.Disk.{Ghosts as DiskMeaning}
 use Rattle.as4_disk.specs.Image.{Image}
-use Rattle.as4_disk.specs.Runs.{FirstThen, LeavesOnly}
+use Rattle.as4_disk.specs.Leaving.{FirstThen, LeavesOnly}
 use Rattle.exchange_model.specs.End.{End, empty_end}
 use Rattle.exchange_model.specs.Fold.{IsFoldedSize, resized}
 use Rattle.journal.specs.Store.{InVersion, OpensSettled}
@@ -29,8 +30,8 @@ module _ {bodies : List (List ℕ)} {end : End} {size : ℕ} (leads : RecordsLea
   there c (inl settled) = here c settled
   there c (inr at) = inr (size, folded, at)
 
-  pub fold_run : {D : Type 0} {moment : D → ℕ} {left_since : D → ℕ → Image → Type 0} {old new : D} {version : Version} → version ≡ Two
-      → FirstThen moment left_since old new (InVersion version (OpensSettled bodies)) (λ c. InVersion version (OpensSettled bodies) c ⊎ IsAt c (resized size end)) → LeavesOnly moment left_since old new (λ c. OpensFolded c end)
-  fold_run {D} {moment} {left_since} {old} {new} two run =
-      let P : Version → Type 0 = λ v. FirstThen moment left_since old new (InVersion v (OpensSettled bodies)) (λ c. InVersion v (OpensSettled bodies) c ⊎ IsAt c (resized size end)) in
-      first_all moment left_since old new (InVersion Two (OpensSettled bodies)) (λ c. InVersion Two (OpensSettled bodies) c ⊎ IsAt c (resized size end)) (λ c. OpensFolded c end) here there (subst P two run)
+  pub fold_run : {D : Type 0} {M : DiskMeaning D} {old new : D} {version : Version} → version ≡ Two
+      → FirstThen M old new (InVersion version (OpensSettled bodies)) (λ c. InVersion version (OpensSettled bodies) c ⊎ IsAt c (resized size end)) → LeavesOnly M old new (λ c. OpensFolded c end)
+  fold_run {D} {M} {old} {new} two run =
+      let P : Version → Type 0 = λ v. FirstThen M old new (InVersion v (OpensSettled bodies)) (λ c. InVersion v (OpensSettled bodies) c ⊎ IsAt c (resized size end)) in
+      first_all M old new (InVersion Two (OpensSettled bodies)) (λ c. InVersion Two (OpensSettled bodies) c ⊎ IsAt c (resized size end)) (λ c. OpensFolded c end) here there (subst P two run)

@@ -1,8 +1,8 @@
 -- What a call leaves of an office, from what the office keeps inside.
 use Rattle.std.proofs.Common.{◌≡◌, ℕ, ◌+◌, ◌<◌, ◌≤◌, ◌^◌, List, [], ◌∷◌, ◌++◌, Option, Some, None, is_some, length, refl, sym, ap, ◌∙◌, subst, arith}
 use mathlib.Core.List.{IsPrefix}
-use Rattle.as4_disk.specs.Image.{Image}
-use Rattle.as4_values.specs.declared.mode.Mode.{Mode}
+use Rattle.as4_disk.specs.declared.disk.Disk.{Ghosts as DiskMeaning}
+use Rattle.mode_values.specs.declared.mode.Mode.{Mode}
 use Rattle.end_tables.specs.Rooms.{Rooms}
 use Rattle.exchange_model.specs.End.{End}
 use Rattle.journal.specs.declared.journal.Journal.{Journal}
@@ -10,7 +10,7 @@ use Rattle.office.specs.Calls.{Leads}
 use Rattle.office.specs.State.{IsInOrder, OfficeState}
 use Rattle.office.specs.Steps.{Enters, FindsItWorn, Keeps}
 use Rattle.office.specs.declared.call.Call.{Call}
-use Rattle.office.specs.declared.call.Halt.{Halt}
+use Rattle.as4_disk.specs.declared.fault_counts.FaultCounts.{FaultCounts}
 use Rattle.office.proofs.StateLemmas.{order_keeps}
 use Rattle.pass_book.specs.States.{Book, PassState}
 
@@ -21,10 +21,10 @@ not_both o x some none = cc
 abbrev office : {D : Type 0} → Journal D → End → List Mode → Rooms → Book → List Call → OfficeState D
 office journal end modes rooms book list = record { disk = journal.disk; end = end; modes = modes; rooms = rooms; book = book; list = list }
 
-pub keeps : {D : Type 0} {seen : D → Option Image} {may_leave : D → Image → Type 0} {fault_count : D → ℕ} {old : OfficeState D} {after : Journal D} {next : End} {later : List Mode} {others : Rooms} {books : Book} {halt : Option Halt} {more shown : List Call} {share : ℕ} {pass passed : PassState Call}
-    → IsInOrder seen may_leave fault_count after next later halt more → later ≡ old.modes → books ≡ old.book → passed ≡ record pass { list = shown; share = share }
-    → ((start : End) → Leads old.modes start old.list old.end → Leads old.modes start more next) → is_some (seen after.disk) ≡ is_some (seen old.disk) → (halt ≡ None → fault_count after.disk ≡ fault_count old.disk) → fault_count old.disk ≤ fault_count after.disk
-    → Keeps seen may_leave fault_count old (office after next later others books more) pass passed
+pub keeps : {D : Type 0} {M : DiskMeaning D} {old : OfficeState D} {after : Journal D} {next : End} {later : List Mode} {others : Rooms} {books : Book} {halt : Option FaultCounts} {more shown : List Call} {share : ℕ} {pass passed : PassState Call}
+    → IsInOrder M after next later halt more → later ≡ old.modes → books ≡ old.book → passed ≡ record pass { list = shown; share = share }
+    → ((start : End) → Leads old.modes start old.list old.end → Leads old.modes start more next) → is_some (M.seen after.disk) ≡ is_some (M.seen old.disk) → (halt ≡ None → M.fault_count after.disk ≡ M.fault_count old.disk) → M.fault_count old.disk ≤ M.fault_count after.disk
+    → Keeps M old (office after next later others books more) pass passed
 keeps order modes_same book_same passes legal tells calm counted = record {
   modes = modes_same;
   book = book_same;
@@ -39,11 +39,11 @@ keeps order modes_same book_same passes legal tells calm counted = record {
 }
 
 -- nothing but room was made
-pub keeps_roomy : {D : Type 0} {seen : D → Option Image} {may_leave : D → Image → Type 0} {fault_count : D → ℕ} {journal : Journal D} {end next : End} {modes later : List Mode} {rooms others : Rooms} {book : Book} {halt : Option Halt} {list : List Call} {pass : PassState Call}
-    → IsInOrder seen may_leave fault_count journal end modes halt list → next ≡ end → later ≡ modes → Keeps seen may_leave fault_count (office journal end modes rooms book list) (office journal next later others book list) pass pass
-keeps_roomy {D} {seen} {may_leave} {fault_count} {journal} {end} {next} {modes} {later} {rooms} {others} {book} {halt} {list} order same_end same_modes =
-    let P : End → Type 0 = λ e. IsInOrder seen may_leave fault_count journal e modes halt list in
-    let Q : List Mode → Type 0 = λ m. IsInOrder seen may_leave fault_count journal next m halt list in
+pub keeps_roomy : {D : Type 0} {M : DiskMeaning D} {journal : Journal D} {end next : End} {modes later : List Mode} {rooms others : Rooms} {book : Book} {halt : Option FaultCounts} {list : List Call} {pass : PassState Call}
+    → IsInOrder M journal end modes halt list → next ≡ end → later ≡ modes → Keeps M (office journal end modes rooms book list) (office journal next later others book list) pass pass
+keeps_roomy {D} {M} {journal} {end} {next} {modes} {later} {rooms} {others} {book} {halt} {list} order same_end same_modes =
+    let P : End → Type 0 = λ e. IsInOrder M journal e modes halt list in
+    let Q : List Mode → Type 0 = λ m. IsInOrder M journal next m halt list in
     keeps (subst Q (sym same_modes) (subst P (sym same_end) order)) same_modes refl refl (λ start leads. subst (λ (e : End). Leads modes start list e) (sym same_end) leads) refl (λ none. refl) (omega arith)
 
 pub finds_worn : {D : Type 0} {old : OfficeState D} {pass passed : PassState Call} → length old.list ≡ 2 ^ 63 → IsPrefix pass.list old.list → passed ≡ record pass { list = old.list } → FindsItWorn old old pass passed

@@ -2,7 +2,7 @@
 use Rattle.std.proofs.Common.{◌≡◌, inl, inr, ⊎_elim, List, [], ◌∷◌, ◌++◌, Some, None, false, true, refl, sym, ap, ◌∙◌, subst}
 use Rattle.std.specs.List.{Contains}
 use Rattle.as4_disk.specs.Image.{Image}
-use Rattle.as4_values.specs.declared.mode.Mode.{Mode}
+use Rattle.mode_values.specs.declared.mode.Mode.{Mode}
 use Rattle.end_records.specs.Opens.{IsAt, IsAtWith, IsOld, OpensAs, ReadsAs, ReopensAs}
 use Rattle.end_records.proofs.OpenLemmas.{opens_weaker}
 use Rattle.end_records.proofs.RecordLemmas.{LeadsOnce}

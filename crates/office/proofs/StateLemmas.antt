@@ -1,11 +1,12 @@
 -- What an office keeps, call by call.
 use Rattle.std.proofs.Common.{◌≡◌, inl, inr, ℕ, ◌≤◌, List, [], ◌∷◌, ◌++◌, Option, Some, None, refl, sym, ap, ◌∙◌, subst, arith}
 use Rattle.std.specs.Prelude.{IfSome}
+use Rattle.as4_disk.specs.declared.disk.Disk.{Ghosts as DiskMeaning}
 use Rattle.as4_disk.specs.Image.{Image}
-use Rattle.as4_disk.specs.Runs.{LeavesOnly}
+use Rattle.as4_disk.specs.Leaving.{LeavesOnly}
 use Rattle.as4_disk.proofs.RunLemmas.{weaken}
 use Rattle.as4_flow.specs.Flow.{Rose, Told}
-use Rattle.as4_values.specs.declared.mode.Mode.{Mode}
+use Rattle.mode_values.specs.declared.mode.Mode.{Mode}
 use Rattle.exchange_model.specs.Apply.{applied}
 use Rattle.exchange_model.specs.End.{End}
 use Rattle.exchange_model.specs.Table.{Step}
@@ -20,46 +21,46 @@ use Rattle.office.specs.State.{IsInOrder}
 use Rattle.office.specs.Left.{IsLeft, IsStepTo, OpensBeforeOrAfter}
 use Rattle.office.specs.declared.call.Call.{Call}
 use Rattle.office.specs.declared.call.Call.TheVariants.{Done, Stop}
-use Rattle.office.specs.declared.call.Halt.{Halt}
+use Rattle.as4_disk.specs.declared.fault_counts.FaultCounts.{FaultCounts}
 use Rattle.office.proofs.CallLemmas.{left_going, left_kept, left_more, stop_kept, stop_more}
 use Rattle.office.proofs.WritingLemmas.{no_write}
 
-module _ {D : Type 0} {seen : D → Option Image} {may_leave : D → Image → Type 0} {fault_count : D → ℕ} where
-  module _ {journal : Journal D} {end : End} {modes : List Mode} {halt : Option Halt} {list : List Call} (order : IsInOrder seen may_leave fault_count journal end modes halt list) where
+module _ {D : Type 0} {M : DiskMeaning D} where
+  module _ {journal : Journal D} {end : End} {modes : List Mode} {halt : Option FaultCounts} {list : List Call} (order : IsInOrder M journal end modes halt list) where
     -- without a fault among the calls each crash leaves the end
-    pub order_keeps : stop_of list ≡ None → KeepsEnd seen may_leave journal.disk end
-    order_keeps going = kept_opens seen may_leave end journal (order.kept (order.halted ∙ going))
+    pub order_keeps : stop_of list ≡ None → KeepsEnd M journal.disk end
+    order_keeps going = kept_opens M end journal (order.kept (order.halted ∙ going))
 
-    no_halt : (after : Journal D) → halt ≡ None → IfSome halt (λ at. Rose at.before at.after × (at.after ≤ fault_count after.disk))
+    no_halt : (after : Journal D) → halt ≡ None → IfSome halt (λ at. Rose at.before at.after × (at.after ≤ M.fault_count after.disk))
     no_halt after going =
-        subst (λ (h : Option Halt). IfSome h (λ at. Rose at.before at.after × (at.after ≤ fault_count after.disk))) (sym going) tt
+        subst (λ (h : Option FaultCounts). IfSome h (λ at. Rose at.before at.after × (at.after ≤ M.fault_count after.disk))) (sym going) tt
 
     -- a call that isn't a fault
     pub order_goes : (after : Journal D) (next : End) (more : List Call) (call : Call) → halt ≡ None → more ≡ list ++ call ∷ [] → stop_of (call ∷ []) ≡ None
-        → IsJournalOf seen may_leave next after → IsInOrder seen may_leave fault_count after next modes halt more
+        → IsJournalOf M next after → IsInOrder M after next modes halt more
     order_goes after next more call going is plain kept =
         let goes : stop_of more ≡ None = ap stop_of is ∙ stop_more list call (sym order.halted ∙ going) ∙ plain in
         record {
           halted = going ∙ sym goes;
           kept = λ same. kept;
-          left = λ image told c may. left_going modes next more c goes (kept_opens seen may_leave next after kept image told c may);
+          left = λ image told c may. left_going modes next more c goes (kept_opens M next after kept image told c may);
           counted = no_halt after going;
         }
 
     -- nothing but the disk has changed
-    pub order_stays : (after : Journal D) → halt ≡ None → IsJournalOf seen may_leave end after → IsInOrder seen may_leave fault_count after end modes halt list
+    pub order_stays : (after : Journal D) → halt ≡ None → IsJournalOf M end after → IsInOrder M after end modes halt list
     order_stays after going kept = record {
       halted = order.halted;
       kept = λ same. kept;
-      left = λ image told c may. left_going modes end list c (sym order.halted ∙ going) (kept_opens seen may_leave end after kept image told c may);
+      left = λ image told c may. left_going modes end list c (sym order.halted ∙ going) (kept_opens M end after kept image told c may);
       counted = no_halt after going;
     }
 
     -- the disk failed
-    pub order_stops : (after : Journal D) (more : List Call) (event : Option Event) (at : Halt) → halt ≡ None → more ≡ list ++ Stop event at ∷ []
-        → Rose at.before at.after → at.after ≡ fault_count after.disk
-        → Told (seen after.disk) (λ _. (c : Image) → may_leave after.disk c → IsLeft modes end (Stop event at ∷ []) c)
-        → IsInOrder seen may_leave fault_count after end modes (Some at) more
+    pub order_stops : (after : Journal D) (more : List Call) (event : Option Event) (at : FaultCounts) → halt ≡ None → more ≡ list ++ Stop event at ∷ []
+        → Rose at.before at.after → at.after ≡ M.fault_count after.disk
+        → Told (M.seen after.disk) (λ _. (c : Image) → M.may_leave after.disk c → IsLeft modes end (Stop event at ∷ []) c)
+        → IsInOrder M after end modes (Some at) more
     order_stops after more event at going is rose count left = record {
       halted = sym (ap stop_of is ∙ stop_more list (Stop event at) (sym order.halted ∙ going));
       kept = λ same. absurd cc;
@@ -69,8 +70,8 @@ module _ {D : Type 0} {seen : D → Option Image} {may_leave : D → Image → T
     }
 
     -- it failed before
-    pub order_refuses : (more : List Call) (event : Event) (r : Reply) (at : Halt) → halt ≡ Some at → more ≡ list ++ Done event r ∷ []
-        → IsInOrder seen may_leave fault_count journal end modes halt more
+    pub order_refuses : (more : List Call) (event : Event) (r : Reply) (at : FaultCounts) → halt ≡ Some at → more ≡ list ++ Done event r ∷ []
+        → IsInOrder M journal end modes halt more
     order_refuses more event r at stopped is = record {
       halted = stopped ∙ sym (ap stop_of is ∙ stop_kept list (Done event r) at (sym order.halted ∙ stopped));
       kept = λ same. absurd cc;
@@ -80,19 +81,19 @@ module _ {D : Type 0} {seen : D → Option Image} {may_leave : D → Image → T
     }
 
 -- nothing is written
-module _ {D : Type 0} {moment : D → ℕ} {left_since : D → ℕ → Image → Type 0} {seen : D → Option Image} {may_leave : D → Image → Type 0} (only_now : (disk : D) (c : Image) → left_since disk (moment disk) c → may_leave disk c) {journal : Journal D} {end : End} (is : IsJournalOf seen may_leave end journal) where
-  pub still_run : (modes : List Mode) (event : Event) (image : Image) → seen journal.disk ≡ Some image → LeavesOnly moment left_since journal.disk journal.disk (OpensBeforeOrAfter modes end event)
+module _ {D : Type 0} {M : DiskMeaning D} (only_now : (disk : D) (c : Image) → M.left_since disk (M.moment disk) c → M.may_leave disk c) {journal : Journal D} {end : End} (is : IsJournalOf M end journal) where
+  pub still_run : (modes : List Mode) (event : Event) (image : Image) → M.seen journal.disk ≡ Some image → LeavesOnly M journal.disk journal.disk (OpensBeforeOrAfter modes end event)
   still_run modes event image told =
-      no_write moment left_since seen may_leave only_now journal end (IsStepTo modes end event) (λ c. (next : End) × IsStepTo modes end event next × IsAt c next) image is told
+      no_write M only_now journal end (IsStepTo modes end event) (λ c. (next : End) × IsStepTo modes end event next × IsAt c next) image is told
 
-  pub still_folded : (image : Image) → seen journal.disk ≡ Some image → LeavesOnly moment left_since journal.disk journal.disk (λ c. OpensFolded c end)
-  still_folded image told = no_write moment left_since seen may_leave only_now journal end (λ next. ⊥) (λ c. IsFoldedOf c end) image is told
+  pub still_folded : (image : Image) → M.seen journal.disk ≡ Some image → LeavesOnly M journal.disk journal.disk (λ c. OpensFolded c end)
+  still_folded image told = no_write M only_now journal end (λ next. ⊥) (λ c. IsFoldedOf c end) image is told
 
 -- a step's record is written
-pub step_run : {D : Type 0} {moment : D → ℕ} {left_since : D → ℕ → Image → Type 0} {modes : List Mode} {event : Event} {outcome : Outcome} {old new : D} {end : End} → Step modes end event outcome
-    → LeavesOnly moment left_since old new (λ c. IsAtOneOf c end (applied outcome.effects end)) → LeavesOnly moment left_since old new (OpensBeforeOrAfter modes end event)
-step_run {D} {moment} {left_since} {modes} {event} {outcome} {old} {new} {end} step run =
-    weaken moment left_since old new (λ c. IsAtOneOf c end (applied outcome.effects end)) (OpensBeforeOrAfter modes end event) before_or_after run
+pub step_run : {D : Type 0} {M : DiskMeaning D} {modes : List Mode} {event : Event} {outcome : Outcome} {old new : D} {end : End} → Step modes end event outcome
+    → LeavesOnly M old new (λ c. IsAtOneOf c end (applied outcome.effects end)) → LeavesOnly M old new (OpensBeforeOrAfter modes end event)
+step_run {D} {M} {modes} {event} {outcome} {old} {new} {end} step run =
+    weaken M old new (λ c. IsAtOneOf c end (applied outcome.effects end)) (OpensBeforeOrAfter modes end event) before_or_after run
   where
     before_or_after : (c : Image) → IsAtOneOf c end (applied outcome.effects end) → OpensBeforeOrAfter modes end event c
     before_or_after c (inl here) = inl (at_weaker (λ n. n ≡ applied outcome.effects end) (IsStepTo modes end event) c end (λ n is. (outcome, step, is)) here)

@@ -1,10 +1,10 @@
 -- A step that was prepared first is a step: nothing but room was made.
-use Rattle.std.proofs.Common.{◌≡◌, inl, ℕ, Bool, Option, Some, Result, Ok, Err, List}
+use Rattle.std.proofs.Common.{◌≡◌, inl, ℕ, Some, Result, Ok, Err, List}
+use Rattle.as4_disk.specs.declared.disk.Disk.{Ghosts as DiskMeaning}
 use Rattle.as4_disk.specs.Image.{Image}
-use Rattle.as4_disk.specs.Runs.{LeavesOnly}
-use Rattle.as4_disk.specs.declared.change.Change.{Change}
+use Rattle.as4_disk.specs.Leaving.{LeavesOnly}
 use Rattle.as4_disk.proofs.RunLemmas.{no_call}
-use Rattle.as4_values.specs.declared.mode.Mode.{Mode}
+use Rattle.mode_values.specs.declared.mode.Mode.{Mode}
 use Rattle.end_tables.specs.Rooms.{Rooms}
 use Rattle.exchange_model.specs.End.{End}
 use Rattle.exchange_model.specs.declared.event.Event.{Event}
@@ -22,15 +22,15 @@ use Rattle.office.specs.declared.fault.OfficeFault.TheVariants.{Disk, NoMemory, 
 use Rattle.pass_book.specs.States.{PassState}
 
 -- what a call finds is what was there before room was made
-module _ {D : Type 0} (seen : D → Option Image) (may_leave : D → Image → Type 0) (moment : D → ℕ) (left_since : D → ℕ → Image → Type 0) (fault_count : D → ℕ) (makes : Change → D → D → Bool → Type 0) (old new : OfficeState D) (rooms : Rooms) (pass_old pass_new : PassState Call) where
+module _ {D : Type 0} (M : DiskMeaning D) (old new : OfficeState D) (rooms : Rooms) (pass_old pass_new : PassState Call) where
   abbrev roomy : OfficeState D
   roomy = record old { rooms = rooms }
 
   same_entry : (call : Call) → Enters roomy new pass_old pass_new call → Enters old new pass_old pass_new call
   same_entry call is = record { room = is.room; seen = is.seen; list = is.list; whole = is.whole; share = is.share }
 
-  same_step : (event : Event) (result : Result Reply OfficeFault) → Steps seen may_leave moment left_since fault_count makes roomy new pass_old pass_new event result
-      → Steps seen may_leave moment left_since fault_count makes old new pass_old pass_new event result
+  same_step : (event : Event) (result : Result Reply OfficeFault) → Steps M roomy new pass_old pass_new event result
+      → Steps M old new pass_old pass_new event result
   same_step event (Ok r) is = record {
     going = is.going;
     outcome = is.outcome;
@@ -61,8 +61,8 @@ module _ {D : Type 0} (seen : D → Option Image) (may_leave : D → Image → T
   same_step event (Err Worn) is = record { full = is.full; seen = is.seen; list = is.list; end = is.end; disk = is.disk; pass = is.pass }
   same_step event (Err NoMemory) is = (record { list = is.0.list; end = is.0.end; pass = is.0.pass }, is.1)
 
-  pub same_handling : (event : Event) (result : Result Reply OfficeFault) → Handles seen may_leave moment left_since fault_count makes roomy new pass_old pass_new event result
-      → Handles seen may_leave moment left_since fault_count makes old new pass_old pass_new event result
+  pub same_handling : (event : Event) (result : Result Reply OfficeFault) → Handles M roomy new pass_old pass_new event result
+      → Handles M old new pass_old pass_new event result
   same_handling event result is = record {
     answer = same_step event result is.answer;
     any_moment = is.any_moment;
@@ -81,7 +81,7 @@ module _ {D : Type 0} (seen : D → Option Image) (may_leave : D → Image → T
   }
 
 -- no device call was made
-pub quiet_run : {D : Type 0} (moment : D → ℕ) (left_since : D → ℕ → Image → Type 0) (seen : D → Option Image) (may_leave : D → Image → Type 0) (only_now : (disk : D) (c : Image) → left_since disk (moment disk) c → may_leave disk c)
-    (modes : List Mode) (event : Event) (disk : D) (end : End) (image : Image) → KeepsEnd seen may_leave disk end → seen disk ≡ Some image → LeavesOnly moment left_since disk disk (OpensBeforeOrAfter modes end event)
-quiet_run moment left_since seen may_leave only_now modes event disk end image keeps told =
-    no_call moment left_since disk (OpensBeforeOrAfter modes end event) (λ c left. inl (at_weaker (λ n. ⊥) (IsStepTo modes end event) c end (λ n none. absurd none) (keeps image told c (only_now disk c left))))
+pub quiet_run : {D : Type 0} (M : DiskMeaning D) (only_now : (disk : D) (c : Image) → M.left_since disk (M.moment disk) c → M.may_leave disk c)
+    (modes : List Mode) (event : Event) (disk : D) (end : End) (image : Image) → KeepsEnd M disk end → M.seen disk ≡ Some image → LeavesOnly M disk disk (OpensBeforeOrAfter modes end event)
+quiet_run M only_now modes event disk end image keeps told =
+    no_call M disk (OpensBeforeOrAfter modes end event) (λ c left. inl (at_weaker (λ n. ⊥) (IsStepTo modes end event) c end (λ n none. absurd none) (keeps image told c (only_now disk c left))))

@@ -1,8 +1,8 @@
 -- The record of a step is written, or there is none.
-use Rattle.std.proofs.Common.{◌≡◌, ◌≢◌, ◌⊎◌, inl, inr, ℕ, ◌+◌, ◌≤◌, ◌^◌, Bool, List, [], ◌∷◌, Option, Some, None, true, length, refl, sym, ap, ◌∙◌, subst, arith}
+use Rattle.std.proofs.Common.{◌≡◌, ◌≢◌, ◌⊎◌, inl, inr, ℕ, ◌+◌, ◌≤◌, ◌^◌, Bool, List, [], ◌∷◌, Some, None, true, length, refl, sym, ap, ◌∙◌, subst, arith}
+use Rattle.as4_disk.specs.declared.disk.Disk.{Ghosts as DiskMeaning}
 use Rattle.as4_disk.specs.Image.{Image}
-use Rattle.as4_disk.specs.Runs.{LeavesOnly}
-use Rattle.as4_disk.specs.declared.change.Change.{Change}
+use Rattle.as4_disk.specs.Leaving.{LeavesOnly}
 use Rattle.as4_disk.proofs.RunLemmas.{no_call}
 use Rattle.as4_effects.specs.declared.effect.Effect.{Effect}
 use Rattle.exchange_model.specs.Apply.{after_all, applied, first_unfit, record_len}
@@ -33,26 +33,26 @@ rest_leads : (end : End) (outcome : Outcome) → outcome.effects ≡ [] → end 
 unfolding applied
 rest_leads end outcome none = let same : end ≡ applied [] end = refl in same ∙ ap (λ (effects : List Effect). applied effects end) (sym none)
 
-module _ {D : Type 0} (moment : D → ℕ) (left_since : D → ℕ → Image → Type 0) (seen : D → Option Image) (may_leave : D → Image → Type 0) where
+module _ {D : Type 0} (M : DiskMeaning D) where
   -- no device call was made
-  pub no_write : (only_now : (disk : D) (c : Image) → left_since disk (moment disk) c → may_leave disk c) (journal : Journal D) (end : End) (P : End → Type 0) (also : Image → Type 0) (image : Image)
-      → IsJournalOf seen may_leave end journal → seen journal.disk ≡ Some image → LeavesOnly moment left_since journal.disk journal.disk (λ c. IsAtWith c end P ⊎ also c)
+  pub no_write : (only_now : (disk : D) (c : Image) → M.left_since disk (M.moment disk) c → M.may_leave disk c) (journal : Journal D) (end : End) (P : End → Type 0) (also : Image → Type 0) (image : Image)
+      → IsJournalOf M end journal → M.seen journal.disk ≡ Some image → LeavesOnly M journal.disk journal.disk (λ c. IsAtWith c end P ⊎ also c)
   no_write only_now journal end P also image is told =
-      no_call moment left_since journal.disk (λ (c : Image). IsAtWith c end P ⊎ also c)
-      (λ c left. inl (at_weaker (λ next. ⊥) P c end (λ next none. absurd none) (kept_opens seen may_leave end journal is image told c (only_now journal.disk c left))))
+      no_call M journal.disk (λ (c : Image). IsAtWith c end P ⊎ also c)
+      (λ c left. inl (at_weaker (λ next. ⊥) P c end (λ next none. absurd none) (kept_opens M end journal is image told c (only_now journal.disk c left))))
 
-module _ {D : Type 0} (seen : D → Option Image) (may_leave : D → Image → Type 0) (moment : D → ℕ) (left_since : D → ℕ → Image → Type 0) (makes : Change → D → D → Bool → Type 0) where
+module _ {D : Type 0} (M : DiskMeaning D) where
   -- a step with effects is recorded as its record is put there
-  pub records_some : (old new : Journal D) (end : End) (outcome : Outcome) (ok : Bool) → outcome.effects ≢ [] → PutsBehind seen may_leave moment left_since makes old new end (applied outcome.effects end) ok
-      → RecordsStep seen may_leave moment left_since makes old new end outcome ok
+  pub records_some : (old new : Journal D) (end : End) (outcome : Outcome) (ok : Bool) → outcome.effects ≢ [] → PutsBehind M old new end (applied outcome.effects end) ok
+      → RecordsStep M old new end outcome ok
   records_some old new end outcome ok some puts = record { kept = puts.kept; any_moment = puts.any_moment; recorded = inr (some, puts.writes) }
 
   -- one without leaves all as it is
-  pub records_none : (only_now : (disk : D) (c : Image) → left_since disk (moment disk) c → may_leave disk c) (journal : Journal D) (end : End) (outcome : Outcome) → outcome.effects ≡ [] → IsJournalOf seen may_leave end journal
-      → RecordsStep seen may_leave moment left_since makes journal journal end outcome true
+  pub records_none : (only_now : (disk : D) (c : Image) → M.left_since disk (M.moment disk) c → M.may_leave disk c) (journal : Journal D) (end : End) (outcome : Outcome) → outcome.effects ≡ [] → IsJournalOf M end journal
+      → RecordsStep M journal journal end outcome true
   records_none only_now journal end outcome none is = record {
-    kept = λ ok. subst (λ (e : End). IsJournalOf seen may_leave e journal) (rest_leads end outcome none) is;
-    any_moment = λ image told. no_write moment left_since seen may_leave only_now journal end (λ n. n ≡ applied outcome.effects end) (λ c. IsAt c (applied outcome.effects end)) image is told;
+    kept = λ ok. subst (λ (e : End). IsJournalOf M e journal) (rest_leads end outcome none) is;
+    any_moment = λ image told. no_write M only_now journal end (λ n. n ≡ applied outcome.effects end) (λ c. IsAt c (applied outcome.effects end)) image is told;
     recorded = inl (none, refl, refl);
   }
 

@@ -2,7 +2,7 @@
 use Rattle.std.specs.Prelude.{◌≡◌, ◌<◌, List, [], ◌∷◌, Option, Some, None}
 use Rattle.std.specs.List.{AllByRecursion}
 use Rattle.as4_flow.specs.Flow.{Rose}
-use Rattle.as4_values.specs.declared.mode.Mode.{Mode}
+use Rattle.mode_values.specs.declared.mode.Mode.{Mode}
 use Rattle.exchange_model.specs.Apply.{applied}
 use Rattle.exchange_model.specs.End.{End}
 use Rattle.exchange_model.specs.Fold.{IsFoldedSize, resized}
@@ -11,10 +11,10 @@ use Rattle.exchange_model.specs.declared.outcome.Outcome.{Outcome}
 use Rattle.exchange_model.specs.declared.reply.Reply.TheVariants.{Stopped}
 use Rattle.office.specs.declared.call.Call.{Call}
 use Rattle.office.specs.declared.call.Call.TheVariants.{Done, Folded, Stop}
-use Rattle.office.specs.declared.call.Halt.{Halt}
+use Rattle.as4_disk.specs.declared.fault_counts.FaultCounts.{FaultCounts}
 
 -- an event is answered with the counts of an earlier fault
-abbrev pub IsRefusedAt : Halt → Call → Type 0
+abbrev pub IsRefusedAt : FaultCounts → Call → Type 0
 IsRefusedAt halt (Done event reply) = reply ≡ Stopped halt.before halt.after
 IsRefusedAt halt (Folded size) = ⊥
 IsRefusedAt halt (Stop event at) = ⊥
@@ -31,7 +31,7 @@ Leads modes start (Stop event halt ∷ calls) end =
     Rose halt.before halt.after × AllByRecursion (IsRefusedAt halt) calls × (start ≡ end)
 
 -- the fault among these calls, if there is one
-abbrev pub stop_of : List Call → Option Halt
+abbrev pub stop_of : List Call → Option FaultCounts
 stop_of [] = None
 stop_of (Done event reply ∷ calls) = stop_of calls
 stop_of (Folded size ∷ calls) = stop_of calls

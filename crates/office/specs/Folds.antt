@@ -1,7 +1,8 @@
 -- What a checkpoint answers, and what it leaves.
-use Rattle.std.specs.Prelude.{◌≡◌, ◌⊎◌, ℕ, ◌<◌, ◌≤◌, Option, None, Result, Ok, Err, ◌^◌, length}
+use Rattle.std.specs.Prelude.{◌≡◌, ◌⊎◌, ℕ, ◌<◌, ◌≤◌, None, Result, Ok, Err, ◌^◌, length}
+use Rattle.as4_disk.specs.declared.disk.Disk.{Ghosts as DiskMeaning}
 use Rattle.as4_disk.specs.Image.{Image}
-use Rattle.as4_disk.specs.Runs.{LeavesOnly}
+use Rattle.as4_disk.specs.Leaving.{LeavesOnly}
 use Rattle.as4_flow.specs.Flow.{Told}
 use Rattle.end_records.specs.Opens.{OpensFolded}
 use Rattle.exchange_model.specs.End.{End}
@@ -36,16 +37,16 @@ module _ {D : Type 0} (old new : OfficeState D) (pass_old pass_new : PassState C
     pub pass : pass_new ≡ pass_old
 
   -- what is answered, by cases on the answer
-  abbrev pub Shortening : (D → ℕ) → Result ℕ OfficeFault → Type 0
-  Shortening fault_count (Ok size) = (stop_of old.list ≡ None) × (Shortens size ⊎ IsShortEnough size)
-  Shortening fault_count (Err (Disk before after)) = Stops old new pass_old pass_new fault_count None before after
-  Shortening fault_count (Err (Stopped before after)) = StandsStill old new pass_old pass_new before after × EntersNothing old new pass_old pass_new × (length old.list < 2 ^ 63)
-  Shortening fault_count (Err Worn) = FindsItWorn old new pass_old pass_new
-  Shortening fault_count (Err NoMemory) = (stop_of old.list ≡ None) × (length old.list < 2 ^ 63) × CanShorten old.end × EntersNothing old new pass_old pass_new
+  abbrev pub Shortening : DiskMeaning D → Result ℕ OfficeFault → Type 0
+  Shortening M (Ok size) = (stop_of old.list ≡ None) × (Shortens size ⊎ IsShortEnough size)
+  Shortening M (Err (Disk before after)) = Stops old new pass_old pass_new M None before after
+  Shortening M (Err (Stopped before after)) = StandsStill old new pass_old pass_new before after × EntersNothing old new pass_old pass_new × (length old.list < 2 ^ 63)
+  Shortening M (Err Worn) = FindsItWorn old new pass_old pass_new
+  Shortening M (Err NoMemory) = (stop_of old.list ≡ None) × (length old.list < 2 ^ 63) × CanShorten old.end × EntersNothing old new pass_old pass_new
 
 -- What a checkpoint does. While it is made a crash leaves the end, with its journal folded or as it was.
-pub record Checkpoints {D : Type 0} (seen : D → Option Image) (may_leave : D → Image → Type 0) (moment : D → ℕ) (left_since : D → ℕ → Image → Type 0) (fault_count : D → ℕ) (old new : OfficeState D) (pass_old pass_new : PassState Call) (result : Result ℕ OfficeFault) : Type 0 where
-  pub answer : Shortening old new pass_old pass_new fault_count result
+pub record Checkpoints {D : Type 0} (M : DiskMeaning D) (old new : OfficeState D) (pass_old pass_new : PassState Call) (result : Result ℕ OfficeFault) : Type 0 where
+  pub answer : Shortening old new pass_old pass_new M result
   pub any_moment : stop_of old.list ≡ None
-      → Told (seen old.disk) (λ _. LeavesOnly moment left_since old.disk new.disk (λ (c : Image). OpensFolded c old.end))
-  pub keeps : Keeps seen may_leave fault_count old new pass_old pass_new
+      → Told (M.seen old.disk) (λ _. LeavesOnly M old.disk new.disk (λ (c : Image). OpensFolded c old.end))
+  pub keeps : Keeps M old new pass_old pass_new

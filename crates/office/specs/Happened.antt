@@ -1,6 +1,6 @@
 -- What happened at an end by the calls of its office, and by what a fault among them left.
 use Rattle.std.specs.Prelude.{◌≡◌, ◌⊎◌, true, List, [], ◌∷◌, Option, Some, None}
-use Rattle.as4_values.specs.declared.mode.Mode.{Mode}
+use Rattle.mode_values.specs.declared.mode.Mode.{Mode}
 use Rattle.exchange_model.specs.Alone.{MayHappenTo, end_after}
 use Rattle.exchange_model.specs.End.{End}
 use Rattle.exchange_model.specs.World.{Does, Folds, Happening, Site}

@@ -1,7 +1,7 @@
 -- What a crash may leave of an office's disk.
 use Rattle.std.specs.Prelude.{◌≡◌, ◌⊎◌, List, [], ◌∷◌, Some, None}
 use Rattle.as4_disk.specs.Image.{Image}
-use Rattle.as4_values.specs.declared.mode.Mode.{Mode}
+use Rattle.mode_values.specs.declared.mode.Mode.{Mode}
 use Rattle.end_records.specs.Opens.{IsAt, IsAtWith, OpensFolded}
 use Rattle.exchange_model.specs.Apply.{applied}
 use Rattle.exchange_model.specs.End.{End}

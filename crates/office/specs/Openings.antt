@@ -1,7 +1,7 @@
 -- Openings of one office, each of what a crash left of the one before.
 use Rattle.std.specs.Prelude.{◌≡◌, List, [], ◌∷◌, ◌++◌}
 use Rattle.as4_disk.specs.Image.{Image}
-use Rattle.as4_values.specs.declared.mode.Mode.{Mode}
+use Rattle.mode_values.specs.declared.mode.Mode.{Mode}
 use Rattle.end_records.specs.Opens.{ReadsAs}
 use Rattle.exchange_model.specs.End.{End}
 use Rattle.exchange_model.specs.World.{Happening, Site}

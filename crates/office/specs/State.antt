@@ -1,8 +1,10 @@
 -- An office as contracts see it.
 use Rattle.std.specs.Prelude.{◌≡◌, ◌<◌, ◌≤◌, ◌^◌, ℕ, List, Option, None, IfSome, length}
 use Rattle.as4_disk.specs.Image.{Image}
+use Rattle.as4_disk.specs.declared.disk.Disk.{Ghosts as DiskMeaning}
+use Rattle.as4_disk.specs.declared.fault_counts.FaultCounts.{FaultCounts}
 use Rattle.as4_flow.specs.Flow.{Rose, Told}
-use Rattle.as4_values.specs.declared.mode.Mode.{Mode}
+use Rattle.mode_values.specs.declared.mode.Mode.{Mode}
 use Rattle.end_records.specs.Opens.{IsJournalOf}
 use Rattle.end_tables.specs.Rooms.{Rooms}
 use Rattle.exchange_model.specs.End.{End}
@@ -13,7 +15,6 @@ use Rattle.msh_core.specs.Machine.{IsReady, Machine, Planned}
 use Rattle.office.specs.Calls.{stop_of}
 use Rattle.office.specs.Left.{IsLeft}
 use Rattle.office.specs.declared.call.Call.{Call}
-use Rattle.office.specs.declared.call.Halt.{Halt}
 use Rattle.pass_book.specs.States.{Book}
 
 -- its disk, its end with the modes and what there is room for, which opening it is of, and the list of its calls
@@ -34,11 +35,11 @@ TakesEvents office = (length office.list < 2 ^ 63) × (stop_of office.list ≡ N
 
 -- What an office keeps. It stands still from the fault among its calls on; without one its journal is that of its end, and
 -- with one the disk is as that call left it.
-pub record IsInOrder {D : Type 0} (seen : D → Option Image) (may_leave : D → Image → Type 0) (fault_count : D → ℕ) (journal : Journal D) (end : End) (modes : List Mode) (halt : Option Halt) (list : List Call) : Type 0 where
+pub record IsInOrder {D : Type 0} (M : DiskMeaning D) (journal : Journal D) (end : End) (modes : List Mode) (halt : Option FaultCounts) (list : List Call) : Type 0 where
   pub halted : halt ≡ stop_of list
-  pub kept : halt ≡ None → IsJournalOf seen may_leave end journal
-  pub left : Told (seen journal.disk) (λ _. (c : Image) → may_leave journal.disk c → IsLeft modes end list c)
-  pub counted : IfSome halt (λ at. Rose at.before at.after × (at.after ≤ fault_count journal.disk))
+  pub kept : halt ≡ None → IsJournalOf M end journal
+  pub left : Told (M.seen journal.disk) (λ _. (c : Image) → M.may_leave journal.disk c → IsLeft modes end list c)
+  pub counted : IfSome halt (λ at. Rose at.before at.after × (at.after ≤ M.fault_count journal.disk))
 
 -- an event with its plan
 pub record Prepared : Type 0 where

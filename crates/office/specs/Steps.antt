@@ -1,9 +1,9 @@
 -- What a call on an office answers, and what it leaves of the office and of the caller's pass.
-use Rattle.std.specs.Prelude.{◌≡◌, ◌≤◌, ℕ, ◌+◌, ◌^◌, Bool, true, false, [], ◌∷◌, ◌++◌, Option, Some, None, Result, Ok, Err, is_some, length, ◌<◌}
+use Rattle.std.specs.Prelude.{◌≡◌, ◌≤◌, ℕ, ◌+◌, ◌^◌, true, false, [], ◌∷◌, ◌++◌, Option, Some, None, Result, Ok, Err, is_some, length, ◌<◌}
 use mathlib.Core.List.{IsPrefix}
+use Rattle.as4_disk.specs.declared.disk.Disk.{Ghosts as DiskMeaning}
 use Rattle.as4_disk.specs.Image.{Image}
-use Rattle.as4_disk.specs.Runs.{LeavesOnly}
-use Rattle.as4_disk.specs.declared.change.Change.{Change}
+use Rattle.as4_disk.specs.Leaving.{LeavesOnly}
 use Rattle.as4_flow.specs.Flow.{Rose, Told}
 use Rattle.end_records.specs.Opens.{KeepsEnd}
 use Rattle.exchange_model.specs.Apply.{applied}
@@ -55,16 +55,16 @@ module _ {D : Type 0} (old new : OfficeState D) (pass_old pass_new : PassState C
     pub disk : new.disk ≡ old.disk
 
   -- the disk failed: the end is as before, and from now on the office stands still
-  pub record Stops (fault_count : D → ℕ) (event : Option Event) (before after : ℕ) : Type 0 where
+  pub record Stops (M : DiskMeaning D) (event : Option Event) (before after : ℕ) : Type 0 where
     pub going : stop_of old.list ≡ None
     pub end : new.end ≡ old.end
-    pub old_count : before ≡ fault_count old.disk
-    pub new_count : after ≡ fault_count new.disk
+    pub old_count : before ≡ M.fault_count old.disk
+    pub new_count : after ≡ M.fault_count new.disk
     pub rose : Rose before after
     pub entered : Enters (Stop event (record { before = before; after = after }))
 
 -- what every call keeps, whatever it answers
-pub record Keeps {D : Type 0} (seen : D → Option Image) (may_leave : D → Image → Type 0) (fault_count : D → ℕ) (old new : OfficeState D) (pass_old pass_new : PassState Call) : Type 0 where
+pub record Keeps {D : Type 0} (M : DiskMeaning D) (old new : OfficeState D) (pass_old pass_new : PassState Call) : Type 0 where
   pub modes : new.modes ≡ old.modes
   pub book : new.book ≡ old.book
   pub pass_book : pass_new.book ≡ pass_old.book
@@ -72,14 +72,14 @@ pub record Keeps {D : Type 0} (seen : D → Option Image) (may_leave : D → Ima
   -- the calls lead to the end, from wherever they led to it before
   pub legal : (start : End) → Leads old.modes start old.list old.end → Leads old.modes start new.list new.end
   -- without a fault among the calls each crash leaves the end, and with one what that call may have left
-  pub safe : stop_of new.list ≡ None → KeepsEnd seen may_leave new.disk new.end
-  pub left : Told (seen new.disk) (λ _. (c : Image) → may_leave new.disk c → IsLeft new.modes new.end new.list c)
-  pub tells : is_some (seen new.disk) ≡ is_some (seen old.disk)
+  pub safe : stop_of new.list ≡ None → KeepsEnd M new.disk new.end
+  pub left : Told (M.seen new.disk) (λ _. (c : Image) → M.may_leave new.disk c → IsLeft new.modes new.end new.list c)
+  pub tells : is_some (M.seen new.disk) ≡ is_some (M.seen old.disk)
   -- and without one no call on the disk failed
-  pub calm : stop_of new.list ≡ None → fault_count new.disk ≡ fault_count old.disk
-  pub counted : fault_count old.disk ≤ fault_count new.disk
+  pub calm : stop_of new.list ≡ None → M.fault_count new.disk ≡ M.fault_count old.disk
+  pub counted : M.fault_count old.disk ≤ M.fault_count new.disk
 
-module _ {D : Type 0} (seen : D → Option Image) (may_leave : D → Image → Type 0) (moment : D → ℕ) (left_since : D → ℕ → Image → Type 0) (fault_count : D → ℕ) (makes : Change → D → D → Bool → Type 0) (old new : OfficeState D) (pass_old pass_new : PassState Call) where
+module _ {D : Type 0} (M : DiskMeaning D) (old new : OfficeState D) (pass_old pass_new : PassState Call) where
   -- the event's step is made, its record is on the disk, and its reply is answered
   pub record Replies (event : Event) (r : Reply) : Type 0 where
     pub going : stop_of old.list ≡ None
@@ -87,16 +87,16 @@ module _ {D : Type 0} (seen : D → Option Image) (may_leave : D → Image → T
     pub step : Step old.modes old.end event outcome
     pub reply : r ≡ outcome.reply
     pub end : new.end ≡ applied outcome.effects old.end
-    pub recorded : IsRecorded seen may_leave makes old.disk new.disk old.end outcome true
-    pub kept : KeepsEnd seen may_leave new.disk new.end
+    pub recorded : IsRecorded M old.disk new.disk old.end outcome true
+    pub kept : KeepsEnd M new.disk new.end
     pub entered : Enters old new pass_old pass_new (Done event r)
 
   -- the disk failed while the record of the event's step was put there
   pub record StopsAt (event : Event) (before after : ℕ) : Type 0 where
-    pub stops : Stops old new pass_old pass_new fault_count (Some event) before after
+    pub stops : Stops old new pass_old pass_new M (Some event) before after
     pub outcome : Outcome
     pub step : Step old.modes old.end event outcome
-    pub recorded : IsRecorded seen may_leave makes old.disk new.disk old.end outcome false
+    pub recorded : IsRecorded M old.disk new.disk old.end outcome false
 
   -- what is answered to an event, by cases on the answer
   abbrev pub Steps : Event → Result Reply OfficeFault → Type 0
@@ -110,8 +110,8 @@ module _ {D : Type 0} (seen : D → Option Image) (may_leave : D → Image → T
   pub record Handles (event : Event) (result : Result Reply OfficeFault) : Type 0 where
     pub answer : Steps event result
     pub any_moment : stop_of old.list ≡ None
-        → Told (seen old.disk) (λ _. LeavesOnly moment left_since old.disk new.disk (OpensBeforeOrAfter old.modes old.end event))
-    pub keeps : Keeps seen may_leave fault_count old new pass_old pass_new
+        → Told (M.seen old.disk) (λ _. LeavesOnly M old.disk new.disk (OpensBeforeOrAfter old.modes old.end event))
+    pub keeps : Keeps M old new pass_old pass_new
 
 -- a tick to this moment, as the office makes it
 abbrev pub IsTickTo : ℕ → Event → Type 0

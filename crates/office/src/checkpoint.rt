@@ -2,11 +2,11 @@
 ghost use Rattle.std.specs.Prelude.{◌≡◌};
 ghost use Rattle.office.specs.Folds.{Checkpoints};
 
-use crate::call::{Call, Halt};
+use crate::call::Call;
 use crate::entering::{enter, enter_stop};
 use crate::fault::OfficeFault;
 use crate::office::Office;
-use as4_disk::Disk;
+use as4_disk::{Disk, FaultCounts};
 use end_journal::fold_end;
 use journal::JournalFault;
 use pass_book::{MAX_ENTRIES, Pass};
@@ -16,7 +16,7 @@ impl<'a, D: Disk> Office<'a, D> {
     /// leaf that isn't picked may differ, and all else stays.
     pub fn checkpoint(&mut self, pass: &mut Pass<'_, Call>) -> Result<u64, OfficeFault>
         requires book { pass.old.book ≡ self.old.book }
-        ensures { Checkpoints D.seen D.may_leave D.moment D.left_since D.fault_count self.old self.new pass.old pass.new
+        ensures { Checkpoints D.Disk self.old self.new pass.old pass.new
             result }
     {
         if self.keeper.len() == MAX_ENTRIES {
@@ -24,7 +24,7 @@ impl<'a, D: Disk> Office<'a, D> {
             return Err(OfficeFault::Worn);
         }
         if let Some(halt) = self.halt {
-            let Halt { before, after } = halt;
+            let FaultCounts { before, after } = halt;
             return Err(OfficeFault::Stopped { before, after });
         }
         let size = self.core.folded_size();
@@ -40,7 +40,7 @@ impl<'a, D: Disk> Office<'a, D> {
             }
             Err(JournalFault::NoMemory) => Err(OfficeFault::NoMemory),
             Err(JournalFault::Disk { before, after }) => {
-                let halt = Halt { before, after };
+                let halt = FaultCounts { before, after };
                 self.halt = Some(halt);
                 Err(enter_stop(&mut self.keeper, pass, None, halt))
             }

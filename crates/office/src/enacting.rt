@@ -24,7 +24,7 @@ impl<'a, D: Disk> Office<'a, D> {
     pub fn enact(&mut self, pass: &mut Pass<'_, Call>, ready: Ready) -> Result<Reply, OfficeFault>
         requires book { pass.old.book ≡ self.old.book }
         requires ready { IsPreparedFor self.old ready }
-        ensures handles { Handles D.seen D.may_leave D.moment D.left_since D.fault_count D.makes self.old self.new
+        ensures handles { Handles D.Disk self.old self.new
             pass.old pass.new ready.event result }
         ensures memory { IsErrOf result OfficeFault.NoMemory → ⊥ }
     {
@@ -36,7 +36,7 @@ impl<'a, D: Disk> Office<'a, D> {
     /// change and the reply has no text in it, but for `Quiet` and `Full`.
     pub fn step(&mut self, pass: &mut Pass<'_, Call>, event: Event) -> Result<Reply, OfficeFault>
         requires book { pass.old.book ≡ self.old.book }
-        ensures handles { Handles D.seen D.may_leave D.moment D.left_since D.fault_count D.makes self.old self.new
+        ensures handles { Handles D.Disk self.old self.new
             pass.old pass.new event result }
         ensures free { (outcome : Outcome) → Step self.old.modes self.old.end event outcome → IsFree outcome
             → IsErrOf result OfficeFault.NoMemory → ⊥ }
@@ -57,8 +57,7 @@ impl<'a, D: Disk> Office<'a, D> {
     pub fn tick(&mut self, pass: &mut Pass<'_, Call>, stamp: u64) -> Result<Reply, OfficeFault>
         requires book { pass.old.book ≡ self.old.book }
         requires dated { stamp ≤ MAX_MOMENT }
-        ensures handles { (event : EventValue) × IsTickTo stamp event × Handles D.seen D.may_leave D.moment D.left_since
-            D.fault_count D.makes self.old self.new pass.old pass.new event result }
+        ensures handles { (event : EventValue) × IsTickTo stamp event × Handles D.Disk self.old self.new pass.old pass.new event result }
         ensures memory { IsErrOf result OfficeFault.NoMemory → ⊥ }
     {
         let plan = self.core.plan_tick(stamp);
@@ -74,8 +73,7 @@ impl<'a, D: Disk> Office<'a, D> {
     #[tactic(auto, unfolding(exchange_model::specs::Coming::may_come))]
     pub fn confirm(&mut self, pass: &mut Pass<'_, Call>, upto: u64) -> Result<Reply, OfficeFault>
         requires book { pass.old.book ≡ self.old.book }
-        ensures handles { (event : EventValue) × IsConfirmationOf upto event × Handles D.seen D.may_leave D.moment
-            D.left_since D.fault_count D.makes self.old self.new pass.old pass.new event result }
+        ensures handles { (event : EventValue) × IsConfirmationOf upto event × Handles D.Disk self.old self.new pass.old pass.new event result }
         ensures memory { IsErrOf result OfficeFault.NoMemory → ⊥ }
     {
         let plan = self.core.plan_confirm(upto);
@@ -96,7 +94,7 @@ impl<'a, D: Disk> Office<'a, D> {
     ) -> Result<Reply, OfficeFault>
         requires book { pass.old.book ≡ self.old.book }
         requires ready { HasWork self.old event work }
-        ensures handles { Handles D.seen D.may_leave D.moment D.left_since D.fault_count D.makes self.old self.new
+        ensures handles { Handles D.Disk self.old self.new
             pass.old pass.new event result }
         ensures memory { IsErrOf result OfficeFault.NoMemory → ⊥ }
     {
@@ -129,7 +127,7 @@ impl<'a, D: Disk> Office<'a, D> {
     fn refuse(&mut self, pass: &mut Pass<'_, Call>, event: Event) -> OfficeFault
         requires book { pass.old.book ≡ self.old.book }
         requires refuses { TakesEvents self.old → ⊥ }
-        ensures handles { Handles D.seen D.may_leave D.moment D.left_since D.fault_count D.makes self.old self.new
+        ensures handles { Handles D.Disk self.old self.new
             pass.old pass.new event (Err result) }
         ensures memory { result ≢ OfficeFault.NoMemory }
     {

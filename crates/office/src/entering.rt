@@ -4,8 +4,9 @@ ghost use mathlib.Core.List.{IsPrefix};
 ghost use Rattle.exchange_model.specs.declared.reply.Reply.TheVariants.{Stopped};
 ghost use Rattle.office.specs.declared.call.Call.TheVariants.{Done, Stop};
 
-use crate::call::{Call, Halt};
+use crate::call::Call;
 use crate::fault::OfficeFault;
+use as4_disk::FaultCounts;
 use exchange_model::{Event, Reply};
 use pass_book::{Keeper, Pass, Worn};
 
@@ -54,7 +55,7 @@ pub(crate) fn enter_stop(
     keeper: &mut Keeper<'_, Call>,
     pass: &mut Pass<'_, Call>,
     event: Option<Event>,
-    halt: Halt,
+    halt: FaultCounts,
 ) -> OfficeFault
     requires book { pass.old.book ≡ keeper.old.book }
     requires room { length keeper.old.list < 2 ^ 63 }
@@ -66,7 +67,7 @@ pub(crate) fn enter_stop(
 {
     let call = enter(keeper, pass, Call::Stop { event, halt });
     drop(call);
-    let Halt { before, after } = halt;
+    let FaultCounts { before, after } = halt;
     OfficeFault::Disk { before, after }
 }
 
@@ -75,7 +76,7 @@ pub(crate) fn enter_refused(
     keeper: &mut Keeper<'_, Call>,
     pass: &mut Pass<'_, Call>,
     event: Event,
-    halt: Halt,
+    halt: FaultCounts,
 ) -> OfficeFault
     requires book { pass.old.book ≡ keeper.old.book }
     requires room { length keeper.old.list < 2 ^ 63 }
@@ -85,7 +86,7 @@ pub(crate) fn enter_refused(
     ensures pass { pass.new ≡ record pass.old { list = keeper.new.list; share = pass.old.share + 1 } }
     ensures book { keeper.new.book ≡ keeper.old.book }
 {
-    let Halt { before, after } = halt;
+    let FaultCounts { before, after } = halt;
     let reply = enter_done(keeper, pass, event, Reply::Stopped { before, after });
     drop(reply);
     OfficeFault::Stopped { before, after }

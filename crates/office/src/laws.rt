@@ -2,7 +2,7 @@
 ghost use Rattle.std.specs.Prelude.{◌≡◌, ◌++◌, List, false};
 ghost use Rattle.std.specs.List.{Contains};
 ghost use Rattle.as4_disk.specs.Image.{Image};
-ghost use Rattle.as4_values.specs.declared.mode.Mode.{Mode};
+ghost use Rattle.mode_values.specs.declared.mode.Mode.{Mode};
 ghost use Rattle.end_records.specs.Opens.{IsOld, ReadsAs, ReopensAs};
 ghost use Rattle.exchange_model.specs.Alone.{MayHappenTo, end_after};
 ghost use Rattle.exchange_model.specs.End.{End, empty_end};

@@ -22,7 +22,7 @@ mod opening;
 mod ready;
 mod work;
 
-pub use call::{Call, Halt};
+pub use call::Call;
 pub use fault::OfficeFault;
 pub use journal::JournalFault;
 pub use laws::{

@@ -9,8 +9,8 @@ ghost use Rattle.office.specs.Calls.{stop_of};
 ghost use Rattle.office.specs.Left.{IsLeft};
 ghost use Rattle.office.specs.State.{machine_of};
 
-use crate::call::{Call, Halt};
-use as4_disk::Disk;
+use crate::call::Call;
+use as4_disk::{Disk, FaultCounts};
 use journal::{Frame, Journal};
 use msh_core::{Core, Totals};
 use pass_book::{Keeper, Pass};
@@ -27,7 +27,7 @@ pub struct Office<'a, D: Disk> {
     // The record of a tick or a confirmation, which has 11 bytes.
     pub(crate) small: Frame,
     // The disk failed, and the office stands still.
-    pub(crate) halt: Option<Halt>,
+    pub(crate) halt: Option<FaultCounts>,
 }
 
 impl<'a, D: Disk> Model for Office<'a, D> {
@@ -46,7 +46,7 @@ impl<'a, D: Disk> Model for Office<'a, D> {
     } };
 
     ghost invariant = { λ o.
-        IsInOrder D.seen D.may_leave D.fault_count o.journal o.core.end o.core.modes o.halt o.keeper.list × (length o.small ≡ 11) };
+        IsInOrder D.Disk o.journal o.core.end o.core.modes o.halt o.keeper.list × (length o.small ≡ 11) };
 }
 
 impl<'a, D: Disk> Office<'a, D> {
@@ -77,7 +77,7 @@ impl<'a, D: Disk> Office<'a, D> {
     }
 
     /// The fault of the disk since which the office stands still.
-    pub fn halt(&self) -> Option<Halt>
+    pub fn halt(&self) -> Option<FaultCounts>
         ensures { result ≡ stop_of self.now.list }
     {
         self.halt
@@ -87,7 +87,7 @@ impl<'a, D: Disk> Office<'a, D> {
     /// that call may have left.
     pub fn into_disk(self) -> D
         ensures disk { result ≡ self.entry.disk }
-        ensures safe { stop_of self.entry.list ≡ None → KeepsEnd D.seen D.may_leave result self.entry.end }
+        ensures safe { stop_of self.entry.list ≡ None → KeepsEnd D.Disk result self.entry.end }
         ensures left { Told (D.seen result) (λ _. (c : Image) → D.may_leave result c
             → IsLeft self.entry.modes self.entry.end self.entry.list c) }
         ensures stopped { IfSome (stop_of self.entry.list) (λ halt. Rose halt.before halt.after

@@ -1,6 +1,6 @@
 //! How an office is opened.
 ghost use Rattle.std.specs.Prelude.{◌≡◌, ℕ, ◌^◌, [], IfErr, IfOk, is_some};
-ghost use Rattle.as4_disk.specs.Runs.{FirstThen, Quiet};
+ghost use Rattle.as4_disk.specs.Leaving.{FirstThen, Quiet};
 ghost use Rattle.as4_flow.specs.Flow.{Told};
 ghost use Rattle.end_records.specs.Opens.{IsOld, KeepsEnd, ReadsAs, ReopensAs};
 ghost use Rattle.end_records.specs.Unfit.{IsNoJournal};
@@ -35,20 +35,20 @@ impl<'a, D: Disk> Office<'a, D> {
         ensures end { IfOk result (λ o. Told (D.seen disk) (λ b. (end : End) × ReadsAs b end
             × (IsOld (picked_leaf b) → (size : ℕ) × IsFoldedSize end size × (o.0.end ≡ resized size end))
             × (¬ IsOld (picked_leaf b) → o.0.end ≡ end))) }
-        ensures safe { IfOk result (λ o. KeepsEnd D.seen D.may_leave o.0.disk o.0.end) }
+        ensures safe { IfOk result (λ o. KeepsEnd D.Disk o.0.disk o.0.end) }
 
         // Until the journal has settled its selector and its leaf a crash leaves what it might have left before, and from
         // then on a disk that opens as it read.
         ensures any_moment { IfOk result (λ o. Told (D.seen disk) (λ b.
-            FirstThen D.moment D.left_since disk o.0.disk (D.may_leave disk) (ReopensAs b))) }
+            FirstThen D.Disk disk o.0.disk (D.may_leave disk) (ReopensAs b))) }
         ensures failed_moment { IfErr result (λ e. Told (D.seen disk) (λ b.
-            FirstThen D.moment D.left_since disk e.1 (D.may_leave disk) (ReopensAs b))) }
+            FirstThen D.Disk disk e.1 (D.may_leave disk) (ReopensAs b))) }
 
         // At the place of `NotJournal` stands no record of the end, and nothing was written.
         ensures not_journal { IfErr result (λ e. (at : ℕ) → e.0 ≡ JournalFault.NotJournal at → Told (D.seen disk) (λ b.
             IsNoJournal at (picked_leaf b))) }
         ensures untouched { IfErr result (λ e. (at : ℕ) → e.0 ≡ JournalFault.NotJournal at → Told (D.seen disk) (λ _.
-            Quiet D.moment D.left_since D.seen D.may_leave disk e.1)) }
+            Quiet D.Disk disk e.1)) }
         ensures whole { IfErr result (λ e. (at : ℕ) → e.0 ≡ JournalFault.NotJournal at → Told (D.seen disk) (λ b.
             (end : End) → ReadsAs b end → ⊥)) }
         ensures faults { IfErr result (λ e. IsOpeningFault e.0) }
@@ -56,6 +56,7 @@ impl<'a, D: Disk> Office<'a, D> {
         ensures cause { IfErr result (λ e. IsCause (D.fault_count disk) (D.fault_count e.1) e.0) }
         ensures fine { IfOk result (λ o. D.fault_count o.0.disk ≡ D.fault_count disk) }
         ensures tells { IfOk result (λ o. is_some (D.seen o.0.disk) ≡ is_some (D.seen disk)) }
+        ensures failed_tells { IfErr result (λ e. is_some (D.seen e.1) ≡ is_some (D.seen disk)) }
     {
         let (keeper, pass) = match Keeper::new(alloc) {
             Ok(opened) => opened,

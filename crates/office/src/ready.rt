@@ -67,7 +67,7 @@ impl<'a, D: Disk> Office<'a, D> {
         ensures same { self.new ≡ record self.old { rooms = self.new.rooms } }
         ensures free { (outcome : Outcome) → Step self.old.modes self.old.end event outcome → IsFree outcome
             → IsOk result }
-        ensures keeps { (pass : PassState Call) → Keeps D.seen D.may_leave D.fault_count self.old self.new pass pass }
+        ensures keeps { (pass : PassState Call) → Keeps D.Disk self.old self.new pass pass }
     {
         let plan = match self.core.prepare(&event) {
             Ok(plan) => plan,

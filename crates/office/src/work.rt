@@ -10,10 +10,9 @@ ghost use Rattle.exchange_model.specs.Table.{has_room};
 ghost use Rattle.exchange_model.specs.declared.outcome.Outcome.{Outcome};
 ghost use Rattle.msh_core.specs.Machine.{Machine};
 ghost use Rattle.msh_core.specs.Small.{CanGo, StandsFor};
-ghost use Rattle.office.specs.Recording.{IsWorkFor, PutsBehind, RecordsStep, TellsHalt};
+ghost use Rattle.office.specs.Recording.{IsWorkFor, PutsBehind, RecordsStep, TellsCounts};
 
-use crate::call::Halt;
-use as4_disk::Disk;
+use as4_disk::{Disk, FaultCounts};
 use end_journal::add_record;
 use end_records::a_record_is_put;
 use event_code::{confirm_body, tick_body};
@@ -35,16 +34,16 @@ impl Work {
         &self,
         journal: &mut Journal<D>,
         small: &mut Frame,
-    ) -> Result<(), Halt>
+    ) -> Result<(), FaultCounts>
         requires ready { (machine : Machine) × (outcome : Outcome) × IsWorkFor machine outcome self.now
-            × IsJournalOf D.seen D.may_leave machine.end journal.old }
+            × IsJournalOf D.Disk machine.end journal.old }
         requires small { length small.old ≡ 11 }
         ensures small { length small.new ≡ 11 }
         ensures records { (machine : Machine) (outcome : Outcome) → IsWorkFor machine outcome self.now
-            → IsJournalOf D.seen D.may_leave machine.end journal.old
-            → RecordsStep D.seen D.may_leave D.moment D.left_since D.makes journal.old journal.new machine.end outcome
+            → IsJournalOf D.Disk machine.end journal.old
+            → RecordsStep D.Disk journal.old journal.new machine.end outcome
             (is_ok result) }
-        ensures cause { TellsHalt (D.fault_count journal.old.disk) (D.fault_count journal.new.disk) result }
+        ensures cause { TellsCounts (D.fault_count journal.old.disk) (D.fault_count journal.new.disk) result }
         ensures tells { is_some (D.seen journal.new.disk) ≡ is_some (D.seen journal.old.disk) }
     {
         match self {
@@ -71,13 +70,13 @@ impl Work {
 }
 
 /// Puts the record of a plan, where there is one, behind the others.
-fn write_large<D: Disk>(journal: &mut Journal<D>, frame: &Option<Frame>) -> Result<(), Halt>
-    requires ready { (end : End) × (effects : List Effect) × IsJournalOf D.seen D.may_leave end journal.old
+fn write_large<D: Disk>(journal: &mut Journal<D>, frame: &Option<Frame>) -> Result<(), FaultCounts>
+    requires ready { (end : End) × (effects : List Effect) × IsJournalOf D.Disk end journal.old
         × IsFrameOf effects frame.now × (has_room end effects ≡ true) }
-    ensures records { (end : End) (outcome : Outcome) → IsJournalOf D.seen D.may_leave end journal.old
+    ensures records { (end : End) (outcome : Outcome) → IsJournalOf D.Disk end journal.old
         → IsFrameOf outcome.effects frame.now → first_unfit outcome.effects end ≡ None
-        → RecordsStep D.seen D.may_leave D.moment D.left_since D.makes journal.old journal.new end outcome (is_ok result) }
-    ensures cause { TellsHalt (D.fault_count journal.old.disk) (D.fault_count journal.new.disk) result }
+        → RecordsStep D.Disk journal.old journal.new end outcome (is_ok result) }
+    ensures cause { TellsCounts (D.fault_count journal.old.disk) (D.fault_count journal.new.disk) result }
     ensures tells { is_some (D.seen journal.new.disk) ≡ is_some (D.seen journal.old.disk) }
 {
     match frame {
@@ -91,14 +90,14 @@ fn write_small<D: Disk>(
     journal: &mut Journal<D>,
     frame: &mut Frame,
     plan: &SmallPlan,
-) -> Result<(), Halt>
-    requires ready { (end : End) × IsJournalOf D.seen D.may_leave end journal.old × CanGo end plan.now }
+) -> Result<(), FaultCounts>
+    requires ready { (end : End) × IsJournalOf D.Disk end journal.old × CanGo end plan.now }
     requires frame { length frame.old ≡ 11 }
     ensures frame { length frame.new ≡ 11 }
-    ensures records { (end : End) (outcome : Outcome) → IsJournalOf D.seen D.may_leave end journal.old
+    ensures records { (end : End) (outcome : Outcome) → IsJournalOf D.Disk end journal.old
         → CanGo end plan.now → StandsFor end plan.now outcome
-        → RecordsStep D.seen D.may_leave D.moment D.left_since D.makes journal.old journal.new end outcome (is_ok result) }
-    ensures cause { TellsHalt (D.fault_count journal.old.disk) (D.fault_count journal.new.disk) result }
+        → RecordsStep D.Disk journal.old journal.new end outcome (is_ok result) }
+    ensures cause { TellsCounts (D.fault_count journal.old.disk) (D.fault_count journal.new.disk) result }
     ensures tells { is_some (D.seen journal.new.disk) ≡ is_some (D.seen journal.old.disk) }
 {
     match plan {
@@ -115,18 +114,18 @@ fn write_small<D: Disk>(
 }
 
 /// Puts the record behind the others.
-fn write_frame<D: Disk>(journal: &mut Journal<D>, frame: &Frame) -> Result<(), Halt>
-    requires ready { (end : End) × IsJournalOf D.seen D.may_leave end journal.old
+fn write_frame<D: Disk>(journal: &mut Journal<D>, frame: &Frame) -> Result<(), FaultCounts>
+    requires ready { (end : End) × IsJournalOf D.Disk end journal.old
         × (end.size + (length frame.now + 9) ≤ 2 ^ 32) }
-    ensures puts { (end next : End) → IsJournalOf D.seen D.may_leave end journal.old → RecordLeads frame.now end next
-        → PutsBehind D.seen D.may_leave D.moment D.left_since D.makes journal.old journal.new end next (is_ok result) }
-    ensures cause { TellsHalt (D.fault_count journal.old.disk) (D.fault_count journal.new.disk) result }
+    ensures puts { (end next : End) → IsJournalOf D.Disk end journal.old → RecordLeads frame.now end next
+        → PutsBehind D.Disk journal.old journal.new end next (is_ok result) }
+    ensures cause { TellsCounts (D.fault_count journal.old.disk) (D.fault_count journal.new.disk) result }
     ensures tells { is_some (D.seen journal.new.disk) ≡ is_some (D.seen journal.old.disk) }
 {
     a_record_is_put::<D>();
     match add_record(journal, frame) {
         Ok(()) => Ok(()),
-        Err(JournalFault::Disk { before, after }) => Err(Halt { before, after }),
+        Err(JournalFault::Disk { before, after }) => Err(FaultCounts { before, after }),
         Err(_) => unreachable!(),
     }
 }

@@ -1,4 +1,4 @@
-//! Replies and messages made by hand.
+//! Sample replies and messages.
 
 ghost use Rattle.std.specs.Prelude.{◌≡◌, IfOk, IfSome, IsTrue, length};
 ghost use Rattle.as4_values.specs.SignalParts.{is_pull, is_receipt};
@@ -85,7 +85,7 @@ pub fn pushed(alloc: Global) -> Option<Reply> {
     }
 }
 
-/// A pull request of the channel of the mode m.
+/// A pull request for the channel of the mode m.
 fn request(alloc: Global) -> Option<Signal>
     ensures { IfSome result (λ signal. IsTrue (is_pull signal.body)) }
 {
@@ -109,7 +109,7 @@ pub fn requested(alloc: Global) -> Option<Reply> {
     asked(alloc, Message::Signal(request(alloc)?))
 }
 
-/// A pull request, bundled with the receipt of the submission 0.
+/// A pull request, bundled with the receipt for the submission 0.
 pub fn paired(alloc: Global) -> Option<Reply> {
     match (receipt(alloc), request(alloc)) {
         (Some(receipt), Some(pull)) => asked(alloc, Message::Pair(Pair { receipt, pull })),
@@ -121,7 +121,7 @@ pub fn paired(alloc: Global) -> Option<Reply> {
     }
 }
 
-/// This message goes to the address of a drill.
+/// A request with this message, to the address of a drill.
 fn asked(alloc: Global, message: Message) -> Option<Reply> {
     match text(alloc, b"http://drill/") {
         Some(address) => Some(Reply::Request { address, message }),
@@ -152,7 +152,7 @@ fn signal_id(alloc: Global) -> Option<MessageId> {
     MessageId::of_signal(alloc, 1).ok()
 }
 
-/// The receipt of the submission 0.
+/// The receipt for the submission 0.
 fn receipt(alloc: Global) -> Option<Signal>
     ensures { IfSome result (λ signal. IsTrue (is_receipt signal.body)) }
 {
@@ -193,7 +193,7 @@ fn one_item(alloc: Global) -> Option<Seq<ErrorItem>>
     Some(Seq::of(vec![in alloc; item].ok()?))
 }
 
-/// An error signal of one error.
+/// An error signal with one error.
 pub fn error(alloc: Global) -> Option<Message> {
     match (stamp(alloc), id(alloc), one_item(alloc)) {
         (Some(stamp), Some(id), Some(items)) => Some(Message::Signal(Signal {

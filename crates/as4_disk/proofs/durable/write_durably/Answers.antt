@@ -10,7 +10,7 @@ pub returns-in_err-write_at-clause-any_moment : goal.returns-in_err-write_at-cla
 returns-in_err-write_at-clause-any_moment g c =
     let old = c.args.disk.now in
     let P = TornFrom c.args.part c.args.at (length c.args.bytes.now) (g.D.Disk.may_leave old) in
-    one_call g.D.Disk.moment g.D.Disk.left_since old c.write_at.new.self P _ c.write_at.ensures.time
+    one_call g.D.Disk old c.write_at.new.self P _ c.write_at.ensures.time
     (λ image left. (image, g.met.D.Disk.only_now old image left, torn_nothing c.args.part c.args.at _ image))
     c.write_at.ensures.crash
 
@@ -30,10 +30,10 @@ returns-clause-any_moment g c =
     let old = c.args.disk.now in
     let mid = c.write_at.new.self in
     let P = TornFrom c.args.part c.args.at (length c.args.bytes.now) (g.D.Disk.may_leave old) in
-    then g.D.Disk.moment g.D.Disk.left_since old mid c.sync.new.self P
-    (one_call g.D.Disk.moment g.D.Disk.left_since old mid P _ c.write_at.ensures.time
+    then g.D.Disk old mid c.sync.new.self P
+    (one_call g.D.Disk old mid P _ c.write_at.ensures.time
     (λ image left. (image, g.met.D.Disk.only_now old image left, torn_nothing c.args.part c.args.at _ image))
     c.write_at.ensures.crash)
-    (one_call g.D.Disk.moment g.D.Disk.left_since mid c.sync.new.self P _ c.sync.ensures.time
+    (one_call g.D.Disk mid c.sync.new.self P _ c.sync.ensures.time
     (λ image left. c.write_at.ensures.crash image (g.met.D.Disk.only_now mid image left))
     (λ image now. c.write_at.ensures.crash image (c.sync.ensures.crash image now)))

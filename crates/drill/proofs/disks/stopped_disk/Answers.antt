@@ -1,8 +1,9 @@
 use Rattle.std.proofs.Common.{◌≡◌, [], Some, false, ap, ◌∙◌, subst, sym}
-use Rattle.as4_disk.specs.Memory.{DiskState, MayLeave}
+use Rattle.as4_disk.specs.Memory.{DiskState}
+use Rattle.as4_disk.specs.MemoryMeaning.{memory_meaning}
 use Rattle.end_records.specs.Opens.{KeepsEnd}
 use Rattle.office.specs.State.{OfficeState}
-use Rattle.drill.proofs.DiskLemmas.{office_stopped, replied_disk, seen, stopped_step}
+use Rattle.drill.proofs.DiskLemmas.{office_stopped, replied_disk, stopped_step}
 use Rattle.drill.proofs.disks.stopped_disk.Goals as goal
 
 pub returns-in-Ok : goal.returns-in-Ok
@@ -15,7 +16,7 @@ returns-in-Ok c =
     office_stopped c.args.office old new.disk c.into_disk.result _ c.args.event answer.outcome c.args.call c.stop_at.ensures c.into_disk.ensures.disk answer.step
     (replied_disk c.an_image_opens_to_one_end.ensures.whole c.leaves_all_that_may_be.ensures.picks c.a_stopped_record_stands_or_not.ensures
     old.disk new.disk old.end answer.outcome c.args.call answer.recorded
-    (subst (KeepsEnd seen MayLeave new.disk) answer.end answer.kept) sound stops c.requires.call.0 c.requires.call.1)
+    (subst (KeepsEnd memory_meaning new.disk) answer.end answer.kept) sound stops c.requires.call.0 c.requires.call.1)
 
 pub returns-else-ran_out : goal.returns-else-ran_out
 returns-else-ran_out c =

@@ -2,7 +2,7 @@ use Rattle.std.proofs.Common.{◌≡◌, ℕ, ◌<◌, List, ap, ◌∙◌, subs
 use Rattle.as4_flow.specs.Flow.{flow, TakesFront, appended}
 use Rattle.drill.specs.Transcript.{lines_limit}
 use Rattle.drill.proofs.EndLemmas.{Turn, so_far_played, ends_full, ends_too_many, ends_unwritten, ends_without_memory, ends_wrong}
-use Rattle.drill_script.specs.Lacking.{parted}
+use Rattle.byte_forms.specs.Parted.{parted}
 use Rattle.drill_script.specs.LineText.{line_text}
 use Rattle.drill.proofs.script.play_line.Goals as goal
 

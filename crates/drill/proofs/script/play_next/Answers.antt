@@ -1,7 +1,7 @@
 use Rattle.std.proofs.Common.{◌≡◌, List, ℕ, [], Option, refl, subst}
 use Rattle.as4_flow.specs.Flow.{flow, Told}
 use Rattle.drill.specs.Next.{HoldsNoLine}
-use Rattle.drill_script.specs.Lacking.{parted}
+use Rattle.byte_forms.specs.Parted.{parted}
 use Rattle.drill_script.specs.LineText.{line_text}
 use Rattle.drill.proofs.EndLemmas.{so_far_read, ends_outside, ends_unread, ends_without_memory}
 use Rattle.drill.proofs.script.play_next.Goals as goal

@@ -5,11 +5,11 @@ use Rattle.end_journal.proofs.adding.add_record.Goals as goal
 
 pub returns-in_err-append-clause-any_moment : goal.returns-in_err-append-clause-any_moment
 returns-in_err-append-clause-any_moment g c end next is leads =
-    added_run g.D.Disk.moment g.D.Disk.left_since g.D.Disk.seen g.D.Disk.may_leave c.args.journal.now c.append.new.self c.args.frame.now end next c.append.ensures.any_moment is leads
+    added_run g.D.Disk c.args.journal.now c.append.new.self c.args.frame.now end next c.append.ensures.any_moment is leads
 
 pub returns-clause-any_moment : goal.returns-clause-any_moment
 returns-clause-any_moment g c end next is leads =
-    added_run g.D.Disk.moment g.D.Disk.left_since g.D.Disk.seen g.D.Disk.may_leave c.args.journal.now c.append.new.self c.args.frame.now end next c.append.ensures.any_moment is leads
+    added_run g.D.Disk c.args.journal.now c.append.new.self c.args.frame.now end next c.append.ensures.any_moment is leads
 
 pub returns-in_err-append-clause-calls : goal.returns-in_err-append-clause-calls
 returns-in_err-append-clause-calls g c =
@@ -19,5 +19,5 @@ returns-in_err-append-clause-calls g c =
 
 pub returns-clause-kept : goal.returns-clause-kept
 returns-clause-kept g c end next is leads =
-    added_kept g.D.Disk.moment g.D.Disk.left_since g.D.Disk.seen g.D.Disk.may_leave c.args.journal.now c.append.new.self c.args.frame.now end next
-    c.in_ok-append.ensures.settled c.append.ensures.kept c.in_ok-append.ensures.grows c.append.ensures.tells is leads
+    added_kept g.D.Disk c.args.journal.now c.append.new.self c.args.frame.now end next
+    c.in_ok-append.ensures.settled c.append.ensures.kept c.in_ok-append.ensures.grows c.append.ensures.counts.tells is leads

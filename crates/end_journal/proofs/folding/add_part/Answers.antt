@@ -6,15 +6,15 @@ use Rattle.end_journal.proofs.folding.add_part.Goals as goal
 
 pub returns-in-Ok-None-clause-any_moment : goal.returns-in-Ok-None-clause-any_moment
 returns-in-Ok-None-clause-any_moment g c bodies folded has =
-    still_fold g.D.Disk.moment g.D.Disk.left_since g.D.Disk.seen g.D.Disk.may_leave g.met.D.Disk.only_now c.args.journal.now bodies folded has
+    still_fold g.D.Disk g.met.D.Disk.only_now c.args.journal.now bodies folded has
 
 pub returns-in-Err-clause-any_moment : goal.returns-in-Err-clause-any_moment
 returns-in-Err-clause-any_moment g c bodies folded has =
-    still_fold g.D.Disk.moment g.D.Disk.left_since g.D.Disk.seen g.D.Disk.may_leave g.met.D.Disk.only_now c.args.journal.now bodies folded has
+    still_fold g.D.Disk g.met.D.Disk.only_now c.args.journal.now bodies folded has
 
 pub returns-in_default-clause-any_moment : goal.returns-in_default-clause-any_moment
 returns-in_default-clause-any_moment g c bodies folded has =
-    still_fold g.D.Disk.moment g.D.Disk.left_since g.D.Disk.seen g.D.Disk.may_leave g.met.D.Disk.only_now c.args.journal.now bodies folded has
+    still_fold g.D.Disk g.met.D.Disk.only_now c.args.journal.now bodies folded has
 
 pub fold_add-added-requires-clause-room : goal.fold_add-added-requires-clause-room
 fold_add-added-requires-clause-room g c =
@@ -41,7 +41,7 @@ returns-clause-more g c is =
         version = c.fold_add-added.ensures.same.1;
         fold = λ place was. fold_grows old.fold new.fold c.in_ok-added.field-0 place effect frame c.in-Ok.ensures.body c.in_ok-added.ensures.gate c.in_ok-added.ensures.place was;
         added = λ bodies folded has.
-            let P : List ℕ → Type 0 = λ l. HasFold g.D.Disk.seen g.D.Disk.may_leave new bodies (folded ++ l ∷ []) in
+            let P : List ℕ → Type 0 = λ l. HasFold g.D.Disk new bodies (folded ++ l ∷ []) in
             subst P c.in-Ok.ensures.body (c.in_ok-added.ensures.added bodies folded has);
       },
     )

@@ -17,9 +17,9 @@ parts-init g c =
     let first = c.args.journal.now in
     let effects = c.requires.folded.0 in
     record {
-      added = (effects, c.requires.folded.1, added_none g.D.Disk.seen g.D.Disk.may_leave first effects c.requires.none);
+      added = (effects, c.requires.folded.1, added_none g.D.Disk first effects c.requires.none);
       few = omega arith;
-      run = λ bodies has. still_fold g.D.Disk.moment g.D.Disk.left_since g.D.Disk.seen g.D.Disk.may_leave g.met.D.Disk.only_now first bodies [] has;
+      run = λ bodies has. still_fold g.D.Disk g.met.D.Disk.only_now first bodies [] has;
       tells = refl;
       counted = refl;
     }
@@ -43,17 +43,17 @@ returns-in_err-add_part-clause-starved g c starved =
     let now = rw (p.1, p.2) at starved in
     let fault : c.in_err-add_part.field-0.0 ≡ NoMemory = cc (now) in
     let same = c.in_err-add_part.ensures.starved (ap (λ (e : JournalFault). Err e) fault) in
-    starved_parts g.D.Disk.seen g.D.Disk.may_leave c.args.journal.now c.parts.journal c.add_part.new.journal (take c.parts.part so_far.0) same so_far.2
+    starved_parts g.D.Disk c.args.journal.now c.parts.journal c.add_part.new.journal (take c.parts.part so_far.0) same so_far.2
 
 pub returns-in_err-add_part-clause-any_moment : goal.returns-in_err-add_part-clause-any_moment
 returns-in_err-add_part-clause-any_moment g c =
     let so_far = c.parts.invariant in
-    fold_run_on g.D.Disk.moment g.D.Disk.left_since g.D.Disk.seen g.D.Disk.may_leave c.args.journal.now c.parts.journal c.add_part.new.journal (take c.parts.part so_far.added.0) so_far.added.2 so_far.run c.add_part.ensures.any_moment
+    fold_run_on g.D.Disk c.args.journal.now c.parts.journal c.add_part.new.journal (take c.parts.part so_far.added.0) so_far.added.2 so_far.run c.add_part.ensures.any_moment
 
 pub returns-clause-any_moment : goal.returns-clause-any_moment
 returns-clause-any_moment g c =
     let so_far = c.parts.invariant in
-    fold_run_on g.D.Disk.moment g.D.Disk.left_since g.D.Disk.seen g.D.Disk.may_leave c.args.journal.now c.parts.journal c.add_part.new.journal (take c.parts.part so_far.added.0) so_far.added.2 so_far.run c.add_part.ensures.any_moment
+    fold_run_on g.D.Disk c.args.journal.now c.parts.journal c.add_part.new.journal (take c.parts.part so_far.added.0) so_far.added.2 so_far.run c.add_part.ensures.any_moment
 
 pub parts-preserved : goal.parts-preserved
 parts-preserved g c =
@@ -65,11 +65,11 @@ parts-preserved g c =
     let more = c.in_ok-add_part.ensures.more c.if-branch.true in
     let found : slice_get all c.parts.part ≡ Some more.1 = ap (λ (l : List Effect). slice_get l c.parts.part) (one_fold c.args.core.now.end all more.0 so_far.added.1 more.2) ∙ more.3 in
     record {
-      added = (all, so_far.added.1, added_more g.D.Disk.seen g.D.Disk.may_leave first old new all c.parts.part more.1 found so_far.added.2 more.4);
+      added = (all, so_far.added.1, added_more g.D.Disk first old new all c.parts.part more.1 found so_far.added.2 more.4);
       few = part_few c.args.core.now.end all c.parts.part more.1 c.requires.short so_far.added.1 found;
-      run = fold_run_on g.D.Disk.moment g.D.Disk.left_since g.D.Disk.seen g.D.Disk.may_leave first old new (take c.parts.part all) so_far.added.2 so_far.run c.add_part.ensures.any_moment;
-      tells = c.add_part.ensures.tells ∙ so_far.tells;
-      counted = c.in_ok-add_part.ensures.cause ∙ so_far.counted;
+      run = fold_run_on g.D.Disk first old new (take c.parts.part all) so_far.added.2 so_far.run c.add_part.ensures.any_moment;
+      tells = c.add_part.ensures.counts.tells ∙ so_far.tells;
+      counted = c.in_ok-add_part.ensures.counts.cause ∙ so_far.counted;
     }
 
 pub returns-clause-added : goal.returns-clause-added
@@ -78,5 +78,5 @@ returns-clause-added g c =
     let all = so_far.0 in
     let done = c.in_ok-add_part.ensures.done c.if-branch.false in
     let none : slice_get all c.parts.part ≡ None = ap (λ (l : List Effect). slice_get l c.parts.part) (one_fold c.args.core.now.end all done.0 so_far.1 done.1) ∙ done.2 in
-    let P : Journal g.row.D.Denot → Type 0 = λ j. HasAdded g.D.Disk.seen g.D.Disk.may_leave c.args.journal.now j all in
-    (all, so_far.1, subst P (sym done.3) (added_all g.D.Disk.seen g.D.Disk.may_leave c.args.journal.now c.parts.journal all c.parts.part none so_far.2))
+    let P : Journal g.row.D.Denot → Type 0 = λ j. HasAdded g.D.Disk c.args.journal.now j all in
+    (all, so_far.1, subst P (sym done.3) (added_all g.D.Disk c.args.journal.now c.parts.journal all c.parts.part none so_far.2))

@@ -19,5 +19,5 @@ set_folded-requires g c size folded = omega (arith, c.requires.short size folded
 pub returns-clause-kept : goal.returns-clause-kept
 returns-clause-kept g c =
     let kept = c.in_ok-write_fold.ensures.kept in
-    let P : End → Type 0 = λ e. IsJournalOf g.D.Disk.seen g.D.Disk.may_leave e c.write_fold.new.journal in
+    let P : End → Type 0 = λ e. IsJournalOf g.D.Disk e c.write_fold.new.journal in
     subst P (sym (c.set_folded.ensures.end kept.0 kept.1)) kept.2

@@ -10,19 +10,19 @@ use Rattle.end_journal.proofs.reading.read_all.Goals as goal
 pub records-init : goal.records-init
 records-init g c =
     let first = c.args.journal.now in
-    let P : End → Type 0 = λ e. HasReplayed g.D.Disk.seen g.D.Disk.may_leave first first e [] in
+    let P : End → Type 0 = λ e. HasReplayed g.D.Disk first first e [] in
     record {
-      replayed = ([], subst P (sym c.requires.new.0) (read_none g.D.Disk.seen g.D.Disk.may_leave first c.requires.new.1));
+      replayed = ([], subst P (sym c.requires.new.0) (read_none g.D.Disk first c.requires.new.1));
       modes = refl;
-      run = λ has b told. still_run g.D.Disk.moment g.D.Disk.left_since g.D.Disk.seen g.D.Disk.may_leave g.met.D.Disk.only_now first b has told;
-      quiet = quiet_none g.D.Disk.moment g.D.Disk.left_since g.D.Disk.seen g.D.Disk.may_leave g.met.D.Disk.only_now first.disk;
+      run = λ has b told. still_run g.D.Disk g.met.D.Disk.only_now first b has told;
+      quiet = quiet_none g.D.Disk g.met.D.Disk.only_now first.disk;
       counted = refl;
     }
 
 pub returns-in_err-replay_next-clause-any_moment : goal.returns-in_err-replay_next-clause-any_moment
 returns-in_err-replay_next-clause-any_moment g c =
     let so_far = c.records.invariant in
-    run_on g.D.Disk.moment g.D.Disk.left_since g.D.Disk.seen g.D.Disk.may_leave c.args.journal.now c.records.journal c.replay_next.new.journal c.records.core.end so_far.replayed.0 so_far.replayed.1 so_far.run c.replay_next.ensures.any_moment
+    run_on g.D.Disk c.args.journal.now c.records.journal c.replay_next.new.journal c.records.core.end so_far.replayed.0 so_far.replayed.1 so_far.run c.replay_next.ensures.any_moment
 
 pub returns-in_err-replay_next-clause-not_journal : goal.returns-in_err-replay_next-clause-not_journal
 returns-in_err-replay_next-clause-not_journal g c =
@@ -34,25 +34,25 @@ pub returns-in_err-replay_next-clause-untouched : goal.returns-in_err-replay_nex
 returns-in_err-replay_next-clause-untouched g c =
     let p = err_from_is_err_and c.from_residual.result c.from_residual.ensures.1 in
     rw (p.1, p.2) (λ at is.
-    quiet_then g.D.Disk.moment g.D.Disk.left_since g.D.Disk.seen g.D.Disk.may_leave c.args.journal.now.disk c.records.journal.disk c.replay_next.new.journal.disk c.records.invariant.quiet (c.in_err-replay_next.ensures.untouched at is))
+    quiet_then g.D.Disk c.args.journal.now.disk c.records.journal.disk c.replay_next.new.journal.disk c.records.invariant.quiet (c.in_err-replay_next.ensures.untouched at is))
 
 pub returns-clause-any_moment : goal.returns-clause-any_moment
 returns-clause-any_moment g c =
     let so_far = c.records.invariant in
-    run_on g.D.Disk.moment g.D.Disk.left_since g.D.Disk.seen g.D.Disk.may_leave c.args.journal.now c.records.journal c.replay_next.new.journal c.records.core.end so_far.replayed.0 so_far.replayed.1 so_far.run c.replay_next.ensures.any_moment
+    run_on g.D.Disk c.args.journal.now c.records.journal c.replay_next.new.journal c.records.core.end so_far.replayed.0 so_far.replayed.1 so_far.run c.replay_next.ensures.any_moment
 
 pub records-preserved : goal.records-preserved
 records-preserved g c =
     let so_far = c.records.invariant in
     let bodies = so_far.replayed.0 in
-    let on : ReadsOn g.D.Disk.seen g.D.Disk.may_leave c.records.journal c.replay_next.new.journal c.records.core.end c.replay_next.new.core.end = c.in_ok-replay_next.ensures.more c.if-branch.true in
+    let on : ReadsOn g.D.Disk c.records.journal c.replay_next.new.journal c.records.core.end c.replay_next.new.core.end = c.in_ok-replay_next.ensures.more c.if-branch.true in
     record {
       replayed = (
         bodies ++ on.body ∷ [],
-        read_on g.D.Disk.seen g.D.Disk.may_leave c.args.journal.now c.records.journal c.replay_next.new.journal c.records.core.end c.replay_next.new.core.end bodies so_far.replayed.1 on,
+        read_on g.D.Disk c.args.journal.now c.records.journal c.replay_next.new.journal c.records.core.end c.replay_next.new.core.end bodies so_far.replayed.1 on,
       );
       modes = c.replay_next.ensures.modes ∙ so_far.modes;
-      run = run_on g.D.Disk.moment g.D.Disk.left_since g.D.Disk.seen g.D.Disk.may_leave c.args.journal.now c.records.journal c.replay_next.new.journal c.records.core.end bodies so_far.replayed.1 so_far.run c.replay_next.ensures.any_moment;
-      quiet = quiet_then g.D.Disk.moment g.D.Disk.left_since g.D.Disk.seen g.D.Disk.may_leave c.args.journal.now.disk c.records.journal.disk c.replay_next.new.journal.disk so_far.quiet (c.in_ok-replay_next.ensures.quiet c.if-branch.true);
-      counted = c.in_ok-replay_next.ensures.cause ∙ so_far.counted;
+      run = run_on g.D.Disk c.args.journal.now c.records.journal c.replay_next.new.journal c.records.core.end bodies so_far.replayed.1 so_far.run c.replay_next.ensures.any_moment;
+      quiet = quiet_then g.D.Disk c.args.journal.now.disk c.records.journal.disk c.replay_next.new.journal.disk so_far.quiet (c.in_ok-replay_next.ensures.quiet c.if-branch.true);
+      counted = c.in_ok-replay_next.ensures.counts.cause ∙ so_far.counted;
     }

@@ -12,7 +12,7 @@ returns-in_err-gate-clause-not_journal g c =
     let p = err_from_is_err_and c.from_residual.result c.from_residual.ensures.1 in
     rw (p.1, p.2) (λ at is bodies has leads b told.
     let found = c.in_err-gate.ensures.not_journal at is in
-    cut_next g.D.Disk.seen g.D.Disk.may_leave c.args.journal.now bodies at c.args.core.now.end b has found.0 told leads (found.1 bodies has b told))
+    cut_next g.D.Disk c.args.journal.now bodies at c.args.core.now.end b has found.0 told leads (found.1 bodies has b told))
 
 pub replay-led-requires : goal.replay-led-requires
 replay-led-requires g c =
@@ -34,5 +34,5 @@ returns-in-Ok-false-clause-not_journal g c at is bodies has leads b told =
     let here : at ≡ old.gate = cc (place) in
     let none = c.in-Ok-false.ensures.unfit c.in-Ok-false.field-0-test in
     let P : End → List ℕ → Type 0 = λ after l. RecordLeads l c.args.core.now.end after in
-    unfit_no_journal at _ (unfit_next g.D.Disk.seen g.D.Disk.may_leave old new bodies body at c.args.core.now.end b has (next bodies has) c.next_record.ensures.kept.0 here same told leads
+    unfit_no_journal at _ (unfit_next g.D.Disk old new bodies body at c.args.core.now.end b has (next bodies has) c.next_record.ensures.kept.0 here same told leads
     (λ after more. none after (subst (P after) (sym c.bytes.ensures) more)))

@@ -3,4 +3,4 @@ use Rattle.end_records.proofs.laws.a_record_is_put.Goals as goal
 
 pub returns : goal.returns
 returns g c journal end next body is leads room image told =
-    put g.D.Disk.seen g.D.Disk.may_leave journal end next body is leads room image told
+    put g.D.Disk journal end next body is leads room image told

@@ -10,12 +10,12 @@ returns-in_err-write_other-clause-any_moment g c leaf other is reads = c.write_o
 
 pub returns-in_err-sync_other-clause-any_moment : goal.returns-in_err-sync_other-clause-any_moment
 returns-in_err-sync_other-clause-any_moment g c leaf other is reads =
-    then g.D.Disk.moment g.D.Disk.left_since c.args.disk.now c.write_other.new.disk c.sync_other.new.disk (λ (image : Image). picked_leaf image ≡ leaf)
+    then g.D.Disk c.args.disk.now c.write_other.new.disk c.sync_other.new.disk (λ (image : Image). picked_leaf image ≡ leaf)
     (c.write_other.ensures.any_moment leaf is) (c.sync_other.ensures.any_moment leaf (c.in_ok-write_other.ensures.kept leaf other is reads).0)
 
 pub returns-clause-any_moment : goal.returns-clause-any_moment
 returns-clause-any_moment g c leaf other is reads =
-    then g.D.Disk.moment g.D.Disk.left_since c.args.disk.now c.write_other.new.disk c.sync_other.new.disk (λ (image : Image). picked_leaf image ≡ leaf)
+    then g.D.Disk c.args.disk.now c.write_other.new.disk c.sync_other.new.disk (λ (image : Image). picked_leaf image ≡ leaf)
     (c.write_other.ensures.any_moment leaf is) (c.sync_other.ensures.any_moment leaf (c.in_ok-write_other.ensures.kept leaf other is reads).0)
 
 pub returns-clause-kept : goal.returns-clause-kept

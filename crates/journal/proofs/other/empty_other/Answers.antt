@@ -16,12 +16,12 @@ returns-in_err-cut_other-clause-any_moment g c leaf is = c.cut_other.ensures.any
 
 pub returns-in_err-write_other-clause-any_moment : goal.returns-in_err-write_other-clause-any_moment
 returns-in_err-write_other-clause-any_moment g c leaf is =
-    then g.D.Disk.moment g.D.Disk.left_since c.args.disk.now c.cut_other.new.disk c.write_other.new.disk (λ (image : Image). picked_leaf image ≡ leaf)
+    then g.D.Disk c.args.disk.now c.cut_other.new.disk c.write_other.new.disk (λ (image : Image). picked_leaf image ≡ leaf)
     (c.cut_other.ensures.any_moment leaf is) (c.write_other.ensures.any_moment leaf (c.in_ok-cut_other.ensures.kept leaf is).0)
 
 pub returns-clause-any_moment : goal.returns-clause-any_moment
 returns-clause-any_moment g c leaf is =
-    then g.D.Disk.moment g.D.Disk.left_since c.args.disk.now c.cut_other.new.disk c.write_other.new.disk (λ (image : Image). picked_leaf image ≡ leaf)
+    then g.D.Disk c.args.disk.now c.cut_other.new.disk c.write_other.new.disk (λ (image : Image). picked_leaf image ≡ leaf)
     (c.cut_other.ensures.any_moment leaf is) (c.write_other.ensures.any_moment leaf (c.in_ok-cut_other.ensures.kept leaf is).0)
 
 pub returns-clause-kept : goal.returns-clause-kept

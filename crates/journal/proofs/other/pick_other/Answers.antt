@@ -1,5 +1,6 @@
 use Rattle.std.proofs.Common.{◌≡◌, ◌≢◌, ◌⊎◌, inl, inr, ⊎_elim, ℕ, Bool, true, false, not, is_some, List, [], ◌∷◌, Option, refl, sym, ap, ◌∙◌}
 use Rattle.std.specs.Int.{from_bool}
+use Rattle.as4_disk.specs.declared.disk.Disk.{Ghosts as DiskMeaning}
 use Rattle.as4_disk.specs.declared.part.Part.TheVariants.{Selector}
 use Rattle.as4_disk.specs.Bytes.{Torn}
 use Rattle.as4_disk.specs.Image.{Image, TornFrom}
@@ -24,11 +25,11 @@ one_or_other true false = inr refl
 one_or_other false true = inr refl
 one_or_other false false = inl refl
 
-module _ {D : Type 0} (seen : D → Option Image) (may_leave : D → Image → Type 0) (old : D) (is_second : Bool) (leaf other : List ℕ) (is : IsSettled seen may_leave old is_second leaf) (reads : ReadsSettled seen may_leave old is_second other) where
+module _ {D : Type 0} (M : DiskMeaning D) (old : D) (is_second : Bool) (leaf other : List ℕ) (is : IsSettled M old is_second leaf) (reads : ReadsSettled M old is_second other) where
   -- whatever the selector is, one of the two is picked
-  either_picked : (c : Image) → TornFrom Selector 0 1 (may_leave old) c → (picked_leaf c ≡ leaf) ⊎ (picked_leaf c ≡ other)
+  either_picked : (c : Image) → TornFrom Selector 0 1 (M.may_leave old) c → (picked_leaf c ≡ leaf) ⊎ (picked_leaf c ≡ other)
   either_picked c from =
-      let was = settled_left seen may_leave old is_second leaf from.0 is from.1 in
+      let was = settled_left M old is_second leaf from.0 is from.1 in
       let here : c (leaf_of is_second) ≡ leaf = from.2.elsewhere (leaf_of is_second) (leaf_differs is_second) ∙ was.1 in
       let there : c (leaf_of (not is_second)) ≡ other =
       from.2.elsewhere (leaf_of (not is_second)) (leaf_differs (not is_second)) ∙ (reads is.image is.told).1 from.0 from.1 ∙ (reads is.image is.told).0 in
@@ -37,14 +38,14 @@ module _ {D : Type 0} (seen : D → Option Image) (may_leave : D → Image → T
 
 pub returns-in_err-write_durably-clause-any_moment : goal.returns-in_err-write_durably-clause-any_moment
 returns-in_err-write_durably-clause-any_moment g c leaf other is reads =
-    weaken g.D.Disk.moment g.D.Disk.left_since c.args.disk.now c.write_durably.new.disk (TornFrom Selector 0 1 (g.D.Disk.may_leave c.args.disk.now)) (λ (image : Image). (picked_leaf image ≡ leaf) ⊎ (picked_leaf image ≡ other))
-    (λ image from. either_picked g.D.Disk.seen g.D.Disk.may_leave c.args.disk.now c.args.is_second leaf other is reads image from)
+    weaken g.D.Disk c.args.disk.now c.write_durably.new.disk (TornFrom Selector 0 1 (g.D.Disk.may_leave c.args.disk.now)) (λ (image : Image). (picked_leaf image ≡ leaf) ⊎ (picked_leaf image ≡ other))
+    (λ image from. either_picked g.D.Disk c.args.disk.now c.args.is_second leaf other is reads image from)
     c.write_durably.ensures.any_moment
 
 pub returns-clause-any_moment : goal.returns-clause-any_moment
 returns-clause-any_moment g c leaf other is reads =
-    weaken g.D.Disk.moment g.D.Disk.left_since c.args.disk.now c.write_durably.new.disk (TornFrom Selector 0 1 (g.D.Disk.may_leave c.args.disk.now)) (λ (image : Image). (picked_leaf image ≡ leaf) ⊎ (picked_leaf image ≡ other))
-    (λ image from. either_picked g.D.Disk.seen g.D.Disk.may_leave c.args.disk.now c.args.is_second leaf other is reads image from)
+    weaken g.D.Disk c.args.disk.now c.write_durably.new.disk (TornFrom Selector 0 1 (g.D.Disk.may_leave c.args.disk.now)) (λ (image : Image). (picked_leaf image ≡ leaf) ⊎ (picked_leaf image ≡ other))
+    (λ image from. either_picked g.D.Disk c.args.disk.now c.args.is_second leaf other is reads image from)
     c.write_durably.ensures.any_moment
 
 pub returns-clause-picked : goal.returns-clause-picked
@@ -52,7 +53,7 @@ returns-clause-picked g c leaf other is reads =
     let old = c.args.disk.now in
     let new = c.write_durably.new.disk in
     let s = c.args.is_second in
-    let told = tells_some (g.D.Disk.seen new) (c.write_durably.ensures.tells ∙ ap (λ (o : Option Image). is_some o) is.told) in
+    let told = tells_some (g.D.Disk.seen new) (c.write_durably.ensures.counts.tells ∙ ap (λ (o : Option Image). is_some o) is.told) in
     let step = c.in_ok-write_durably.ensures.written is.image told.0 is.told told.1 in
     let both = reads is.image is.told in
     record {

@@ -6,7 +6,7 @@ use Rattle.journal_tests.proofs.ready.open_all.Given as goal
 
 abbrev pub invariant-loop-body : goal.invariant-loop-body
 invariant-loop-body g l = record {
-  read : Told (g.D.Disk.seen l.fn.disk) (λ _. (all : List (List ℕ)) × HasRead g.D.Disk.seen g.D.Disk.may_leave l.journal all);
+  read : Told (g.D.Disk.seen l.fn.disk) (λ _. (all : List (List ℕ)) × HasRead g.D.Disk l.journal all);
   no_fold : IsNone l.journal.fold;
 }
 

@@ -13,11 +13,11 @@ write_frame-requires g c =
 pub returns-in-None-clause-records : goal.returns-in-None-clause-records
 returns-in-None-clause-records g c end outcome is framed fits =
     let none = subst (λ (f : Option (List ℕ)). IsFrameOf outcome.effects f) c.in-None.is framed in
-    records_none g.D.Disk.seen g.D.Disk.may_leave g.D.Disk.moment g.D.Disk.left_since g.D.Disk.makes g.met.D.Disk.only_now c.args.journal.now end outcome (large_none outcome none) is
+    records_none g.D.Disk g.met.D.Disk.only_now c.args.journal.now end outcome (large_none outcome none) is
 
 pub returns-in-Some-clause-records : goal.returns-in-Some-clause-records
 returns-in-Some-clause-records g c end outcome is framed fits =
     let body = c.in-Some.frame in
     let some = subst (λ (f : Option (List ℕ)). IsFrameOf outcome.effects f) c.in-Some.is framed in
-    records_some g.D.Disk.seen g.D.Disk.may_leave g.D.Disk.moment g.D.Disk.left_since g.D.Disk.makes c.args.journal.now c.write_frame.new.journal end outcome (is_ok c.write_frame.result) (large_some outcome body some)
+    records_some g.D.Disk c.args.journal.now c.write_frame.new.journal end outcome (is_ok c.write_frame.result) (large_some outcome body some)
     (c.write_frame.ensures.puts end (applied outcome.effects end) is (frame_leads outcome.effects body end some fits))

@@ -12,28 +12,28 @@ use Rattle.journal.proofs.journal.Journal.append.Goals as goal
 
 pub returns-then-size-need-clause-any_moment : goal.returns-then-size-need-clause-any_moment
 returns-then-size-need-clause-any_moment g c bodies has =
-    let two = as_two g.D.Disk.seen g.D.Disk.may_leave c.args.self.now bodies c.requires.version has in
-    no_call g.D.Disk.moment g.D.Disk.left_since c.args.self.now.disk (InVersion Two (OpensToOneOf bodies c.args.frame.now))
+    let two = as_two g.D.Disk c.args.self.now bodies c.requires.version has in
+    no_call g.D.Disk c.args.self.now.disk (InVersion Two (OpensToOneOf bodies c.args.frame.now))
     (λ image left.
     let in_two = closed_in Two bodies has.rest image two.2
-    (settled_left g.D.Disk.seen g.D.Disk.may_leave c.args.self.now.disk c.args.self.now.is_second (front_of Two bodies ++ 0 ∷ has.rest) image two.0 (g.met.D.Disk.only_now c.args.self.now.disk image left)).2 in
+    (settled_left g.D.Disk c.args.self.now.disk c.args.self.now.is_second (front_of Two bodies ++ 0 ∷ has.rest) image two.0 (g.met.D.Disk.only_now c.args.self.now.disk image left)).2 in
     (inl (settled_opens bodies (λ other. other ≡ c.args.frame.now) image in_two.0), in_two.1))
 
 pub returns-in-Err-clause-any_moment : goal.returns-in-Err-clause-any_moment
 returns-in-Err-clause-any_moment g c bodies has =
-    let two = as_two g.D.Disk.seen g.D.Disk.may_leave c.args.self.now bodies c.requires.version has in
+    let two = as_two g.D.Disk c.args.self.now bodies c.requires.version has in
     c.add_record.ensures.any_moment bodies has.rest two.1 (omega (arith, two.1, length-front_more Two bodies c.args.frame.now)) two.0
 
 pub returns-in-Ok-clause-any_moment : goal.returns-in-Ok-clause-any_moment
 returns-in-Ok-clause-any_moment g c bodies has =
-    let two = as_two g.D.Disk.seen g.D.Disk.may_leave c.args.self.now bodies c.requires.version has in
+    let two = as_two g.D.Disk c.args.self.now bodies c.requires.version has in
     c.add_record.ensures.any_moment bodies has.rest two.1 (omega (arith, two.1, length-front_more Two bodies c.args.frame.now)) two.0
 
 pub returns-in-Ok-clause-settled : goal.returns-in-Ok-clause-settled
 returns-in-Ok-clause-settled g c bodies has =
-    let two = as_two g.D.Disk.seen g.D.Disk.may_leave c.args.self.now bodies c.requires.version has in
+    let two = as_two g.D.Disk c.args.self.now bodies c.requires.version has in
     let added = c.in-Ok.ensures.settled bodies has.rest two.1 two.0 in
-    let P : Version → Type 0 = λ v. IsSettled g.D.Disk.seen g.D.Disk.may_leave c.add_record.new.disk c.args.self.now.is_second (front_of v (bodies ++ c.args.frame.now ∷ []) ++ 0 ∷ added.0) in
+    let P : Version → Type 0 = λ v. IsSettled g.D.Disk c.add_record.new.disk c.args.self.now.is_second (front_of v (bodies ++ c.args.frame.now ∷ []) ++ 0 ∷ added.0) in
     let Q : Version → Type 0 = λ v. length (front_of v (bodies ++ c.args.frame.now ∷ [])) < limit_of v in
     let R : Version → Type 0 = λ v. c.args.self.now.gate + (length c.args.frame.now + 9) ≡ length (front_of v (bodies ++ c.args.frame.now ∷ [])) in
     let back : Two ≡ c.args.self.now.version = sym c.requires.version in

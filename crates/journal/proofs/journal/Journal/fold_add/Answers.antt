@@ -42,11 +42,11 @@ returns-in-Ok-clause-added g c bodies folded has =
 pub returns-in-Ok-clause-any_moment : goal.returns-in-Ok-clause-any_moment
 returns-in-Ok-clause-any_moment g c bodies folded has =
     let leaf = front_of c.args.self.now.version bodies ++ 0 ∷ has.rest in
-    weaken g.D.Disk.moment g.D.Disk.left_since c.args.self.now.disk c.write_other.new.disk (λ (image : Image). picked_leaf image ≡ leaf) (InVersion c.args.self.now.version (OpensSettled bodies))
+    weaken g.D.Disk c.args.self.now.disk c.write_other.new.disk (λ (image : Image). picked_leaf image ≡ leaf) (InVersion c.args.self.now.version (OpensSettled bodies))
     (λ image same. closed_in c.args.self.now.version bodies has.rest image has.within same) (c.write_other.ensures.any_moment leaf has.settled)
 
 pub returns-in-Err-clause-any_moment : goal.returns-in-Err-clause-any_moment
 returns-in-Err-clause-any_moment g c bodies folded has =
     let leaf = front_of c.args.self.now.version bodies ++ 0 ∷ has.rest in
-    weaken g.D.Disk.moment g.D.Disk.left_since c.args.self.now.disk c.write_other.new.disk (λ (image : Image). picked_leaf image ≡ leaf) (InVersion c.args.self.now.version (OpensSettled bodies))
+    weaken g.D.Disk c.args.self.now.disk c.write_other.new.disk (λ (image : Image). picked_leaf image ≡ leaf) (InVersion c.args.self.now.version (OpensSettled bodies))
     (λ image same. closed_in c.args.self.now.version bodies has.rest image has.within same) (c.write_other.ensures.any_moment leaf has.settled)

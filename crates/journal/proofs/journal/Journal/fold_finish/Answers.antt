@@ -31,7 +31,7 @@ returns-in-Ok-clause-any_moment g c bodies folded has =
     let leaf = front_of c.args.self.now.version bodies ++ 0 ∷ has.rest in
     let other = front_of Two folded in
     let gate : c.unwrap-gate.result ≡ length other = same_Some _ _ (sym c.unwrap-gate.ensures ∙ has.fold_place) in
-    first_weaken g.D.Disk.moment g.D.Disk.left_since c.args.self.now.disk c.finish_other.new.disk (λ (image : Image). picked_leaf image ≡ leaf) (λ (image : Image). (picked_leaf image ≡ leaf) ⊎ (picked_leaf image ≡ other ++ 0 ∷ [])) (InVersion c.args.self.now.version (OpensSettled bodies)) (OpensToEither c.args.self.now.version bodies folded)
+    first_weaken g.D.Disk c.args.self.now.disk c.finish_other.new.disk (λ (image : Image). picked_leaf image ≡ leaf) (λ (image : Image). (picked_leaf image ≡ leaf) ⊎ (picked_leaf image ≡ other ++ 0 ∷ [])) (InVersion c.args.self.now.version (OpensSettled bodies)) (OpensToEither c.args.self.now.version bodies folded)
     (λ image same. closed_in c.args.self.now.version bodies has.rest image has.within same)
     (λ image one. ⊎_elim (λ (same : picked_leaf image ≡ leaf). inl (closed_in c.args.self.now.version bodies has.rest image has.within same)) (λ (new : picked_leaf image ≡ other ++ 0 ∷ []). inr (closed_in Two folded [] image has.fold_within new)) one)
     (c.finish_other.ensures.any_moment leaf other gate has.settled has.other)
@@ -41,7 +41,7 @@ returns-in-Err-clause-any_moment g c bodies folded has =
     let leaf = front_of c.args.self.now.version bodies ++ 0 ∷ has.rest in
     let other = front_of Two folded in
     let gate : c.unwrap-gate.result ≡ length other = same_Some _ _ (sym c.unwrap-gate.ensures ∙ has.fold_place) in
-    first_weaken g.D.Disk.moment g.D.Disk.left_since c.args.self.now.disk c.finish_other.new.disk (λ (image : Image). picked_leaf image ≡ leaf) (λ (image : Image). (picked_leaf image ≡ leaf) ⊎ (picked_leaf image ≡ other ++ 0 ∷ [])) (InVersion c.args.self.now.version (OpensSettled bodies)) (OpensToEither c.args.self.now.version bodies folded)
+    first_weaken g.D.Disk c.args.self.now.disk c.finish_other.new.disk (λ (image : Image). picked_leaf image ≡ leaf) (λ (image : Image). (picked_leaf image ≡ leaf) ⊎ (picked_leaf image ≡ other ++ 0 ∷ [])) (InVersion c.args.self.now.version (OpensSettled bodies)) (OpensToEither c.args.self.now.version bodies folded)
     (λ image same. closed_in c.args.self.now.version bodies has.rest image has.within same)
     (λ image one. ⊎_elim (λ (same : picked_leaf image ≡ leaf). inl (closed_in c.args.self.now.version bodies has.rest image has.within same)) (λ (new : picked_leaf image ≡ other ++ 0 ∷ []). inr (closed_in Two folded [] image has.fold_within new)) one)
     (c.finish_other.ensures.any_moment leaf other gate has.settled has.other)

@@ -28,7 +28,7 @@ pub returns-in-Ok-Record-clause-record : goal.returns-in-Ok-Record-clause-record
 returns-in-Ok-Record-clause-record g c bodies read =
     let version = c.args.self.now.version in
     let body = c.in-Ok-Record.body in
-    let P : Next → Type 0 = λ n. Passes g.D.Disk.seen g.D.Disk.may_leave c.pass.new.disk c.args.self.now.is_second version bodies read.next read.rest n in
+    let P : Next → Type 0 = λ n. Passes g.D.Disk c.pass.new.disk c.args.self.now.is_second version bodies read.next read.rest n in
     let found = subst P c.in-Ok-Record.field-0-is (c.in-Ok-Record.ensures.passes bodies read.next read.rest read.place read.within read.ahead read.settled) in
     let len : length c.bytes.result.now ≡ length body = ap length c.bytes.ensures in
     record {
@@ -44,9 +44,9 @@ returns-in-Ok-Record-clause-record g c bodies read =
 pub returns-in-Ok-Closed-clause-all : goal.returns-in-Ok-Closed-clause-all
 returns-in-Ok-Closed-clause-all g c bodies read b told =
     let version = c.args.self.now.version in
-    let P : Next → Type 0 = λ n. Passes g.D.Disk.seen g.D.Disk.may_leave c.pass.new.disk c.args.self.now.is_second version bodies read.next read.rest n in
+    let P : Next → Type 0 = λ n. Passes g.D.Disk c.pass.new.disk c.args.self.now.is_second version bodies read.next read.rest n in
     let found = subst P c.in-Ok-Closed.field-0-is (c.in-Ok-Closed.ensures.passes bodies read.next read.rest read.place read.within read.ahead read.settled) in
-    let bytes = (settled_told g.D.Disk.seen g.D.Disk.may_leave c.args.self.now.disk c.args.self.now.is_second (front_of version bodies ++ read.next ∷ read.rest) b read.settled told).2 in
+    let bytes = (settled_told g.D.Disk c.args.self.now.disk c.args.self.now.is_second (front_of version bodies ++ read.next ∷ read.rest) b read.settled told).2 in
     inr (version, read.next, read.rest, record { bytes = bytes; closed = found.0; within = read.within })
 
 pub returns-in-Ok-Broken-clause-not_journal : goal.returns-in-Ok-Broken-clause-not_journal
@@ -54,12 +54,12 @@ returns-in-Ok-Broken-clause-not_journal g c place is =
     let same : c.args.self.now.gate ≡ place = cc in
     (sym same, λ bodies read b told. broken bodies read b told same)
   where
-    broken : (bodies : List (List ℕ)) → HasRead g.D.Disk.seen g.D.Disk.may_leave c.args.self.now bodies → (b : Image) → g.D.Disk.seen c.args.self.now.disk ≡ Some b → c.args.self.now.gate ≡ place → IsBroken place (picked_leaf b)
+    broken : (bodies : List (List ℕ)) → HasRead g.D.Disk c.args.self.now bodies → (b : Image) → g.D.Disk.seen c.args.self.now.disk ≡ Some b → c.args.self.now.gate ≡ place → IsBroken place (picked_leaf b)
     broken bodies read b told same =
         let version = c.args.self.now.version in
-        let P : Next → Type 0 = λ n. Passes g.D.Disk.seen g.D.Disk.may_leave c.pass.new.disk c.args.self.now.is_second version bodies read.next read.rest n in
+        let P : Next → Type 0 = λ n. Passes g.D.Disk c.pass.new.disk c.args.self.now.is_second version bodies read.next read.rest n in
         let found = subst P c.in-Ok-Broken.field-0-is (c.in-Ok-Broken.ensures.passes bodies read.next read.rest read.place read.within read.ahead read.settled) in
-        let bytes = (settled_told g.D.Disk.seen g.D.Disk.may_leave c.args.self.now.disk c.args.self.now.is_second (front_of version bodies ++ read.next ∷ read.rest) b read.settled told).2 in (
+        let bytes = (settled_told g.D.Disk c.args.self.now.disk c.args.self.now.is_second (front_of version bodies ++ read.next ∷ read.rest) b read.settled told).2 in (
           omega (arith, read.made found.0, ap length bytes),
           inr (
             version,

@@ -30,4 +30,4 @@ pub returns-in-Ok-Some-clause-new : goal.returns-in-Ok-Some-clause-new
 returns-in-Ok-Some-clause-new g c b told d told_now short =
     let begins = (MatchOption-at_some _ _ _ c.in-Ok-Some.field-0-is c.in-Ok-Some.ensures.read b told).0 in
     let leaf = front_of c.in-Ok-Some.version [] ++ begins.next ∷ begins.rest in
-    begins.new (omega (arith, short, ap length (settled_told g.D.Disk.seen g.D.Disk.may_leave c.start.new.disk c.in-Ok-Some.is_second leaf d begins.settled told_now).2))
+    begins.new (omega (arith, short, ap length (settled_told g.D.Disk c.start.new.disk c.in-Ok-Some.is_second leaf d begins.settled told_now).2))

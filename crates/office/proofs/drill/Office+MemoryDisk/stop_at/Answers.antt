@@ -1,5 +1,6 @@
-use Rattle.std.proofs.Common.{◌∙◌, Some, sym, ap, subst}
-use Rattle.as4_disk.specs.Memory.{DiskState, MayLeave, reads}
+use Rattle.std.proofs.Common.{◌∙◌, sym, ap, subst}
+use Rattle.as4_disk.specs.Memory.{DiskState}
+use Rattle.as4_disk.specs.MemoryMeaning.{memory_meaning}
 use Rattle.journal.specs.declared.journal.Journal.{Journal}
 use Rattle.office.specs.State.{IsInOrder}
 use Rattle.office.proofs.DrillLemmas.{order_to_stop}
@@ -8,5 +9,5 @@ use Rattle.office.proofs.drill.Office+MemoryDisk.stop_at.Goals as goal
 pub invariant_of-self : goal.invariant_of-self
 invariant_of-self c =
     let o = c.self.inside in
-    let P : Journal DiskState → Type 0 = λ j. IsInOrder (λ (disk : DiskState). Some (reads disk)) MayLeave (λ disk. disk.faults) j o.core.end o.core.modes o.halt o.keeper.list in
+    let P : Journal DiskState → Type 0 = λ j. IsInOrder memory_meaning j o.core.end o.core.modes o.halt o.keeper.list in
     (subst P (sym (c.stop_at.ensures.same ∙ ap (λ (disk : DiskState). record o.journal { disk = disk }) c.stop_at.ensures.stops)) (order_to_stop o.journal c.args.call o.core.end o.core.modes o.halt o.keeper.list c.self.invariant.0), c.self.invariant.1)

@@ -1,12 +1,12 @@
 use Rattle.std.proofs.Common.{inl, inr, ◌<◌, ◌^◌, ◌∙◌, List, None, Some, Err, length, refl, sym, ap, subst, arith}
 use Rattle.std.proofs.lemmas.Grind.{common_steps}
 use Rattle.as4_disk.proofs.RunLemmas.{at_end}
-use Rattle.as4_values.specs.declared.mode.Mode.{Mode}
+use Rattle.mode_values.specs.declared.mode.Mode.{Mode}
 use Rattle.end_records.specs.Opens.{OpensFolded}
 use Rattle.journal.specs.Faults.{IsCause}
 use Rattle.msh_core.specs.Machine.{Machine}
 use Rattle.office.specs.State.{IsInOrder}
-use Rattle.office.specs.declared.call.Halt.{Halt}
+use Rattle.as4_disk.specs.declared.fault_counts.FaultCounts.{FaultCounts}
 use Rattle.office.specs.declared.call.Call.TheVariants.{Folded, Stop}
 use Rattle.end_journal.proofs.RunLemmas.{told_before}
 use Rattle.office.proofs.CallLemmas.{folded_leads, stop_leads}
@@ -73,7 +73,7 @@ pub invariant_of-self-in-Ok : goal.invariant_of-self-in-Ok
 invariant_of-self-in-Ok g c =
     let o = c.self.inside in
     let now = order_goes c.self.invariant.0 c.fold_end.new.journal c.fold_end.new.core.end c.enter-call.new.keeper.list _ c.in_default.is c.enter-call.ensures.list refl c.in-Ok.ensures.kept in
-    (subst (λ (m : List Mode). IsInOrder g.D.Disk.seen g.D.Disk.may_leave g.D.Disk.fault_count c.fold_end.new.journal c.fold_end.new.core.end m o.halt c.enter-call.new.keeper.list) (sym c.fold_end.ensures.modes) now, c.self.invariant.1)
+    (subst (λ (m : List Mode). IsInOrder g.D.Disk c.fold_end.new.journal c.fold_end.new.core.end m o.halt c.enter-call.new.keeper.list) (sym c.fold_end.ensures.modes) now, c.self.invariant.1)
 
 pub returns-in-Ok : goal.returns-in-Ok
 returns-in-Ok g c =
@@ -105,7 +105,7 @@ returns-in-Ok g c =
           let had = (order.kept c.in_default.is).records image told in
           fold_run had.2 size.1 (order.kept c.in_default.is).version (c.fold_end.ensures.any_moment had.0 size.0 had.1 size.1);
       keeps = keeps (invariant_of-self-in-Ok g c).0 c.fold_end.ensures.modes c.enter-call.ensures.book c.enter-call.ensures.pass
-          (folded_leads o.core.modes o.keeper.list more c.folded_size-size.result o.core.end core.end going c.enter-call.ensures.list folded shorter ends) c.fold_end.ensures.tells (λ none. c.in-Ok.ensures.cause) (omega (arith, c.in-Ok.ensures.cause));
+          (folded_leads o.core.modes o.keeper.list more c.folded_size-size.result o.core.end core.end going c.enter-call.ensures.list folded shorter ends) c.fold_end.ensures.counts.tells (λ none. c.in-Ok.ensures.counts.cause) (omega (arith, c.in-Ok.ensures.counts.cause));
     })
 
 -- there was no memory
@@ -113,7 +113,7 @@ pub invariant_of-self-in-Err-NoMemory : goal.invariant_of-self-in-Err-NoMemory
 invariant_of-self-in-Err-NoMemory g c =
     let o = c.self.inside in
     let after = c.fold_end.new.journal in
-    let P : Machine → Type 0 = λ m. IsInOrder g.D.Disk.seen g.D.Disk.may_leave g.D.Disk.fault_count after m.end m.modes o.halt o.keeper.list in
+    let P : Machine → Type 0 = λ m. IsInOrder g.D.Disk after m.end m.modes o.halt o.keeper.list in
     let now = order_stays c.self.invariant.0 after c.in_default.is
     (c.in-Err-NoMemory.ensures.starved (ap (λ e. Err e) c.in-Err-NoMemory.field-0-is) o.core.end (c.self.invariant.0.kept c.in_default.is)) in
     (subst P (sym c.in-Err-NoMemory.ensures.same) now, c.self.invariant.1)
@@ -128,7 +128,7 @@ returns-in-Err-NoMemory g c =
     let short : c.folded_size-size.result < 2 ^ 32 = omega (arith, less, c.size-present.ensures, (order.kept c.in_default.is).size, o.journal.in_range) in
     let folded = folded_size_is o.core.end c.folded_size-size.result size short in
     let shorter : c.folded_size-size.result < o.core.end.size = omega (arith, less, c.size-present.ensures) in
-    let calm = subst (IsCause (g.D.Disk.fault_count o.journal.disk) (g.D.Disk.fault_count after.disk)) c.in-Err-NoMemory.field-0-is c.in-Err-NoMemory.ensures.cause in
+    let calm = subst (IsCause (g.D.Disk.fault_count o.journal.disk) (g.D.Disk.fault_count after.disk)) c.in-Err-NoMemory.field-0-is c.in-Err-NoMemory.ensures.counts.cause in
     let now = order_stays order after c.in_default.is
     (c.in-Err-NoMemory.ensures.starved (ap (λ e. Err e) c.in-Err-NoMemory.field-0-is) o.core.end (order.kept c.in_default.is)) in
     rw (← c.self.view_is, c.in-Err-NoMemory.ensures.same) (record {
@@ -141,7 +141,7 @@ returns-in-Err-NoMemory g c =
       any_moment = λ goes image told.
           let had = (order.kept c.in_default.is).records image told in
           fold_run had.2 size.1 (order.kept c.in_default.is).version (c.fold_end.ensures.any_moment had.0 size.0 had.1 size.1);
-      keeps = keeps now refl refl refl (λ start leads. leads) c.fold_end.ensures.tells (λ none. calm) (omega (arith, calm));
+      keeps = keeps now refl refl refl (λ start leads. leads) c.fold_end.ensures.counts.tells (λ none. calm) (omega (arith, calm));
     })
 
 -- the disk failed
@@ -150,16 +150,16 @@ invariant_of-self-in-Err-Disk g c =
     let o = c.self.inside in
     let order = c.self.invariant.0 in
     let after = c.fold_end.new.journal in
-    let halt : Halt = record { before = c.in-Err-Disk.before; after = c.in-Err-Disk.after } in
-    let counts = subst (IsCause (g.D.Disk.fault_count o.journal.disk) (g.D.Disk.fault_count after.disk)) c.in-Err-Disk.field-0-is c.in-Err-Disk.ensures.cause in
+    let halt : FaultCounts = record { before = c.in-Err-Disk.before; after = c.in-Err-Disk.after } in
+    let counts = subst (IsCause (g.D.Disk.fault_count o.journal.disk) (g.D.Disk.fault_count after.disk)) c.in-Err-Disk.field-0-is c.in-Err-Disk.ensures.counts.cause in
     let size = c.folded_size-size.ensures.size in
     let now = order_stops order after c.enter_stop.new.keeper.list None halt c.in_default.is c.enter_stop.ensures.list counts.2.1 counts.1
     (λ image told left may.
-    let was = told_before (g.D.Disk.seen o.journal.disk) (g.D.Disk.seen after.disk) image c.fold_end.ensures.tells told in
+    let was = told_before (g.D.Disk.seen o.journal.disk) (g.D.Disk.seen after.disk) image c.fold_end.ensures.counts.tells told in
     let had = (order.kept c.in_default.is).records was.0 was.1 in
-    at_end g.D.Disk.moment g.D.Disk.left_since o.journal.disk after.disk (λ i. OpensFolded i o.core.end) (g.D.Disk.may_leave after.disk) (g.met.D.Disk.counts_now after.disk)
+    at_end g.D.Disk o.journal.disk after.disk (λ i. OpensFolded i o.core.end) (g.D.Disk.may_leave after.disk) (g.met.D.Disk.counts_now after.disk)
     (fold_run had.2 size.1 (order.kept c.in_default.is).version (c.fold_end.ensures.any_moment had.0 size.0 had.1 size.1)) left may) in
-    let P : Machine → Type 0 = λ m. IsInOrder g.D.Disk.seen g.D.Disk.may_leave g.D.Disk.fault_count after m.end m.modes (Some halt) c.enter_stop.new.keeper.list in
+    let P : Machine → Type 0 = λ m. IsInOrder g.D.Disk after m.end m.modes (Some halt) c.enter_stop.new.keeper.list in
     (subst P (sym c.in-Err-Disk.ensures.same) now, c.self.invariant.1)
 
 pub returns-in-Err-Disk : goal.returns-in-Err-Disk
@@ -168,12 +168,12 @@ returns-in-Err-Disk g c =
     let order = c.self.invariant.0 in
     let after = c.fold_end.new.journal in
     let more = c.enter_stop.new.keeper.list in
-    let halt : Halt = record { before = c.in-Err-Disk.before; after = c.in-Err-Disk.after } in
+    let halt : FaultCounts = record { before = c.in-Err-Disk.before; after = c.in-Err-Disk.after } in
     let going = sym order.halted ∙ c.in_default.is in
-    let counts = subst (IsCause (g.D.Disk.fault_count o.journal.disk) (g.D.Disk.fault_count after.disk)) c.in-Err-Disk.field-0-is c.in-Err-Disk.ensures.cause in
+    let counts = subst (IsCause (g.D.Disk.fault_count o.journal.disk) (g.D.Disk.fault_count after.disk)) c.in-Err-Disk.field-0-is c.in-Err-Disk.ensures.counts.cause in
     let size = c.folded_size-size.ensures.size in
     let room : length o.keeper.list < 2 ^ 63 = omega (arith, c.len.ensures.value, c.len.ensures.limit, c.if-len.false) in
-    let P : Machine → Type 0 = λ m. IsInOrder g.D.Disk.seen g.D.Disk.may_leave g.D.Disk.fault_count after m.end m.modes (Some halt) more in
+    let P : Machine → Type 0 = λ m. IsInOrder g.D.Disk after m.end m.modes (Some halt) more in
     rw (← c.self.view_is, c.enter_stop.ensures.fault, c.in-Err-Disk.ensures.same) (record {
       answer = record {
         going = going;
@@ -188,5 +188,5 @@ returns-in-Err-Disk g c =
           let had = (order.kept c.in_default.is).records image told in
           fold_run had.2 size.1 (order.kept c.in_default.is).version (c.fold_end.ensures.any_moment had.0 size.0 had.1 size.1);
       keeps = keeps (subst P c.in-Err-Disk.ensures.same (invariant_of-self-in-Err-Disk g c).0) refl c.enter_stop.ensures.book c.enter_stop.ensures.pass
-          (stop_leads o.core.modes o.keeper.list more None halt o.core.end going c.enter_stop.ensures.list counts.2.1) c.fold_end.ensures.tells (λ none. absurd (not_both (Some halt) halt refl none)) (omega (arith, counts.0, counts.1, counts.2.0));
+          (stop_leads o.core.modes o.keeper.list more None halt o.core.end going c.enter_stop.ensures.list counts.2.1) c.fold_end.ensures.counts.tells (λ none. absurd (not_both (Some halt) halt refl none)) (omega (arith, counts.0, counts.1, counts.2.0));
     })

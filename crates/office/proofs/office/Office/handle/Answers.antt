@@ -1,6 +1,6 @@
 use Rattle.std.proofs.Common.{◌∙◌, ◌++◌, [], ◌∷◌, List, Some, refl, sym, ap, subst, arith}
 use Rattle.as4_disk.proofs.RunLemmas.{at_end}
-use Rattle.as4_values.specs.declared.mode.Mode.{Mode}
+use Rattle.mode_values.specs.declared.mode.Mode.{Mode}
 use Rattle.end_records.specs.Opens.{IsJournalOf}
 use Rattle.end_records.proofs.OpenLemmas.{kept_opens}
 use Rattle.exchange_model.specs.End.{End}
@@ -40,9 +40,9 @@ invariant_of-self g c =
     let next = c.commit-reply.new.core.end in
     let made = c.commit-reply.ensures.made ready.0 ready.2 in
     let records = c.in-Ok.ensures.records o.core ready.0 ready.2 (order.kept (order.halted ∙ is.1)) in
-    let kept = subst (λ (e : End). IsJournalOf g.D.Disk.seen g.D.Disk.may_leave e after) (sym made.0) (records.kept refl) in
+    let kept = subst (λ (e : End). IsJournalOf g.D.Disk e after) (sym made.0) (records.kept refl) in
     let now = order_goes order after next c.enter_done.new.keeper.list _ (order.halted ∙ is.1) c.enter_done.ensures.list refl kept in
-    (subst (λ (m : List Mode). IsInOrder g.D.Disk.seen g.D.Disk.may_leave g.D.Disk.fault_count after next m o.halt c.enter_done.new.keeper.list) (sym c.commit-reply.ensures.modes) now, c.write.ensures.small)
+    (subst (λ (m : List Mode). IsInOrder g.D.Disk after next m o.halt c.enter_done.new.keeper.list) (sym c.commit-reply.ensures.modes) now, c.write.ensures.small)
 
 pub returns-in-Ok-clause-handles : goal.returns-in-Ok-clause-handles
 returns-in-Ok-clause-handles g c =
@@ -55,7 +55,7 @@ returns-in-Ok-clause-handles g c =
     let more = c.enter_done.new.keeper.list in
     let made = c.commit-reply.ensures.made ready.0 ready.2 in
     let records = c.in-Ok.ensures.records o.core ready.0 ready.2 (order.kept (order.halted ∙ is.1)) in
-    let kept = subst (λ (e : End). IsJournalOf g.D.Disk.seen g.D.Disk.may_leave e after) (sym made.0) (records.kept refl) in
+    let kept = subst (λ (e : End). IsJournalOf g.D.Disk e after) (sym made.0) (records.kept refl) in
     rw (← c.self.view_is) (record {
       answer = record {
         going = is.1;
@@ -64,7 +64,7 @@ returns-in-Ok-clause-handles g c =
         reply = c.enter_done.ensures.same ∙ made.1;
         end = made.0;
         recorded = records.recorded;
-        kept = kept_opens g.D.Disk.seen g.D.Disk.may_leave next after kept;
+        kept = kept_opens g.D.Disk next after kept;
         entered = enters
             (Done c.args.event c.enter_done.result) is.0 c.enter_done.ensures.seen (c.enter_done.ensures.list ∙ ap (λ (r : Reply). o.keeper.list ++ Done c.args.event r ∷ []) (sym c.enter_done.ensures.same)) c.enter_done.ensures.pass;
       };
@@ -86,7 +86,7 @@ invariant_of-self-in-Err g c =
       order_stops order after c.enter_stop.new.keeper.list (Some c.args.event) c.in-Err.halt (order.halted ∙ is.1) c.enter_stop.ensures.list cause.2.1 cause.1
           (λ image told left may.
           let was = told_before (g.D.Disk.seen o.journal.disk) (g.D.Disk.seen after.disk) image c.write.ensures.tells told in
-          at_end g.D.Disk.moment g.D.Disk.left_since o.journal.disk after.disk (OpensBeforeOrAfter o.core.modes o.core.end c.args.event) (g.D.Disk.may_leave after.disk) (g.met.D.Disk.counts_now after.disk)
+          at_end g.D.Disk o.journal.disk after.disk (OpensBeforeOrAfter o.core.modes o.core.end c.args.event) (g.D.Disk.may_leave after.disk) (g.met.D.Disk.counts_now after.disk)
           (step_run ready.1 (records.any_moment was.0 was.1)) left may),
       c.write.ensures.small,
     )

@@ -1,5 +1,5 @@
 use Rattle.std.proofs.Common.{◌≡◌, None, false, true, refl, sym, ap, subst}
-use Rattle.as4_disk.specs.Runs.{LeavesOnly}
+use Rattle.as4_disk.specs.Leaving.{LeavesOnly}
 use Rattle.end_records.specs.Opens.{KeepsEnd}
 use Rattle.exchange_model.specs.declared.event.Event.{Event}
 use Rattle.office.specs.Calls.{stop_of}
@@ -13,10 +13,10 @@ pub returns-in-Ok : goal.returns-in-Ok
 returns-in-Ok g c =
     let old = c.args.self.now in
     let new = c.enact.new.self in
-    let P : OfficeState g.row.D.Denot → Type 0 = λ o. Handles g.D.Disk.seen g.D.Disk.may_leave g.D.Disk.moment g.D.Disk.left_since g.D.Disk.fault_count g.D.Disk.makes o new c.args.pass.now c.enact.new.pass c.in-Ok.ready.event c.enact.result in
-    let Q : Event → Type 0 = λ e. Handles g.D.Disk.seen g.D.Disk.may_leave g.D.Disk.moment g.D.Disk.left_since g.D.Disk.fault_count g.D.Disk.makes old new c.args.pass.now c.enact.new.pass e c.enact.result in
+    let P : OfficeState g.row.D.Denot → Type 0 = λ o. Handles g.D.Disk o new c.args.pass.now c.enact.new.pass c.in-Ok.ready.event c.enact.result in
+    let Q : Event → Type 0 = λ e. Handles g.D.Disk old new c.args.pass.now c.enact.new.pass e c.enact.result in
     record {
-      handles = subst Q c.in-Ok.ensures.ready.0 (same_handling g.D.Disk.seen g.D.Disk.may_leave g.D.Disk.moment g.D.Disk.left_since g.D.Disk.fault_count g.D.Disk.makes old new c.prepare.new.self.rooms c.args.pass.now c.enact.new.pass c.in-Ok.ready.event c.enact.result (subst P c.in-Ok.ensures.same c.enact.ensures.handles));
+      handles = subst Q c.in-Ok.ensures.ready.0 (same_handling g.D.Disk old new c.prepare.new.self.rooms c.args.pass.now c.enact.new.pass c.in-Ok.ready.event c.enact.result (subst P c.in-Ok.ensures.same c.enact.ensures.handles));
       free = λ outcome step free. c.enact.ensures.memory;
       takes = λ starved. absurd (c.enact.ensures.memory starved);
     }
@@ -25,8 +25,8 @@ pub returns-in-Err : goal.returns-in-Err
 returns-in-Err g c =
     let old = c.args.self.now in
     let same = c.in-Err.ensures.same in
-    let P : OfficeState g.row.D.Denot → Type 0 = λ o. stop_of o.list ≡ None → KeepsEnd g.D.Disk.seen g.D.Disk.may_leave o.disk o.end in
-    let Q : g.row.D.Denot → Type 0 = λ d. LeavesOnly g.D.Disk.moment g.D.Disk.left_since old.disk d (OpensBeforeOrAfter old.modes old.end c.args.event) in
+    let P : OfficeState g.row.D.Denot → Type 0 = λ o. stop_of o.list ≡ None → KeepsEnd g.D.Disk o.disk o.end in
+    let Q : g.row.D.Denot → Type 0 = λ d. LeavesOnly g.D.Disk old.disk d (OpensBeforeOrAfter old.modes old.end c.args.event) in
     let kept = c.prepare.ensures.keeps c.args.pass.now in
     record {
       handles = record {
@@ -35,7 +35,7 @@ returns-in-Err g c =
           ap (λ (o : OfficeState g.row.D.Denot). o.disk) same,
         );
         any_moment = λ going image told. subst Q (sym (ap (λ (o : OfficeState g.row.D.Denot). o.disk) same))
-            (quiet_run g.D.Disk.moment g.D.Disk.left_since g.D.Disk.seen g.D.Disk.may_leave g.met.D.Disk.only_now old.modes c.args.event old.disk old.end image (subst P same kept.safe going) told);
+            (quiet_run g.D.Disk g.met.D.Disk.only_now old.modes c.args.event old.disk old.end image (subst P same kept.safe going) told);
         keeps = kept;
       };
       free = λ outcome step free starved. (let wrong : false ≡ true = c.in-Err.ensures.free outcome step free in absurd cc);
