@@ -11,8 +11,8 @@ use Rattle.as4_disk.specs.declared.change.Pick.TheVariants.{Old, New, Other}
 use Rattle.as4_disk.specs.declared.part.Part.{Part}
 use Rattle.drill.specs.Disks.{IsOf, IsStoppedDisk}
 use Rattle.drill.specs.Transcript.{stands}
-use Rattle.end_records.specs.Opens.{IsAt, IsOld, KeepsEnd, OpensAs, OpensWith, ReadsAs}
-use Rattle.end_records.specs.Puts.{Puts}
+use Rattle.msh_recovery.specs.Opens.{IsAt, IsOld, KeepsEnd, OpensAs, OpensWith, ReadsAs}
+use Rattle.msh_recovery.specs.Puts.{Puts}
 use Rattle.exchange_model.specs.Apply.{applied}
 use Rattle.exchange_model.specs.End.{End, empty_end}
 use Rattle.exchange_model.specs.declared.outcome.Outcome.{Outcome}

@@ -4,7 +4,7 @@ use Rattle.as4_disk.specs.Image.{Image}
 use Rattle.as4_disk.specs.Memory.{DiskState, picked}
 use Rattle.as4_disk.specs.declared.change.Pick.{Pick}
 use Rattle.drill.specs.Transcript.{stands}
-use Rattle.end_records.specs.Opens.{IsOld, ReadsAs}
+use Rattle.msh_recovery.specs.Opens.{IsOld, ReadsAs}
 use Rattle.exchange_model.specs.Apply.{applied}
 use Rattle.exchange_model.specs.End.{End}
 use Rattle.exchange_model.specs.declared.outcome.Outcome.{Outcome}

@@ -8,8 +8,8 @@ ghost use Rattle.exchange_model.specs.declared.outcome.Outcome.{Outcome};
 
 use as4_disk::{Files, MemoryDisk, Pick, leaves_all_that_may_be};
 use as4_values::{NoMemory, Octets, Seq};
-use end_records::{a_stopped_record_stands_or_not, an_image_opens_to_one_end};
 use exchange_model::Event;
+use msh_recovery::{a_stopped_record_stands_or_not, an_image_opens_to_one_end};
 use office::{Call, Office, OfficeFault};
 use pass_book::Pass;
 use pmodes::Modes;

@@ -13,9 +13,9 @@ use drill_texts::{
     drill_mode, end_line, folded_line, loads_of, modes_of, no_package_line, reopened_line,
     reply_line, unknown_line,
 };
-use end_tables::Totals;
 use exchange_model::Reply;
 use mode_values::Mode;
+use msh_state::Totals;
 use std::alloc::Global;
 
 fn is_line(line: Result<Octets, NoMemory>, wanted: &[u8]) -> bool {

@@ -21,15 +21,15 @@
 ghost use Rattle.std.specs.Prelude.{◌≡◌, ◌++◌, ℕ, IfOk, OnOk, codes};
 ghost use Rattle.std.specs.Fmt.{decimal};
 ghost use Rattle.drill_texts.specs.Texts.{end_line, reply_text, said_line, status_text};
-ghost use Rattle.end_tables.specs.Totals.{AreTotals};
+ghost use Rattle.msh_state.specs.Totals.{AreTotals};
 ghost use Rattle.exchange_model.specs.End.{End};
 
 use crate::messages::{add_entry, add_message};
 use crate::pieces::{add, add_counted, add_named, add_number, begun_line, ended_line};
 use as4_values::{Code, MessageId, NoMemory, Octets};
 use drill_script::EndName;
-use end_tables::Totals;
 use exchange_model::Reply;
+use msh_state::Totals;
 use std::alloc::Global;
 
 /// The line for a reply to a line that names `number`, at an endpoint that has sent `packages` packages.

@@ -8,10 +8,10 @@ use as4_values::{
     ErrorItem, Message, MessageId, Pair, PlainData, Signal, SignalBody, Text, UserHeader,
     stamp_text,
 };
-use end_tables::EndTables;
 use exchange_model::{Event, Outcome, Reply, What};
-use machine_rows::row_of;
 use made_messages::{act, header_of, text};
+use msh_state::EndTables;
+use msh_transitions::row_of;
 use pmodes::Modes;
 use std::alloc::Global;
 

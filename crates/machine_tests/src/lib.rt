@@ -1,4 +1,4 @@
-//! Tests of the public interfaces of `machine_rows` and `msh_core`.
+//! Tests of the public interfaces of `msh_transitions` and `msh_core`.
 #![tactic(auto)]
 
 #[cfg(test)]

@@ -1,9 +1,9 @@
 //! Error signals, and the submissions that they refuse.
 use as4_effects::Effect;
 use as4_values::{Code, ErrorItem, MessageId, Seq, Severity};
-use end_tables::EndTables;
-use machine_rows::refusals_of;
 use made_messages::{act, submission};
+use msh_state::EndTables;
+use msh_transitions::refusals_of;
 use std::alloc::Global;
 
 /// Adds the submission of this number.

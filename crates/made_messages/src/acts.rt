@@ -1,10 +1,10 @@
 //! Applies effects to tables.
 ghost use Rattle.std.specs.Prelude.{◌≡◌, IsTrue, IfSome};
-ghost use Rattle.end_tables.specs.Rooms.{HasRoom, queue_for};
+ghost use Rattle.msh_state.specs.Rooms.{HasRoom, queue_for};
 ghost use Rattle.exchange_model.specs.Apply.{is_fit};
 
 use as4_effects::{Effect, Queue};
-use end_tables::EndTables;
+use msh_state::EndTables;
 
 /// Applies the effect to the tables, if it fits and there is memory.
 pub fn act(tables: &mut EndTables, effect: Effect) -> Option<()> {

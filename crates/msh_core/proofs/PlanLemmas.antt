@@ -5,9 +5,9 @@ use Rattle.std.specs.Prelude.{if◌then◌else◌}
 use Rattle.as4_effects.specs.declared.effect.Effect.{Effect}
 use Rattle.as4_effects.specs.declared.effect.Effect.TheVariants as effect
 use Rattle.as4_effects.specs.declared.queue.Queue.{Queue}
-use Rattle.end_tables.specs.Rooms.{Rooms, HasRoom, IsThere, TakesNoRoom, queue_for}
-use Rattle.end_tables.specs.Standing.{TakeOneRoom}
-use Rattle.end_tables.proofs.KeptLemmas.{fit_there, kept_queue, room_stays, there_before}
+use Rattle.msh_state.specs.Rooms.{Rooms, HasRoom, IsThere, TakesNoRoom, queue_for}
+use Rattle.msh_state.specs.Standing.{TakeOneRoom}
+use Rattle.msh_state.proofs.KeptLemmas.{fit_there, kept_queue, room_stays, there_before}
 use Rattle.exchange_model.specs.Apply.{after, first_unfit, is_fit}
 use Rattle.exchange_model.specs.End.{End}
 use Rattle.exchange_model.specs.declared.sent.Sent.{Sent}

@@ -5,7 +5,7 @@ use Rattle.std.specs.Bool.{MatchBool}
 use Rattle.as4_effects.specs.declared.effect.Effect.{Effect}
 use Rattle.as4_effects.specs.declared.queue.Queue.{Queue}
 use Rattle.mode_values.specs.declared.mode.Mode.{Mode}
-use Rattle.end_tables.specs.Standing.{CanStand}
+use Rattle.msh_state.specs.Standing.{CanStand}
 use Rattle.exchange_model.specs.End.{End}
 use Rattle.exchange_model.specs.Apply.{record_len}
 use Rattle.exchange_model.specs.Table.{IsLimited, Rests, RowOf, Step, has_room}
@@ -13,7 +13,7 @@ use Rattle.exchange_model.specs.declared.event.Event.{Event}
 use Rattle.exchange_model.specs.declared.outcome.Outcome.{Outcome}
 use Rattle.exchange_model.specs.declared.reply.Reply.{Reply}
 use Rattle.exchange_model.specs.declared.reply.Reply.TheVariants as reply
-use Rattle.machine_rows.specs.Free.{IsBare, IsFree}
+use Rattle.msh_transitions.specs.Free.{IsBare, IsFree}
 use Rattle.msh_core.specs.Machine.{IsReady, Machine}
 
 row_is : (b : Bool) (end : End) (row outcome : Outcome)

@@ -7,8 +7,8 @@ use Rattle.as4_effects.specs.declared.effect.Effect.{Effect}
 use Rattle.as4_effects.specs.declared.effect.Effect.TheVariants as effect
 use Rattle.as4_effects.proofs.LengthLemmas.{number_length}
 use Rattle.as4_effects.specs.Bodies.{number_body}
-use Rattle.end_tables.specs.Rooms.{TakesNoRoom}
-use Rattle.end_tables.specs.Standing.{TakeOneRoom}
+use Rattle.msh_state.specs.Rooms.{TakesNoRoom}
+use Rattle.msh_state.specs.Standing.{TakeOneRoom}
 use Rattle.exchange_model.specs.Table.{Rests}
 use Rattle.exchange_model.specs.declared.outcome.Outcome.{Outcome}
 use Rattle.exchange_model.specs.declared.reply.Reply.{Reply}

@@ -4,8 +4,8 @@ use Rattle.std.specs.List.{AllByRecursion}
 use Rattle.as4_effects.specs.declared.effect.Effect.{Effect}
 use Rattle.as4_effects.specs.declared.queue.Queue.{Queue}
 use Rattle.mode_values.specs.declared.mode.Mode.{Mode}
-use Rattle.end_tables.specs.Rooms.{Rooms, HasRoom, queue_for}
-use Rattle.end_tables.specs.Standing.{CanStand}
+use Rattle.msh_state.specs.Rooms.{Rooms, HasRoom, queue_for}
+use Rattle.msh_state.specs.Standing.{CanStand}
 use Rattle.exchange_model.specs.End.{End}
 use Rattle.exchange_model.specs.Table.{Step, has_room}
 use Rattle.exchange_model.specs.declared.event.Event.{Event}

@@ -1,13 +1,13 @@
 //! Applies effects one after another, with the room and the queues that were prepared for them.
 ghost use Rattle.std.specs.Prelude.{◌≡◌, IfOk, OnOk, map};
-ghost use Rattle.end_tables.specs.Rooms.{queue_for};
-ghost use Rattle.end_tables.specs.Standing.{CanStand};
+ghost use Rattle.msh_state.specs.Rooms.{queue_for};
+ghost use Rattle.msh_state.specs.Standing.{CanStand};
 ghost use Rattle.exchange_model.specs.Apply.{after_all};
 ghost use Rattle.msh_core.specs.Machine.{HaveRoom};
 
 use as4_effects::{Effect, Queue};
 use as4_values::{NoMemory, Seq};
-use end_tables::EndTables;
+use msh_state::EndTables;
 use std::alloc::Global;
 
 /// Reserves room for the effects, of which only the last may take some, and finds the queue in which each moves a

@@ -12,7 +12,7 @@
 ghost use Rattle.std.specs.Prelude.{◌≡◌, ℕ, ◌+◌, ◌<◌, ◌≤◌, IfOk, List, Some, drop, length, slice_get, take};
 ghost use Rattle.std.specs.List.{sum_by};
 ghost use Rattle.as4_effects.specs.declared.effect.Effect.{Effect as EffectValue};
-ghost use Rattle.end_tables.specs.Rooms.{new_tables};
+ghost use Rattle.msh_state.specs.Rooms.{new_tables};
 ghost use Rattle.exchange_model.specs.End.{End};
 ghost use Rattle.exchange_model.specs.Fold.{CarriesOver, DeliversAgain, IsFolded, IsFoldedSize, KeepsHeader, SetsClock, folded_size, resized};
 ghost use Rattle.exchange_model.specs.Questions.{sent_at};
@@ -24,7 +24,7 @@ use crate::machine::{Core, MAX_JOURNAL};
 use crate::small::SMALL_RECORD;
 use as4_effects::{Carried, Delivery, Effect, Kept, Measured, Tick};
 use as4_values::{NoMemory, PlainData, try_clone_two};
-use end_tables::{EndTables, Held};
+use msh_state::{EndTables, Held};
 use std::alloc::Global;
 
 /// The bytes of a journal before its first record.

@@ -8,10 +8,10 @@ mod plan;
 mod replaying;
 mod small;
 
-pub use end_tables::Totals;
 pub use exchange_model::{Event, Outcome, Reply, What};
 pub use folding::a_fold_can_be_replayed;
 pub use machine::{Core, MAX_JOURNAL};
+pub use msh_state::Totals;
 pub use plan::Plan;
 pub use replaying::ReplayRefusal;
 pub use small::SmallPlan;

@@ -1,7 +1,7 @@
 //! Replays the effects of records.
 ghost use Rattle.std.specs.Prelude.{◌≡◌, ◌+◌, ◌≤◌, ℕ, Err, IfOk, None, Some, IsTrue, OnOk, length};
 ghost use Rattle.as4_effects.specs.Effects.{effects_limit};
-ghost use Rattle.end_tables.specs.Rooms.{HasRoom, queue_for};
+ghost use Rattle.msh_state.specs.Rooms.{HasRoom, queue_for};
 ghost use Rattle.exchange_model.specs.Apply.{after, after_all, applied, first_unfit, is_fit, record_len};
 ghost use Rattle.fold_laws.specs.Reached.{IsReached};
 ghost use Rattle.msh_core.specs.declared.replaying.ReplayRefusal.TheVariants.{NoMemory as NoMemoryLeft};
@@ -9,7 +9,7 @@ ghost use Rattle.msh_core.specs.declared.replaying.ReplayRefusal.TheVariants.{No
 use crate::machine::{Core, MAX_JOURNAL, record_len};
 use as4_effects::{Effect, Queue};
 use as4_values::{NoMemory, Seq};
-use end_tables::EndTables;
+use msh_state::EndTables;
 
 /// Why a record isn't replayed. Drop the core after this.
 #[derive(Clone, Copy, Debug, PartialEq, Eq)]

@@ -94,7 +94,7 @@ impl Core {
         }
     }
 
-    #[tactic(auto, unfolding(exchange_model::specs::Apply::is_fit, end_tables::specs::Rooms::HasRoom, end_tables::specs::Rooms::queue_for), using(crate::proofs::RecordLemmas::size_after))]
+    #[tactic(auto, unfolding(exchange_model::specs::Apply::is_fit, msh_state::specs::Rooms::HasRoom, msh_state::specs::Rooms::queue_for), using(crate::proofs::RecordLemmas::size_after))]
     fn commit_tick(&mut self, moment: u64) -> Reply
         requires { CanGo self.old.end (SmallPlan.Tick moment) }
         ensures step { (outcome : OutcomeValue) → StandsFor self.old.end (SmallPlan.Tick moment) outcome
@@ -108,7 +108,7 @@ impl Core {
         Reply::Ticked { failed }
     }
 
-    #[tactic(auto, unfolding(exchange_model::specs::Apply::is_fit, end_tables::specs::Rooms::HasRoom, end_tables::specs::Rooms::queue_for), using(crate::proofs::RecordLemmas::size_after))]
+    #[tactic(auto, unfolding(exchange_model::specs::Apply::is_fit, msh_state::specs::Rooms::HasRoom, msh_state::specs::Rooms::queue_for), using(crate::proofs::RecordLemmas::size_after))]
     fn commit_confirm(&mut self, upto: u64) -> Reply
         requires { CanGo self.old.end (SmallPlan.Confirm upto) }
         ensures step { (outcome : OutcomeValue) → StandsFor self.old.end (SmallPlan.Confirm upto) outcome

@@ -13,7 +13,7 @@ use Rattle.exchange_model.specs.declared.outcome.Outcome.{Outcome}
 use Rattle.exchange_model.specs.declared.reply.Reply.{Reply}
 use Rattle.exchange_model.specs.declared.reply.Reply.TheVariants.{Stopped}
 use Rattle.as4_disk.specs.Image.{Image}
-use Rattle.end_records.specs.Opens.{IsAt}
+use Rattle.msh_recovery.specs.Opens.{IsAt}
 use Rattle.office.specs.Calls.{IsRefusedAt, Leads, stop_of}
 use Rattle.office.specs.Left.{IsLeft}
 use Rattle.office.specs.declared.call.Call.{Call}

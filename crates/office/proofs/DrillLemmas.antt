@@ -4,7 +4,7 @@ use Rattle.as4_disk.specs.Memory.{DiskState}
 use Rattle.as4_disk.specs.MemoryMeaning.{memory_meaning}
 use Rattle.as4_disk.specs.declared.fault_counts.FaultCounts.{FaultCounts}
 use Rattle.mode_values.specs.declared.mode.Mode.{Mode}
-use Rattle.end_records.specs.Opens.{IsJournalOf}
+use Rattle.msh_recovery.specs.Opens.{IsJournalOf}
 use Rattle.exchange_model.specs.End.{End}
 use Rattle.journal.specs.declared.journal.Journal.{Journal}
 use Rattle.office.specs.State.{IsInOrder}

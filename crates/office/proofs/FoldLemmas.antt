@@ -9,10 +9,10 @@ use Rattle.journal.specs.Store.{InVersion, OpensSettled}
 use Rattle.journal.specs.declared.version.Version.{Version}
 use Rattle.journal.specs.declared.version.Version.TheVariants.{Two}
 use Rattle.msh_core.specs.Folding.{capped}
-use Rattle.end_records.specs.Opens.{IsAt, OpensFolded}
-use Rattle.end_records.specs.Records.{RecordsLead}
-use Rattle.end_records.proofs.OpenLemmas.{settled_at}
-use Rattle.end_journal.proofs.RunLemmas.{first_all}
+use Rattle.msh_recovery.specs.Opens.{IsAt, OpensFolded}
+use Rattle.msh_recovery.specs.Records.{RecordsLead}
+use Rattle.msh_recovery.proofs.OpenLemmas.{settled_at}
+use Rattle.msh_journal.proofs.RunLemmas.{first_all}
 
 -- a number below 2^64 is the size itself
 pub short_size : (size found : ℕ) → found ≡ capped size → found < 2 ^ 32 → size ≡ found

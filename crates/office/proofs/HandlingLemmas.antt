@@ -3,7 +3,7 @@ use Rattle.std.proofs.Common.{◌≡◌, ℕ, ◌+◌, ◌<◌, ◌≤◌, ◌^�
 use mathlib.Core.List.{IsPrefix}
 use Rattle.as4_disk.specs.declared.disk.Disk.{Ghosts as DiskMeaning}
 use Rattle.mode_values.specs.declared.mode.Mode.{Mode}
-use Rattle.end_tables.specs.Rooms.{Rooms}
+use Rattle.msh_state.specs.Rooms.{Rooms}
 use Rattle.exchange_model.specs.End.{End}
 use Rattle.journal.specs.declared.journal.Journal.{Journal}
 use Rattle.office.specs.Calls.{Leads}

@@ -3,10 +3,10 @@ use Rattle.std.proofs.Common.{◌≡◌, inl, inr, ⊎_elim, List, [], ◌∷◌
 use Rattle.std.specs.List.{Contains}
 use Rattle.as4_disk.specs.Image.{Image}
 use Rattle.mode_values.specs.declared.mode.Mode.{Mode}
-use Rattle.end_records.specs.Opens.{IsAt, IsAtWith, IsOld, OpensAs, ReadsAs, ReopensAs}
-use Rattle.end_records.proofs.OpenLemmas.{opens_weaker}
-use Rattle.end_records.proofs.RecordLemmas.{LeadsOnce}
-use Rattle.end_records.proofs.ReopenLemmas.{reopens_at}
+use Rattle.msh_recovery.specs.Opens.{IsAt, IsAtWith, IsOld, OpensAs, ReadsAs, ReopensAs}
+use Rattle.msh_recovery.proofs.OpenLemmas.{opens_weaker}
+use Rattle.msh_recovery.proofs.RecordLemmas.{LeadsOnce}
+use Rattle.msh_recovery.proofs.ReopenLemmas.{reopens_at}
 use Rattle.exchange_model.specs.Alone.{MayHappenTo, end_after}
 use Rattle.exchange_model.specs.Apply.{applied}
 use Rattle.exchange_model.specs.End.{End, empty_end}

@@ -12,7 +12,7 @@ use Rattle.exchange_model.specs.End.{End}
 use Rattle.exchange_model.specs.declared.outcome.Outcome.{Outcome}
 use Rattle.msh_core.specs.Small.{CanGo, StandsFor}
 use Rattle.msh_core.specs.declared.small.SmallPlan.TheVariants as plan
-use Rattle.end_records.specs.Records.{IsBodyOf, RecordLeads}
+use Rattle.msh_recovery.specs.Records.{IsBodyOf, RecordLeads}
 
 alone_leads : (e : Effect) (body : List ℕ) (end : End) (outcome : Outcome) → IsSpelledEffect e → body ≡ effects_body (e ∷ []) → is_fit e end ≡ true → outcome.effects ≡ e ∷ []
     → RecordLeads body end (applied outcome.effects end)

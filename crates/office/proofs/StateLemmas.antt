@@ -14,8 +14,8 @@ use Rattle.exchange_model.specs.declared.event.Event.{Event}
 use Rattle.exchange_model.specs.declared.outcome.Outcome.{Outcome}
 use Rattle.exchange_model.specs.declared.reply.Reply.{Reply}
 use Rattle.journal.specs.declared.journal.Journal.{Journal}
-use Rattle.end_records.specs.Opens.{IsAt, IsAtOneOf, IsFoldedOf, IsJournalOf, KeepsEnd, OpensFolded}
-use Rattle.end_records.proofs.OpenLemmas.{at_weaker, kept_opens}
+use Rattle.msh_recovery.specs.Opens.{IsAt, IsAtOneOf, IsFoldedOf, IsJournalOf, KeepsEnd, OpensFolded}
+use Rattle.msh_recovery.proofs.OpenLemmas.{at_weaker, kept_opens}
 use Rattle.office.specs.Calls.{stop_of}
 use Rattle.office.specs.State.{IsInOrder}
 use Rattle.office.specs.Left.{IsLeft, IsStepTo, OpensBeforeOrAfter}

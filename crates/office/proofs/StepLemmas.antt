@@ -5,13 +5,13 @@ use Rattle.as4_disk.specs.Image.{Image}
 use Rattle.as4_disk.specs.Leaving.{LeavesOnly}
 use Rattle.as4_disk.proofs.RunLemmas.{no_call}
 use Rattle.mode_values.specs.declared.mode.Mode.{Mode}
-use Rattle.end_tables.specs.Rooms.{Rooms}
+use Rattle.msh_state.specs.Rooms.{Rooms}
 use Rattle.exchange_model.specs.End.{End}
 use Rattle.exchange_model.specs.declared.event.Event.{Event}
 use Rattle.exchange_model.specs.declared.reply.Reply.{Reply}
 use Rattle.exchange_model.specs.declared.reply.Reply.TheVariants as reply
-use Rattle.end_records.specs.Opens.{KeepsEnd}
-use Rattle.end_records.proofs.OpenLemmas.{at_weaker}
+use Rattle.msh_recovery.specs.Opens.{KeepsEnd}
+use Rattle.msh_recovery.proofs.OpenLemmas.{at_weaker}
 use Rattle.office.specs.Left.{IsStepTo, OpensBeforeOrAfter}
 use Rattle.office.specs.State.{OfficeState}
 use Rattle.office.specs.Steps.{Enters, Handles, Steps}

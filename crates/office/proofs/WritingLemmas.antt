@@ -11,10 +11,10 @@ use Rattle.exchange_model.specs.Table.{has_room}
 use Rattle.exchange_model.specs.declared.outcome.Outcome.{Outcome}
 use Rattle.journal.specs.declared.journal.Journal.{Journal}
 use Rattle.msh_core.proofs.RecordLemmas.{are_some, room_to_grow, size_kept}
-use Rattle.end_journal.specs.Frames.{IsFrameOf}
-use Rattle.end_records.specs.Opens.{IsAt, IsAtWith, IsJournalOf}
-use Rattle.end_records.specs.Records.{RecordLeads}
-use Rattle.end_records.proofs.OpenLemmas.{at_weaker, kept_opens}
+use Rattle.msh_journal.specs.Frames.{IsFrameOf}
+use Rattle.msh_recovery.specs.Opens.{IsAt, IsAtWith, IsJournalOf}
+use Rattle.msh_recovery.specs.Records.{RecordLeads}
+use Rattle.msh_recovery.proofs.OpenLemmas.{at_weaker, kept_opens}
 use Rattle.office.specs.Recording.{PutsBehind, RecordsStep}
 
 -- where there is a record, it has room, and leads to the end behind the effects

@@ -4,7 +4,7 @@ use Rattle.as4_disk.specs.declared.disk.Disk.{Ghosts as DiskMeaning}
 use Rattle.as4_disk.specs.Image.{Image}
 use Rattle.as4_disk.specs.Leaving.{LeavesOnly}
 use Rattle.as4_flow.specs.Flow.{Told}
-use Rattle.end_records.specs.Opens.{OpensFolded}
+use Rattle.msh_recovery.specs.Opens.{OpensFolded}
 use Rattle.exchange_model.specs.End.{End}
 use Rattle.exchange_model.specs.Fold.{IsFoldedSize, resized}
 use Rattle.office.specs.Calls.{stop_of}

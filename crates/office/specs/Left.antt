@@ -2,7 +2,7 @@
 use Rattle.std.specs.Prelude.{◌≡◌, ◌⊎◌, List, [], ◌∷◌, Some, None}
 use Rattle.as4_disk.specs.Image.{Image}
 use Rattle.mode_values.specs.declared.mode.Mode.{Mode}
-use Rattle.end_records.specs.Opens.{IsAt, IsAtWith, OpensFolded}
+use Rattle.msh_recovery.specs.Opens.{IsAt, IsAtWith, OpensFolded}
 use Rattle.exchange_model.specs.Apply.{applied}
 use Rattle.exchange_model.specs.End.{End}
 use Rattle.exchange_model.specs.Table.{Step}

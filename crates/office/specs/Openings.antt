@@ -2,7 +2,7 @@
 use Rattle.std.specs.Prelude.{◌≡◌, List, [], ◌∷◌, ◌++◌}
 use Rattle.as4_disk.specs.Image.{Image}
 use Rattle.mode_values.specs.declared.mode.Mode.{Mode}
-use Rattle.end_records.specs.Opens.{ReadsAs}
+use Rattle.msh_recovery.specs.Opens.{ReadsAs}
 use Rattle.exchange_model.specs.End.{End}
 use Rattle.exchange_model.specs.World.{Happening, Site}
 use Rattle.office.specs.Calls.{Leads}

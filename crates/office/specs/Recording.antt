@@ -6,10 +6,10 @@ use Rattle.as4_disk.specs.Leaving.{LeavesOnly}
 use Rattle.as4_disk.specs.Runs.{MakesAll}
 use Rattle.as4_disk.specs.declared.part.Part.{Part}
 use Rattle.as4_flow.specs.Flow.{Told}
-use Rattle.end_journal.specs.Frames.{IsFrameOf}
-use Rattle.end_records.specs.Opens.{IsAtOneOf, IsJournalOf}
-use Rattle.end_records.specs.Puts.{Puts}
-use Rattle.end_records.specs.Records.{RecordLeads}
+use Rattle.msh_journal.specs.Frames.{IsFrameOf}
+use Rattle.msh_recovery.specs.Opens.{IsAtOneOf, IsJournalOf}
+use Rattle.msh_recovery.specs.Puts.{Puts}
+use Rattle.msh_recovery.specs.Records.{RecordLeads}
 use Rattle.exchange_model.specs.Apply.{applied}
 use Rattle.exchange_model.specs.End.{End}
 use Rattle.exchange_model.specs.Table.{Step}

@@ -5,8 +5,8 @@ use Rattle.as4_disk.specs.declared.disk.Disk.{Ghosts as DiskMeaning}
 use Rattle.as4_disk.specs.declared.fault_counts.FaultCounts.{FaultCounts}
 use Rattle.as4_flow.specs.Flow.{Rose, Told}
 use Rattle.mode_values.specs.declared.mode.Mode.{Mode}
-use Rattle.end_records.specs.Opens.{IsJournalOf}
-use Rattle.end_tables.specs.Rooms.{Rooms}
+use Rattle.msh_recovery.specs.Opens.{IsJournalOf}
+use Rattle.msh_state.specs.Rooms.{Rooms}
 use Rattle.exchange_model.specs.End.{End}
 use Rattle.exchange_model.specs.Table.{Step}
 use Rattle.exchange_model.specs.declared.event.Event.{Event}

@@ -5,7 +5,7 @@ use Rattle.as4_disk.specs.declared.disk.Disk.{Ghosts as DiskMeaning}
 use Rattle.as4_disk.specs.Image.{Image}
 use Rattle.as4_disk.specs.Leaving.{LeavesOnly}
 use Rattle.as4_flow.specs.Flow.{Rose, Told}
-use Rattle.end_records.specs.Opens.{KeepsEnd}
+use Rattle.msh_recovery.specs.Opens.{KeepsEnd}
 use Rattle.exchange_model.specs.Apply.{applied}
 use Rattle.exchange_model.specs.End.{End}
 use Rattle.exchange_model.specs.Table.{Step}

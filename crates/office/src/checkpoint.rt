@@ -7,8 +7,8 @@ use crate::entering::{enter, enter_stop};
 use crate::fault::OfficeFault;
 use crate::office::Office;
 use as4_disk::{Disk, FaultCounts};
-use end_journal::fold_end;
 use journal::JournalFault;
+use msh_journal::fold_end;
 use pass_book::{MAX_ENTRIES, Pass};
 
 impl<'a, D: Disk> Office<'a, D> {

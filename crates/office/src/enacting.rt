@@ -3,7 +3,7 @@ ghost use Rattle.std.specs.Prelude.{◌≡◌, ◌≢◌, ◌≤◌, Err, IsErrO
 ghost use Rattle.exchange_model.specs.Table.{Step};
 ghost use Rattle.exchange_model.specs.declared.event.Event.{Event as EventValue};
 ghost use Rattle.exchange_model.specs.declared.outcome.Outcome.{Outcome};
-ghost use Rattle.machine_rows.specs.Free.{IsFree};
+ghost use Rattle.msh_transitions.specs.Free.{IsFree};
 ghost use Rattle.office.specs.Recording.{HasWork};
 ghost use Rattle.office.specs.State.{TakesEvents, IsPreparedFor};
 ghost use Rattle.office.specs.Steps.{Handles, IsConfirmationOf, IsTickTo};

@@ -3,7 +3,7 @@ ghost use Rattle.std.specs.Prelude.{◌≡◌, ◌++◌, List, false};
 ghost use Rattle.std.specs.List.{Contains};
 ghost use Rattle.as4_disk.specs.Image.{Image};
 ghost use Rattle.mode_values.specs.declared.mode.Mode.{Mode};
-ghost use Rattle.end_records.specs.Opens.{IsOld, ReadsAs, ReopensAs};
+ghost use Rattle.msh_recovery.specs.Opens.{IsOld, ReadsAs, ReopensAs};
 ghost use Rattle.exchange_model.specs.Alone.{MayHappenTo, end_after};
 ghost use Rattle.exchange_model.specs.End.{End, empty_end};
 ghost use Rattle.exchange_model.specs.Questions.{is_pending};
@@ -17,8 +17,8 @@ ghost use Rattle.office.specs.Left.{IsLeft};
 ghost use Rattle.office.specs.Openings.{HappenedOver, LeadsOver, Opening};
 ghost use Rattle.office.specs.declared.call.Call.{Call};
 
-use end_records::an_image_opens_to_one_end;
 use exchange_laws::{what_came_stays, what_is_settled_stays};
+use msh_recovery::an_image_opens_to_one_end;
 
 /// What the calls of an office led to is what may happen to an end: each event's step, and each fold.
 pub fn a_history_may_happen()

@@ -3,8 +3,8 @@ ghost use Rattle.std.specs.Prelude.{◌≡◌, ◌≤◌, ◌^◌, IfSome, None,
 ghost use mathlib.Core.List.{IsPrefix};
 ghost use Rattle.as4_disk.specs.Image.{Image};
 ghost use Rattle.as4_flow.specs.Flow.{Rose, Told};
-ghost use Rattle.end_records.specs.Opens.{KeepsEnd};
-ghost use Rattle.end_tables.specs.Totals.{AreTotals};
+ghost use Rattle.msh_recovery.specs.Opens.{KeepsEnd};
+ghost use Rattle.msh_state.specs.Totals.{AreTotals};
 ghost use Rattle.office.specs.Calls.{stop_of};
 ghost use Rattle.office.specs.Left.{IsLeft};
 ghost use Rattle.office.specs.State.{machine_of};

@@ -2,7 +2,7 @@
 ghost use Rattle.std.specs.Prelude.{◌≡◌, IfOk, IsOk};
 ghost use Rattle.exchange_model.specs.Table.{Step};
 ghost use Rattle.exchange_model.specs.declared.outcome.Outcome.{Outcome};
-ghost use Rattle.machine_rows.specs.Free.{IsFree};
+ghost use Rattle.msh_transitions.specs.Free.{IsFree};
 ghost use Rattle.office.specs.State.{IsPreparedFor};
 ghost use Rattle.office.specs.Steps.{Keeps};
 ghost use Rattle.office.specs.declared.call.Call.{Call};
@@ -11,10 +11,10 @@ ghost use Rattle.pass_book.specs.States.{PassState};
 use crate::office::Office;
 use as4_disk::Disk;
 use as4_values::NoMemory;
-use end_journal::frame_of;
 use exchange_model::{Event, Reply};
 use journal::Frame;
 use msh_core::Plan;
+use msh_journal::frame_of;
 use outcome_laws::an_event_has_one_outcome;
 use std::marker::Model;
 
@@ -28,7 +28,7 @@ pub struct Ready {
 }
 
 impl Model for Ready {
-    ghost use Rattle.end_journal.specs.Frames.{IsFrameOf};
+    ghost use Rattle.msh_journal.specs.Frames.{IsFrameOf};
     ghost use Rattle.office.specs.State.{Prepared};
 
     ghost Value = { Prepared };
@@ -39,7 +39,7 @@ impl Model for Ready {
 }
 
 impl Ready {
-    ghost use Rattle.end_journal.specs.Frames.{IsFrameOf};
+    ghost use Rattle.msh_journal.specs.Frames.{IsFrameOf};
 
     /// What the office will reply, unless the disk fails or has failed.
     pub fn reply(&self) -> &Reply

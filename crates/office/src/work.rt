@@ -1,9 +1,9 @@
 //! What is to be done with an event: its record is put on the disk, and then the end changes.
 ghost use Rattle.std.specs.Prelude.{◌≡◌, ◌+◌, ◌≤◌, ◌^◌, List, None, is_ok, is_some, length, true};
 ghost use Rattle.as4_effects.specs.declared.effect.Effect.{Effect};
-ghost use Rattle.end_journal.specs.Frames.{IsFrameOf};
-ghost use Rattle.end_records.specs.Opens.{IsJournalOf};
-ghost use Rattle.end_records.specs.Records.{RecordLeads};
+ghost use Rattle.msh_journal.specs.Frames.{IsFrameOf};
+ghost use Rattle.msh_recovery.specs.Opens.{IsJournalOf};
+ghost use Rattle.msh_recovery.specs.Records.{RecordLeads};
 ghost use Rattle.exchange_model.specs.Apply.{applied, first_unfit};
 ghost use Rattle.exchange_model.specs.End.{End};
 ghost use Rattle.exchange_model.specs.Table.{has_room};
@@ -13,12 +13,12 @@ ghost use Rattle.msh_core.specs.Small.{CanGo, StandsFor};
 ghost use Rattle.office.specs.Recording.{IsWorkFor, PutsBehind, RecordsStep, TellsCounts};
 
 use as4_disk::{Disk, FaultCounts};
-use end_journal::add_record;
-use end_records::a_record_is_put;
 use event_code::{confirm_body, tick_body};
 use exchange_model::Reply;
 use journal::{Frame, Journal, JournalFault};
 use msh_core::{Core, Plan, SmallPlan};
+use msh_journal::add_record;
+use msh_recovery::a_record_is_put;
 
 /// A plan, with its record where it has effects; or a plan that takes no memory, whose record is filled into one that is
 /// there.

@@ -21,7 +21,7 @@ use Rattle.as4_values.specs.declared.signal.Signal.{Signal}
 use Rattle.as4_values.specs.declared.signal_body.SignalBody.{SignalBody}
 use Rattle.as4_values.specs.declared.signal_body.SignalBody.TheVariants as body
 use Rattle.as4_values.specs.SignalParts.{is_signal}
-use Rattle.end_tables.proofs.NumberLemmas.{marked_numbered}
+use Rattle.msh_state.proofs.NumberLemmas.{marked_numbered}
 use Rattle.exchange_laws.proofs.EndSteps.{by_bool, by_option}
 use Rattle.exchange_laws.proofs.PairRows.{IsAlone, IsBehind, IsRefused, IsServed, pair_cases}
 use Rattle.exchange_laws.proofs.SentLemmas.{and_right}
@@ -48,10 +48,10 @@ use Rattle.exchange_model.specs.declared.what.What.TheVariants as what
 use Rattle.fold_laws.specs.Reached.{IsReached}
 use Rattle.fold_laws.proofs.ReachedLemmas.{reached_applied, reached_resized}
 use Rattle.fold_laws.proofs.Sound.{reached_sound}
-use Rattle.machine_rows.proofs.FitLemmas.{all_stand}
-use Rattle.machine_rows.proofs.FreshLemmas.{new_fits}
-use Rattle.machine_rows.proofs.HeadLemmas.{head_fits}
-use Rattle.machine_rows.proofs.StandLemmas.{confirmation_fits, delivery_fits, tick_fits}
+use Rattle.msh_transitions.proofs.FitLemmas.{all_stand}
+use Rattle.msh_transitions.proofs.FreshLemmas.{new_fits}
+use Rattle.msh_transitions.proofs.HeadLemmas.{head_fits}
+use Rattle.msh_transitions.proofs.StandLemmas.{confirmation_fits, delivery_fits, tick_fits}
 
 -- the effects of an outcome fit, one after another
 abbrev pub Fit : End → Outcome → Type 0

@@ -1,4 +1,4 @@
-//! Tests of the public interfaces of `outbox`, `channels`, `inbox`, `end_tables` and `submissions`.
+//! Tests of the public interfaces of `outbox`, `channels`, `inbox`, `msh_state` and `submissions`.
 #![tactic(auto)]
 
 #[cfg(test)]

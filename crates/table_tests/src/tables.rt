@@ -1,9 +1,9 @@
 //! The tables of an endpoint, over effects.
 use as4_effects::{Effect, Mark, Queue, Tick};
 use as4_values::MessageId;
-use end_tables::{EndTables, Held, Totals};
 use exchange_model::Standing;
 use made_messages::{act, carried, delivery, kept, pulled, submission, text};
+use msh_state::{EndTables, Held, Totals};
 use std::alloc::Global;
 
 fn tick(tables: &mut EndTables, moment: u64) -> Option<()> {

@@ -5,9 +5,9 @@ use super::rig::new_core;
 use crate::changes::{Change, effects_of};
 use as4_effects::Effect;
 use as4_values::{NoMemory, Seq};
-use end_tables::Totals;
 use event_code::{body_len, read_body};
 use msh_core::{Core, MAX_JOURNAL, ReplayRefusal};
+use msh_state::Totals;
 use std::alloc::Global;
 
 /// The effects of a record, and the index of the first effect that doesn't fit the state before it.

@@ -1,7 +1,7 @@
 use Rattle.std.proofs.Common.{◌≡◌, [], Some, false, ap, ◌∙◌, subst, sym}
 use Rattle.as4_disk.specs.Memory.{DiskState}
 use Rattle.as4_disk.specs.MemoryMeaning.{memory_meaning}
-use Rattle.end_records.specs.Opens.{KeepsEnd}
+use Rattle.msh_recovery.specs.Opens.{KeepsEnd}
 use Rattle.office.specs.State.{OfficeState}
 use Rattle.drill.proofs.DiskLemmas.{office_stopped, replied_disk, stopped_step}
 use Rattle.drill.proofs.disks.stopped_disk.Goals as goal

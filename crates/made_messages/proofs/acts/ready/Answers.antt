@@ -1,5 +1,5 @@
 use Rattle.std.proofs.Common.{◌≡◌, true}
-use Rattle.end_tables.proofs.KeptLemmas.{fit_there}
+use Rattle.msh_state.proofs.KeptLemmas.{fit_there}
 use Rattle.exchange_model.specs.Apply.{is_fit}
 use Rattle.made_messages.proofs.acts.ready.Goals as goal
 

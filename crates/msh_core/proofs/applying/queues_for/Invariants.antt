@@ -1,5 +1,5 @@
 use Rattle.std.proofs.Common.{◌≡◌, map, take}
-use Rattle.end_tables.specs.Rooms.{queue_for}
+use Rattle.msh_state.specs.Rooms.{queue_for}
 use Rattle.msh_core.proofs.applying.queues_for.Given as goal
 
 -- those so far have their queues

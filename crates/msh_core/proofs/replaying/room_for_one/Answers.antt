@@ -1,4 +1,4 @@
-use Rattle.end_tables.proofs.KeptLemmas.{fit_there}
+use Rattle.msh_state.proofs.KeptLemmas.{fit_there}
 use Rattle.msh_core.proofs.replaying.room_for_one.Goals as goal
 
 pub reserve-requires : goal.reserve-requires

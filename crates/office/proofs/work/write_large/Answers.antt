@@ -1,5 +1,5 @@
 use Rattle.std.proofs.Common.{List, ℕ, Option, is_ok, subst}
-use Rattle.end_journal.specs.Frames.{IsFrameOf}
+use Rattle.msh_journal.specs.Frames.{IsFrameOf}
 use Rattle.exchange_model.specs.Apply.{applied}
 use Rattle.office.proofs.WritingLemmas.{frame_leads, frame_room, large_none, large_some, records_none, records_some}
 use Rattle.office.proofs.work.write_large.Goals as goal

@@ -2,13 +2,13 @@ use Rattle.std.proofs.Common.{inl, inr, ◌<◌, ◌^◌, ◌∙◌, List, None,
 use Rattle.std.proofs.lemmas.Grind.{common_steps}
 use Rattle.as4_disk.proofs.RunLemmas.{at_end}
 use Rattle.mode_values.specs.declared.mode.Mode.{Mode}
-use Rattle.end_records.specs.Opens.{OpensFolded}
+use Rattle.msh_recovery.specs.Opens.{OpensFolded}
 use Rattle.journal.specs.Faults.{IsCause}
 use Rattle.msh_core.specs.Machine.{Machine}
 use Rattle.office.specs.State.{IsInOrder}
 use Rattle.as4_disk.specs.declared.fault_counts.FaultCounts.{FaultCounts}
 use Rattle.office.specs.declared.call.Call.TheVariants.{Folded, Stop}
-use Rattle.end_journal.proofs.RunLemmas.{told_before}
+use Rattle.msh_journal.proofs.RunLemmas.{told_before}
 use Rattle.office.proofs.CallLemmas.{folded_leads, stop_leads}
 use Rattle.office.proofs.FoldLemmas.{fold_run, folded_size_is}
 use Rattle.office.proofs.HandlingLemmas.{enters, finds_worn, keeps, not_both}

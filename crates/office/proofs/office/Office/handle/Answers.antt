@@ -1,8 +1,8 @@
 use Rattle.std.proofs.Common.{◌∙◌, ◌++◌, [], ◌∷◌, List, Some, refl, sym, ap, subst, arith}
 use Rattle.as4_disk.proofs.RunLemmas.{at_end}
 use Rattle.mode_values.specs.declared.mode.Mode.{Mode}
-use Rattle.end_records.specs.Opens.{IsJournalOf}
-use Rattle.end_records.proofs.OpenLemmas.{kept_opens}
+use Rattle.msh_recovery.specs.Opens.{IsJournalOf}
+use Rattle.msh_recovery.proofs.OpenLemmas.{kept_opens}
 use Rattle.exchange_model.specs.End.{End}
 use Rattle.exchange_model.specs.declared.reply.Reply.{Reply}
 use Rattle.exchange_model.specs.declared.reply.Reply.TheVariants as reply
@@ -10,7 +10,7 @@ use Rattle.office.specs.Left.{OpensBeforeOrAfter}
 use Rattle.office.specs.Recording.{HasWork}
 use Rattle.office.specs.State.{TakesEvents, IsInOrder, OfficeState}
 use Rattle.office.specs.declared.call.Call.TheVariants.{Done, Stop}
-use Rattle.end_journal.proofs.RunLemmas.{told_before}
+use Rattle.msh_journal.proofs.RunLemmas.{told_before}
 use Rattle.office.proofs.CallLemmas.{done_leads, stop_leads}
 use Rattle.office.proofs.HandlingLemmas.{enters, keeps, not_both}
 use Rattle.office.proofs.StateLemmas.{order_goes, order_stops, step_run}

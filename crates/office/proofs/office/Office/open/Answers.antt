@@ -1,5 +1,5 @@
 use Rattle.std.proofs.Common.{◌≡◌, None, [], length, sym, ap}
-use Rattle.end_records.proofs.OpenLemmas.{kept_opens}
+use Rattle.msh_recovery.proofs.OpenLemmas.{kept_opens}
 use Rattle.office.specs.Calls.{stop_of}
 use Rattle.office.proofs.CallLemmas.{left_going}
 use Rattle.office.proofs.office.Office.open.Goals as goal

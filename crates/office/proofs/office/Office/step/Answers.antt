@@ -1,6 +1,6 @@
 use Rattle.std.proofs.Common.{◌≡◌, None, false, true, refl, sym, ap, subst}
 use Rattle.as4_disk.specs.Leaving.{LeavesOnly}
-use Rattle.end_records.specs.Opens.{KeepsEnd}
+use Rattle.msh_recovery.specs.Opens.{KeepsEnd}
 use Rattle.exchange_model.specs.declared.event.Event.{Event}
 use Rattle.office.specs.Calls.{stop_of}
 use Rattle.office.specs.Left.{OpensBeforeOrAfter}

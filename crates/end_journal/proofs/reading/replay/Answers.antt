@@ -1,7 +1,0 @@
-use Rattle.std.proofs.Common.{arith}
-use Rattle.end_journal.proofs.ReadingLemmas.{len_of_record}
-use Rattle.end_journal.proofs.reading.replay.Goals as goal
-
-pub replay-requires-clause-limited : goal.replay-requires-clause-limited
-replay-requires-clause-limited c =
-    omega (arith, c.requires.room, len_of_record c.in-Ok.effects c.args.body.now c.in-Ok.ensures.found.0)

@@ -1,5 +1,0 @@
-use Rattle.end_tables.proofs.NumberLemmas.{one_is_small}
-use Rattle.end_tables.proofs.tables.EndTables.reserve_again.Goals as goal
-
-pub reserve-requires : goal.reserve-requires
-reserve-requires c = one_is_small _ _ _ c.requires

@@ -1,4 +1,0 @@
-use Rattle.machine_rows.proofs.asking.request_with.Goals as goal
-
-pub returns-in-Ok-Ok-clause-row : goal.returns-in-Ok-Ok-clause-row
-returns-in-Ok-Ok-clause-row c = (c.in-Ok-Ok.pair, c.in-Ok-Ok.ensures', rw c.in-Ok-Ok.ensures at c.rests.ensures)

@@ -1,7 +1,0 @@
-use Rattle.std.proofs.Common.{arith}
-use Rattle.machine_rows.proofs.StandLemmas.{confirmation_fits, gives_stands}
-use Rattle.machine_rows.proofs.consuming.confirm.Goals as goal
-
-pub returns-clause-stands : goal.returns-clause-stands
-returns-clause-stands c =
-    gives_stands _ _ _ _ c.gives.ensures (confirmation_fits c.args.upto c.args.tables.now.end (omega arith) (omega arith))

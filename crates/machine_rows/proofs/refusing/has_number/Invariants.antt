@@ -1,8 +1,0 @@
-use Rattle.std.proofs.Common.{◌≡◌, false, take}
-use Rattle.std.specs.List.{list_any}
-use Rattle.machine_rows.proofs.refusing.has_number.Given as goal
-use Rattle.machine_rows.specs.Naming.{has_number}
-
--- none of the effects so far refuses it
-abbrev pub invariant-loop-effect : goal.invariant-loop-effect
-invariant-loop-effect l = list_any (has_number l.number) (take l.effect-index l.effects) ≡ false
