@@ -2,3 +2,4 @@
 pub mod Deliveries
 pub mod Holding
 pub mod Reading
+pub mod Spots
