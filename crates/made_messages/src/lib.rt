@@ -4,9 +4,7 @@
 mod acts;
 mod effects;
 mod headers;
-mod parcels;
 
-pub use acts::{act, act_at};
+pub use acts::act;
 pub use effects::{carried, delivery, kept, pulled, submission};
 pub use headers::{header, header_of, octets, text};
-pub use parcels::{all_bytes, parcel};

@@ -1,7 +1,5 @@
 pub mod FoldLemmas
 pub mod FoldSizeLemmas
-pub mod GivenLemmas
-pub mod MeasuredLemmas
 pub mod PlanLemmas
 pub mod PreparedLemmas
 pub mod RecordLemmas

@@ -1,10 +1,5 @@
 mod AddingLemmas
-mod FetchLemmas
-mod FoldingLemmas
-pub mod KeepingLemmas
-mod MoveLemmas
-mod OpenEntryLemmas
-mod OpeningLemmas
-pub mod PayloadLemmas
 mod ReadingLemmas
+mod FoldingLemmas
+mod OpeningLemmas
 pub mod RunLemmas

@@ -1,6 +1,3 @@
-pub mod Adding
-pub mod Fetching
 pub mod Frames
-pub mod Keeping
-pub mod Payloads
 pub mod Reading
+pub mod Adding

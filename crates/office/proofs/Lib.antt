@@ -5,6 +5,5 @@ pub mod WritingLemmas
 pub mod SmallLemmas
 pub mod StateLemmas
 pub mod HandlingLemmas
-pub mod PreparingLemmas
-pub mod ReadingLemmas
+pub mod StepLemmas
 pub mod DrillLemmas

@@ -19,9 +19,8 @@ mod fault;
 mod laws;
 mod office;
 mod opening;
-mod preparing;
 mod ready;
-mod step_to_make;
+mod work;
 
 pub use call::Call;
 pub use fault::OfficeFault;

@@ -1,3 +1,0 @@
--- The specs of payload_gates.
-pub mod Bodies
-pub mod Gates
