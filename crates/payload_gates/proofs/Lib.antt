@@ -1,0 +1,5 @@
+pub mod BodyLemmas
+pub mod FoldLemmas
+pub mod GateLemmas
+pub mod OpenLemmas
+pub mod RecordLemmas

@@ -1,0 +1,3 @@
+-- The specs of payload_gates.
+pub mod Bodies
+pub mod Gates
