@@ -142,7 +142,7 @@ fn requests_at_the_peers_door(rt: HostRuntime) -> Result<(), Fail> {
     Ok(())
 }
 
-// What a submission by a mode's name of so many bytes asks for.
+// What a submission asks for whose mode's name has this many bytes.
 fn named(alloc: Global, mode: usize, conversation: usize) -> Result<Vec<u8>, AllocError> {
     let mut target = Vec::from_slice(alloc, b"/submit/")?;
     target.resize(8 + mode.min(300), b'm')?;

@@ -24,7 +24,7 @@ unfoldable pub places_after_all : List Effect → ℕ → List Spot → List Spo
 places_after_all [] gate places = places
 places_after_all (effect ∷ effects) gate places = places_after_all effects gate (places_after effect gate places)
 
--- P holds of each received message and its place, but for the first ones, so many as are confirmed
+-- P holds of each received message and its place, except for the first ones, which are confirmed
 abbrev pub EachOpen : (Spot → InboxEntry → Type 0) → ℕ → List Spot → List InboxEntry → Type 0
 EachOpen P confirmed [] [] = Unit {0}
 EachOpen P zero (spot ∷ spots) (entry ∷ entries) = P spot entry × EachOpen P zero spots entries

@@ -12,7 +12,7 @@ abbrev pub payloads_of : Option Delivery → List Payload
 payloads_of None = []
 payloads_of (Some delivery) = delivery.payloads
 
--- each entry but the first ones, so many as are confirmed, with the payloads that are found at the gate of its place
+-- Each entry but the first ones, which are confirmed, has the payloads that are found at the gate of its place.
 unfoldable pub lifted : (ℕ → List Effect) → ℕ → List Spot → List InboxEntry → List InboxEntry
 lifted found n spots [] = []
 lifted found n [] (entry ∷ inbox) = entry ∷ inbox
