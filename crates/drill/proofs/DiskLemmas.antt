@@ -20,10 +20,18 @@ use Rattle.as4_effects.specs.declared.effect.Effect.{Effect}
 use Rattle.journal.specs.Calls.{record_calls}
 use Rattle.journal.specs.Leaf.{frame_of}
 use Rattle.journal.specs.Store.{is_second_of, leaf_of, picked_leaf}
-use Rattle.exchange_model.specs.Table.{Step}
+use Rattle.exchange_model.specs.Table.{Rests, RowOf, Step, read_reply}
+use Rattle.exchange_model.specs.declared.what.What.{What}
+use Rattle.exchange_model.specs.declared.what.What.TheVariants as what
+use Rattle.mode_values.specs.declared.mode.Mode.{Mode}
+use Rattle.msh_core.proofs.GivenLemmas.{read_step, rests_outcome}
 use Rattle.exchange_model.specs.declared.event.Event.{Event}
+use Rattle.office.specs.Preparing.{OnlyReads}
 use Rattle.office.specs.Recording.{IsRecorded, Writes}
 use Rattle.office.specs.State.{OfficeState}
+use Rattle.office.specs.Steps.{FailsToRead, FailsToRecord}
+use Rattle.office.specs.declared.call.Call.{Call}
+use Rattle.pass_book.specs.States.{PassState}
 
 -- the laws of these disks
 
@@ -112,32 +120,79 @@ either_way : (b : Bool) (end next : End) → next ≡ end → (if b then next el
 either_way true end next same = same
 either_way false end next same = refl
 
+-- a `Read` has no record
+read_rests : (modes : List Mode) (end : End) (event : Event) (outcome : Outcome) (n : ℕ) → event.what ≡ what.Read n → Step modes end event outcome → outcome.effects ≡ []
+read_rests modes end event outcome n asked step =
+    let row : Rests (read_reply end n) step.row = subst (λ (w : What). RowOf modes end event w step.row) asked step.decided in
+    ap (λ (o : Outcome). o.effects) (rests_outcome end (read_reply end n) step.row outcome row step.limited)
+
+-- so a step with a record has read nothing
+recorded_disk : (modes : List Mode) (old disk new : DiskState) (end : End) (event : Event) (outcome : Outcome) (ok : Bool) → Step modes end event outcome
+    → OnlyReads memory_meaning event old disk → IsRecorded memory_meaning disk new end outcome ok
+    → ((outcome.effects ≡ []) × (ok ≡ true)) ⊎ Writes memory_meaning old new end (applied outcome.effects end) ok
+recorded_disk modes old disk new end event outcome ok step only (inl rests) = inl (rests.0, rests.2)
+recorded_disk modes old disk new end event outcome ok step (inl same) (inr writes) =
+    inr (subst (λ (d : DiskState). Writes memory_meaning d new end (applied outcome.effects end) ok) same writes.1)
+recorded_disk modes old disk new end event outcome ok step (inr (n, asked, quiet)) (inr writes) =
+    absurd (writes.0 (read_rests modes end event outcome n asked step))
+
 -- a step that was replied to had nothing to write
-pub replied_disk : ReadsWhole → LeavesPicks → StoppedStands → (old new : DiskState) (end : End) (outcome : Outcome) (call : ℕ)
-    → IsRecorded memory_meaning old new end outcome true → KeepsEnd memory_meaning new (applied outcome.effects end)
+replied_disk : ReadsWhole → LeavesPicks → StoppedStands → (old new : DiskState) (end : End) (outcome : Outcome) (call : ℕ)
+    → ((outcome.effects ≡ []) × (true ≡ true)) ⊎ Writes memory_meaning old new end (applied outcome.effects end) true → KeepsEnd memory_meaning new (applied outcome.effects end)
     → old.failing ≡ [] → old.stop ≡ Some call → 1 ≤ call → call ≤ 4 → IsStoppedDisk call end outcome new
 replied_disk law leaves stopped old new end outcome call (inl rests) kept sound stops some few = λ pick.
     let same : applied outcome.effects end ≡ end = nothing_applied outcome.effects end rests.0 in
     subst (λ (e : End). IsOf e (picked pick new)) (sym (either_way (stands call pick) end (applied outcome.effects end) same))
     (kept_of law leaves new end (subst (KeepsEnd memory_meaning new) same kept) pick)
 replied_disk law leaves stopped old new end outcome call (inr writes) kept sound stops some few =
-    let never : true ≡ false = failed law stopped old new end (applied outcome.effects end) true call writes.1 sound stops some few in
+    let never : true ≡ false = failed law stopped old new end (applied outcome.effects end) true call writes sound stops some few in
     absurd cc
 
 -- a step that the disk stopped stands or doesn't
-pub stopped_step : ReadsWhole → StoppedStands → (old new : DiskState) (end : End) (outcome : Outcome) (call : ℕ)
-    → IsRecorded memory_meaning old new end outcome false → new.ran_out ≡ false
+stopped_step : ReadsWhole → StoppedStands → (old new : DiskState) (end : End) (outcome : Outcome) (call : ℕ)
+    → ((outcome.effects ≡ []) × (false ≡ true)) ⊎ Writes memory_meaning old new end (applied outcome.effects end) false → new.ran_out ≡ false
     → old.failing ≡ [] → old.stop ≡ Some call → 1 ≤ call → call ≤ 4 → IsStoppedDisk call end outcome new
-stopped_step law stopped old new end outcome call (inl rests) whole sound stops some few = absurd (cc rests.2)
+stopped_step law stopped old new end outcome call (inl rests) whole sound stops some few = absurd (cc rests.1)
 stopped_step law stopped old new end outcome call (inr writes) whole sound stops some few =
-    stands_or_not law stopped old new end (applied outcome.effects end) false call writes.1 sound stops some few whole
+    stands_or_not law stopped old new end (applied outcome.effects end) false call writes sound stops some few whole
 
--- the same of an office whose disk was to stop
-pub office_stopped : (office old : OfficeState DiskState) (new disk to_stop : DiskState) (event : Event) (outcome : Outcome) (call : ℕ)
-    → old ≡ record office { disk = to_stop } → disk ≡ new → Step old.modes old.end event outcome → IsStoppedDisk call old.end outcome new
-    → (outcome : Outcome) × Step office.modes office.end event outcome × IsStoppedDisk call office.end outcome disk
-office_stopped office old new disk to_stop event outcome call is left step stopped = (
-  outcome,
-  subst (λ (o : OfficeState DiskState). Step o.modes o.end event outcome) is step,
-  subst (IsStoppedDisk call office.end outcome) (sym left) (subst (λ (o : OfficeState DiskState). IsStoppedDisk call o.end outcome new) is stopped),
-)
+-- a message whose payloads weren't read: nothing was to be written
+unread_disk : ReadsWhole → LeavesPicks → (new : DiskState) (end : End) (outcome : Outcome) (call : ℕ) → outcome.effects ≡ [] → KeepsEnd memory_meaning new end → IsStoppedDisk call end outcome new
+unread_disk law leaves new end outcome call rests kept = λ pick.
+    subst (λ (e : End). IsOf e (picked pick new)) (sym (either_way (stands call pick) end (applied outcome.effects end) (nothing_applied outcome.effects end rests)))
+    (kept_of law leaves new end kept pick)
+
+-- an office whose disk was to stop
+abbrev pub LeavesStopped : OfficeState DiskState → Event → ℕ → DiskState → Type 0
+LeavesStopped office event call disk = (outcome : Outcome) × Step office.modes office.end event outcome × IsStoppedDisk call office.end outcome disk
+
+module _ (law : ReadsWhole) (leaves : LeavesPicks) (stopped : StoppedStands) (old new : OfficeState DiskState) (event : Event) (call : ℕ) (sound : old.disk.failing ≡ []) (stops : old.disk.stop ≡ Some call) (some : 1 ≤ call) (few : call ≤ 4) where
+  pub replied_event : (outcome : Outcome) (disk : DiskState) → Step old.modes old.end event outcome → OnlyReads memory_meaning event old.disk disk
+      → IsRecorded memory_meaning disk new.disk old.end outcome true → KeepsEnd memory_meaning new.disk (applied outcome.effects old.end) → LeavesStopped old event call new.disk
+  replied_event outcome disk step only recorded kept = (
+    outcome,
+    step,
+    replied_disk law leaves stopped old.disk new.disk old.end outcome call (recorded_disk old.modes old.disk disk new.disk old.end event outcome true step only recorded) kept sound stops some few,
+  )
+
+  pub stopped_event : (pass_old pass_new : PassState Call) → new.disk.ran_out ≡ false → new.end ≡ old.end
+      → FailsToRecord memory_meaning old new pass_old pass_new event ⊎ FailsToRead memory_meaning old new pass_old pass_new event → LeavesStopped old event call new.disk
+  stopped_event pass_old pass_new whole same (inl is) = (
+    is.outcome,
+    is.step,
+    stopped_step law stopped old.disk new.disk old.end is.outcome call
+        (recorded_disk old.modes old.disk is.recorded.0 new.disk old.end event is.outcome false is.step is.recorded.1 is.recorded.2) whole sound stops some few,
+  )
+  stopped_event pass_old pass_new whole same (inr is) =
+      let outcome : Outcome = record { effects = []; reply = read_reply old.end is.number } in (
+        outcome,
+        read_step old.modes old.end event outcome is.number is.asked refl,
+        unread_disk law leaves new.disk old.end outcome call refl (subst (λ (e : End). KeepsEnd memory_meaning new.disk e) same is.safe),
+      )
+
+-- the same of the office before it was to stop
+pub office_stopped : (office old : OfficeState DiskState) (new disk to_stop : DiskState) (event : Event) (call : ℕ)
+    → old ≡ record office { disk = to_stop } → disk ≡ new → LeavesStopped old event call new → LeavesStopped office event call disk
+office_stopped office old new disk to_stop event call is left leaves =
+    subst (λ (d : DiskState). LeavesStopped office event call d) (sym left)
+    (subst (λ (o : OfficeState DiskState). LeavesStopped o event call new) is leaves)

@@ -19,8 +19,9 @@ use Rattle.exchange_model.specs.declared.event.Event.{Event}
 use Rattle.exchange_model.specs.declared.outcome.Outcome.{Outcome}
 use Rattle.exchange_model.specs.declared.reply.Reply.{Reply}
 use Rattle.exchange_model.specs.declared.what.What.TheVariants as what
-use Rattle.office.specs.Folds.{IsShortEnough, Shortens}
-use Rattle.office.specs.State.{IsPreparedFor, OfficeState, Prepared}
+use Rattle.as4_disk.specs.MemoryMeaning.{memory_meaning}
+use Rattle.office.specs.Folds.{FindsNoPayloads, IsShortEnough, Shortens}
+use Rattle.office.specs.State.{OfficeState}
 use Rattle.office.specs.declared.call.Call.{Call}
 use Rattle.pass_book.specs.States.{PassState}
 
@@ -49,38 +50,21 @@ sent_if now None said k is here = tt
 sent_if now (Some m) said k is here = (k, ltb-true k (length said) (sym is), sym here)
 
 -- what a checkpoint of an office does to who speaks through it
-pub checkpoint_folds : {D : Type 0} (old new : OfficeState D) (pass_old pass_new : PassState Call) (size : ℕ) (said : List Message)
-    → Shortens old new pass_old pass_new size ⊎ IsShortEnough old new pass_old pass_new size
+pub checkpoint_folds : (old new : OfficeState DiskState) (pass_old pass_new : PassState Call) (size : ℕ) (said : List Message)
+    → Shortens old new pass_old pass_new size ⊎ (IsShortEnough old new pass_old pass_new size ⊎ FindsNoPayloads old new pass_old pass_new memory_meaning size)
     → (let before : Speaker = record { end = old.end; said = said } in
     let after : Speaker = record { end = new.end; said = said } in
     MatchFold old.end (λ s. after ≡ folded s before) (after ≡ before))
 checkpoint_folds old new pass_old pass_new size said (inl short) =
     inl (size, short.folded, short.shorter, ap (λ (e : End). let s : Speaker = record { end = e; said = said } in s) short.end)
-checkpoint_folds {D} old new pass_old pass_new size said (inr enough) =
+checkpoint_folds old new pass_old pass_new size said (inr (inr none)) = absurd (seen_none none.unseen)
+  where
+    seen_none : memory_meaning.seen old.disk ≡ None → ⊥
+    seen_none is = cc
+checkpoint_folds old new pass_old pass_new size said (inr (inl enough)) =
     inr (
       (λ other is. subst (λ (n : ℕ). n ≤ other) enough.present (enough.least other is)),
-      ap (λ (o : OfficeState D). let s : Speaker = record { end = o.end; said = said } in s) enough.same,
-    )
-
--- the laws of one event
-
-abbrev pub HasOneOutcome : Type 0
-HasOneOutcome = (modes : List Mode) (end : End) (event : Event) (a b : Outcome) → Step modes end event a → Step modes end event b → a ≡ b
-
--- what an office enacts is what it had prepared
-pub enacted : HasOneOutcome → (old mid new : OfficeState DiskState) (ready : Prepared) (event : Event) (reply : Reply) (outcome : Outcome)
-    → mid ≡ record old { rooms = mid.rooms } → ready.event ≡ event → IsPreparedFor mid ready
-    → Step mid.modes mid.end ready.event outcome → reply ≡ outcome.reply → new.end ≡ applied outcome.effects mid.end
-    → Step old.modes old.end event ready.plan.outcome × (reply ≡ ready.plan.outcome.reply) × (new.end ≡ applied ready.plan.outcome.effects old.end)
-enacted law old mid new ready event reply outcome rooms same prepared step replied ends =
-    let planned : Outcome = ready.plan.outcome in
-    let one : outcome ≡ planned = law mid.modes mid.end ready.event outcome planned step prepared.step in
-    let modes : mid.modes ≡ old.modes = ap (λ (o : OfficeState DiskState). o.modes) rooms in
-    let end : mid.end ≡ old.end = ap (λ (o : OfficeState DiskState). o.end) rooms in (
-      subst (λ (m : List Mode). Step m old.end event planned) modes
-          (subst (λ (e : End). Step mid.modes e event planned) end (subst (λ (v : Event). Step mid.modes mid.end v planned) same prepared.step)),
-      replied ∙ ap (λ (o : Outcome). o.reply) one,
-      ends ∙ ap (λ (o : Outcome). applied o.effects mid.end) one ∙ ap (λ (e : End). applied planned.effects e) end,
+      ap (λ (o : OfficeState DiskState). let s : Speaker = record { end = o.end; said = said } in s) enough.same,
     )
 
 -- an end that is opened on an image, with these packages and modes

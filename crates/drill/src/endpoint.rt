@@ -21,7 +21,6 @@ use drill_texts::{end_line, reply_line};
 use exchange_laws::what_is_sent_may_come;
 use exchange_model::{Event, Reply};
 use office::{Call, Office};
-use outcome_laws::an_event_has_one_outcome;
 use pass_book::Pass;
 use pmodes::Modes;
 use std::alloc::Global;
@@ -80,7 +79,6 @@ impl Endpoint {
         ensures modes { self.new.modes ≡ self.old.modes }
     {
         what_is_sent_may_come();
-        an_event_has_one_outcome();
         let Ok(()) = self.said.reserve(1) else {
             drop(event);
             return Err(NoMemory);

@@ -1,5 +1,5 @@
 -- Whether an identifier is held, after a change of the map at one key.
-use Rattle.std.proofs.Common.{zero, suc, [], ◌∷◌, ◌++◌, ◌≡◌, ℕ, ◌||◌, List, Bool, true, false, cond, is_some, Option, Some, None, refl, sym, ap, ◌∙◌}
+use Rattle.std.proofs.Common.{zero, suc, [], ◌∷◌, ◌++◌, ◌≡◌, ℕ, ◌||◌, List, map, Bool, true, false, cond, is_some, Option, Some, None, refl, sym, ap, ◌∙◌}
 use Rattle.std.specs.Prelude.{IsSome}
 use Rattle.std.specs.BTreeMap.{BTreeMap, get, Updates}
 use Rattle.std.proofs.lemmas.Bool.{true≢false}
@@ -12,7 +12,10 @@ use Rattle.exchange_model.specs.Apply.{emptied}
 use Rattle.exchange_model.specs.Questions.{is_known}
 use Rattle.exchange_model.specs.declared.inbox_entry.InboxEntry.{InboxEntry}
 use Rattle.std.proofs.lemmas.List.Folds.{list_any-append}
+use Rattle.std.proofs.lemmas.List.{map-append}
 use Rattle.inbox.specs.Holding.{AreOf, HasPlace, has_come, is_held}
+use Rattle.inbox.specs.Entries.{entry_of}
+use Rattle.inbox.specs.declared.entry.Entry.{Entry}
 use Rattle.inbox.specs.declared.identifiers.Identifiers.{Identifiers}
 use Rattle.inbox.specs.declared.identifiers.Hold.{Hold}
 use Rattle.inbox.specs.declared.identifiers.Hold.TheVariants as hold
@@ -62,14 +65,16 @@ unfolding is_known
 none_held ids none place = record { held = none; place = place }
 
 -- one more message
-pub held_push : (old new : Identifiers) (entries : List InboxEntry) (entry : InboxEntry) → AreOf old entries
-    → ((id : List ℕ) → is_held id new ≡ (is_held id old || bytes_eq entry.header.id id)) → HasPlace new → AreOf new (entries ++ entry ∷ [])
+pub held_push : (old new : Identifiers) (entries : List Entry) (entry : Entry) → AreOf old (map entry_of entries)
+    → ((id : List ℕ) → is_held id new ≡ (is_held id old || bytes_eq entry.header.id id)) → HasPlace new
+    → AreOf new (map entry_of (entries ++ entry ∷ []))
 unfolding is_known
 held_push old new entries entry are more place = record {
   held = λ id. more id
       ∙ (ap (λ held. held || bytes_eq entry.header.id id) (are.held id)
-      ∙ sym (list_any-append (λ (e : InboxEntry). bytes_eq e.header.id id) entries (entry ∷ [])
-      ∙ ap (λ last. is_known id entries || last) (or_false (bytes_eq entry.header.id id))));
+      ∙ (sym (list_any-append (λ (e : InboxEntry). bytes_eq e.header.id id) (map entry_of entries) (entry_of entry ∷ [])
+      ∙ ap (λ last. is_known id (map entry_of entries) || last) (or_false (bytes_eq entry.header.id id)))
+      ∙ ap (is_known id) (sym (map-append entry_of entries (entry ∷ [])))));
   place = place;
 }
 
@@ -80,8 +85,10 @@ known_emptied id zero entries = refl
 known_emptied id (suc count) [] = refl
 known_emptied id (suc count) (entry ∷ entries) = ap (λ rest. bytes_eq entry.header.id id || rest) (known_emptied id count entries)
 
-pub held_emptied : (ids : Identifiers) (count : ℕ) (entries : List InboxEntry) → AreOf ids entries → AreOf ids (emptied count entries)
-held_emptied ids count entries are = record { held = λ id. are.held id ∙ sym (known_emptied id count entries); place = are.place }
+-- the map answers of the entries as they are seen
+pub held_seen : (id : List ℕ) (ids : Identifiers) (count : ℕ) (entries : List Entry) → AreOf ids (map entry_of entries)
+    → is_held id ids ≡ is_known id (emptied count (map entry_of entries))
+held_seen id ids count entries are = are.held id ∙ sym (known_emptied id count (map entry_of entries))
 
 -- no room contradicts some room
 pub no_room : (room : Option (List ℕ)) → room ≡ None → IsSome room → ⊥

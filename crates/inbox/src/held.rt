@@ -1,6 +1,6 @@
 //! The result of reading an inbox.
 
-use as4_values::{Payload, Seq, UserHeader};
+use as4_values::UserHeader;
 
 /// What an inbox has for a number.
 #[derive(Drop)]
@@ -8,7 +8,10 @@ pub enum Held<'a> {
     /// The message that was received with this number.
     Entry {
         header: &'a UserHeader,
-        payloads: &'a Seq<Payload>,
+        /// The gate of the journal's record that has its payloads.
+        gate: u64,
+        /// The length of a record's body that delivers this message alone.
+        length: u64,
     },
     /// It was confirmed.
     Gone,

@@ -1,6 +1,7 @@
 //! The received messages, each identifier once and for good.
 #![tactic(auto)]
 
+mod entry;
 mod held;
 mod identifiers;
 mod inbox;

@@ -2,7 +2,9 @@
 mod arrivals;
 mod filling;
 mod folded;
+mod gates;
 mod many;
+mod records;
 mod replayed;
 mod rig;
 mod said;
@@ -26,6 +28,7 @@ const A_REPEAT: Steps = &[
     (End::B, Step::Hear, Said::Receipt),
     (End::B, Step::Inbox, Said::Count(1)),
     (End::B, Step::Read(0), Said::Entry(5)),
+    (End::B, Step::ReadBare(0), Said::Entry(0)),
     (End::B, Step::Read(1), Said::NoEntry),
     (End::A, Step::Size, Said::Count(384)),
     (End::B, Step::Size, Said::Count(306)),

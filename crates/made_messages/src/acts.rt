@@ -6,11 +6,16 @@ ghost use Rattle.exchange_model.specs.Apply.{is_fit};
 use as4_effects::{Effect, Queue};
 use msh_state::EndTables;
 
-/// Applies the effect to the tables, if it fits and there is memory.
+/// Applies the effect to the tables, if it fits and there is memory. Its record is the first of a journal.
 pub fn act(tables: &mut EndTables, effect: Effect) -> Option<()> {
+    act_at(tables, effect, 8)
+}
+
+/// Applies an effect of the record at this gate to the tables, if it fits and there is memory.
+pub fn act_at(tables: &mut EndTables, effect: Effect, gate: u64) -> Option<()> {
     match ready(tables, &effect) {
         Some(queue) => {
-            tables.apply(effect, &queue);
+            tables.apply(effect, &queue, gate);
             drop(queue);
             Some(())
         }

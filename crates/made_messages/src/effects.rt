@@ -101,12 +101,15 @@ fn is_submission(
 
 /// The message of the first submission, without payloads, as received.
 pub fn delivery(alloc: Global) -> Option<Delivery> {
-    delivery_of(alloc, header_of(alloc, 0)?)
+    delivery_of(alloc, header_of(alloc, 0)?, Seq::of(Vec::new(alloc)))
 }
 
-// The delivery of a message with this header and without payloads, if they form one.
-fn delivery_of(alloc: Global, header: UserHeader) -> Option<Delivery> {
-    let payloads = Seq::of(Vec::new(alloc));
+// The delivery of a message with this header and these payloads, if they form one.
+pub(crate) fn delivery_of(
+    alloc: Global,
+    header: UserHeader,
+    payloads: Seq<Payload>,
+) -> Option<Delivery> {
     match is_delivery(alloc, &header, &payloads) {
         Some(true) => Some(Delivery { header, payloads }),
         _ => {

@@ -1,8 +1,8 @@
 //! Bytes, texts and headers of messages.
-ghost use Rattle.std.specs.Prelude.{◌≡◌, IfSome};
+ghost use Rattle.std.specs.Prelude.{◌≡◌, ◌≤◌, IfSome, length};
 
 use as4_values::{
-    MessageId, Octets, Party, Seq, Service, Side, StampText, Text, UserHeader, read_stamp,
+    MessageId, Octets, PartInfo, Party, Seq, Service, Side, StampText, Text, UserHeader, read_stamp,
 };
 use std::alloc::Global;
 
@@ -55,6 +55,13 @@ fn stamp(alloc: Global) -> Option<StampText> {
 
 /// The header of a message with this identifier, from `a` to `b`, without parts.
 pub fn header(alloc: Global, id: MessageId) -> Option<UserHeader> {
+    header_with(alloc, id, Seq::of(Vec::new(alloc)))
+}
+
+// The same, with these part infos.
+pub(crate) fn header_with(alloc: Global, id: MessageId, parts: Seq<PartInfo>) -> Option<UserHeader>
+    requires { length parts ≤ 1 }
+{
     match (stamp(alloc), service(alloc), sides(alloc)) {
         (Some(stamp), Some((service, action)), Some((from, to))) => Some(UserHeader {
             mpc: None,
@@ -68,13 +75,14 @@ pub fn header(alloc: Global, id: MessageId) -> Option<UserHeader> {
             action,
             conversation: None,
             properties: Seq::of(Vec::new(alloc)),
-            parts: Seq::of(Vec::new(alloc)),
+            parts,
         }),
         (stamp, service, sides) => {
             drop(stamp);
             drop(service);
             drop(sides);
             drop(id);
+            drop(parts);
             None
         }
     }

@@ -4,7 +4,9 @@
 mod acts;
 mod effects;
 mod headers;
+mod parcels;
 
-pub use acts::act;
+pub use acts::{act, act_at};
 pub use effects::{carried, delivery, kept, pulled, submission};
 pub use headers::{header, header_of, octets, text};
+pub use parcels::{all_bytes, parcel};

@@ -4,10 +4,8 @@ use Rattle.std.specs.List.{Contains, slice_get}
 use Rattle.std.proofs.lemmas.Option.{get_or_from_slice_get, same_Some, slice_get_within}
 use Rattle.std.proofs.lemmas.List.{length-append, length-drop, length-take}
 use Rattle.as4_values.specs.declared.header.UserHeader.{UserHeader}
-use Rattle.as4_values.specs.declared.payload.Payload.{Payload}
 use Rattle.as4_values.specs.declared.moment.TheConstants.{MAX_MOMENT}
-use Rattle.as4_values.specs.Pairing.{pair}
-use Rattle.as4_effects.specs.Sound.{delivered_body, fits_an_effect, kept_body}
+use Rattle.as4_effects.specs.Sound.{fits_an_effect, kept_body}
 use Rattle.as4_effects.specs.declared.effect.Effect.{Effect}
 use Rattle.as4_effects.specs.declared.effect.Effect.TheVariants as effect
 use Rattle.as4_effects.specs.declared.effect.Tick.{Tick}
@@ -20,7 +18,14 @@ use Rattle.exchange_model.proofs.NumberedLemmas.{place}
 use Rattle.fold_laws.specs.Reached.{IsReached}
 use Rattle.fold_laws.specs.Written.{CanBeWritten}
 use Rattle.fold_laws.proofs.SomeFold.{reached_written, some_fold}
-use Rattle.msh_core.specs.Folding.{OneFor}
+use Rattle.inbox.specs.Spots.{Spot}
+use Rattle.msh_state.specs.Places.{IsMeasured}
+use Rattle.msh_state.specs.Rooms.{Rooms}
+use Rattle.msh_core.proofs.MeasuredLemmas.{each_at}
+use Rattle.msh_core.specs.Folding.{IsNotOpen, IsOpenAt, IsOpenEntry, IsShown, OneFor}
+use Rattle.msh_core.specs.Machine.{IsConsistent}
+use Rattle.msh_core.specs.declared.folding.Folding.{Folding}
+use Rattle.msh_core.specs.declared.folding.Folding.TheVariants as folding
 
 -- there are as many effects as items
 pub length_each : {X Y : Type 0} (is : X → Y → Type 0) (xs : List X) (ys : List Y) → ItemByItem is xs ys → length xs ≡ length ys
@@ -128,41 +133,39 @@ found_kept end part at found reached is within came one =
           ∙ slice_get_right h.carried put.0 at),
     )
 
-pub found_delivered : (end : End) (part at : ℕ) (found : Option Effect) → IsReached end → part ≡ length end.sent + at → end.confirmed ≤ at
-    → at < length end.inbox → OneFor DeliversAgain (slice_get end.inbox at) found → IsFoundAt end part found
-found_delivered end part at found reached is behind within one =
-    let fold = some_fold end (reached_written end reached) in
-    let h = fold.1 in
+-- the effect of an item
+each_place : {X Y : Type 0} (is : X → Y → Type 0) (xs : List X) (ys : List Y) (n : ℕ) (x : X) → ItemByItem is xs ys → slice_get xs n ≡ Some x
+    → (y : Y) × (slice_get ys n ≡ Some y) × is x y
+each_place is [] ys n x each there = absurd cc
+each_place is (z ∷ xs) [] n x each there = absurd each
+each_place is (z ∷ xs) (y ∷ ys) zero x each there = (y, refl, subst (λ w. is w y) (same_Some z x there) each.0)
+each_place is (z ∷ xs) (y ∷ ys) (suc n) x each there = each_place is xs ys n x each.1 there
+
+-- an open entry is delivered again at its place
+delivered_at : (end : End) (part at : ℕ) (entry : InboxEntry) (effects : List Effect) → IsFolded end effects → part ≡ length end.sent + at
+    → end.confirmed ≤ at → slice_get end.inbox at ≡ Some entry → (e : Effect) × (slice_get effects part ≡ Some e) × DeliversAgain entry e
+delivered_at end part at entry effects h is waits there =
     let taken : List InboxEntry = take end.confirmed end.inbox in
     let left : List InboxEntry = drop end.confirmed end.inbox in
+    let within : at < length end.inbox = slice_get_within end.inbox at entry there in
     let count : length taken ≡ min end.confirmed (length end.inbox) = length-take end.confirmed end.inbox in
-    let fewer : length left ≡ length end.inbox - end.confirmed = length-drop end.confirmed end.inbox in
-    let there : slice_get left (at - end.confirmed) ≡ slice_get end.inbox at =
+    let first : slice_get left (at - end.confirmed) ≡ Some entry =
     slice_get_dropped end.inbox end.confirmed (at - end.confirmed)
-    ∙ ap (slice_get end.inbox) (let e : end.confirmed + (at - end.confirmed) ≡ at = omega (arith, behind) in e) in
-    let put = with_at DeliversAgain left h.delivered (at - end.confirmed) found h.waiting (subst (λ o. OneFor DeliversAgain o found) (sym there) one) in
+    ∙ ap (slice_get end.inbox) (let e : end.confirmed + (at - end.confirmed) ≡ at = omega (arith, waits) in e) ∙ there in
+    let found = each_place DeliversAgain left h.delivered (at - end.confirmed) entry h.waiting first in
     let long : length end.sent ≡ length h.carried = length_each CarriesOver end.sent h.carried h.submissions in
     let some : length taken ≡ length h.kept = length_each KeepsHeader taken h.kept h.taken_over in
-    let more : length left ≡ length put.0 = length_each DeliversAgain left put.0 put.1 in
     let ab : length (h.carried ++ h.kept) ≡ length h.carried + length h.kept = length-append h.carried h.kept in
-    let abc : length (h.carried ++ h.kept ++ put.0) ≡ length (h.carried ++ h.kept) + length put.0 = length-append (h.carried ++ h.kept) put.0 in
-    let at_end : part ≡ length (h.carried ++ h.kept) + (at - end.confirmed) = omega (arith, is, behind, within, long, some, count, ab) in (
-      h.carried ++ h.kept ++ put.0 ++ h.clock,
-      record {
-        carried = h.carried;
-        kept = h.kept;
-        delivered = put.0;
-        clock = h.clock;
-        submissions = h.submissions;
-        taken_over = h.taken_over;
-        waiting = put.1;
-        set = h.set;
-        is = refl;
-      },
-      put.2
-          ∙ sym (slice_get_left (h.carried ++ h.kept ++ put.0) h.clock part (omega (arith, at_end, behind, within, more, fewer, ab, abc))
-          ∙ ap (slice_get (h.carried ++ h.kept ++ put.0)) at_end
-          ∙ slice_get_right (h.carried ++ h.kept) put.0 (at - end.confirmed)),
+    let abc : length (h.carried ++ h.kept ++ h.delivered) ≡ length (h.carried ++ h.kept) + length h.delivered = length-append (h.carried ++ h.kept) h.delivered in
+    let at_end : part ≡ length (h.carried ++ h.kept) + (at - end.confirmed) = omega (arith, is, waits, within, long, some, count, ab) in
+    let past : at - end.confirmed < length h.delivered = slice_get_within h.delivered (at - end.confirmed) found.0 found.1 in (
+      found.0,
+      ap (λ (l : List Effect). slice_get l part) h.is
+          ∙ slice_get_left (h.carried ++ h.kept ++ h.delivered) h.clock part (omega (arith, at_end, past, abc))
+          ∙ ap (slice_get (h.carried ++ h.kept ++ h.delivered)) at_end
+          ∙ slice_get_right (h.carried ++ h.kept) h.delivered (at - end.confirmed)
+          ∙ found.1,
+      found.2,
     )
 
 pub found_clock : (end : End) (part at : ℕ) (found : Option Effect) → IsReached end → part ≡ length end.sent + (length end.inbox + at)
@@ -229,15 +232,51 @@ kept_fits end at header copy can within is same = by_entry (slice_get end.inbox 
         subst (λ (h : UserHeader). fits_an_effect (kept_body h) ≡ true) one
         (can.kept entry (found_contained (take end.confirmed end.inbox) at entry (slice_get_taken end.inbox end.confirmed at within ∙ there)))
 
--- a waiting entry can be delivered again
-pub delivered_fits : (end : End) (at : ℕ) (header copy : UserHeader) (payloads copies : List Payload) → CanBeWritten end → end.confirmed ≤ at
-    → slice_get end.inbox at ≡ Some (record { header = header; payloads = payloads }) → copy ≡ header → copies ≡ payloads
-    → (pair copy.parts copies ≡ true) × (fits_an_effect (delivered_body copy copies) ≡ true)
-delivered_fits end at header copy payloads copies can behind is same_header same_payloads =
-    let entry : InboxEntry = record { header = header; payloads = payloads } in
-    let there : slice_get (drop end.confirmed end.inbox) (at - end.confirmed) ≡ Some entry =
-    slice_get_dropped end.inbox end.confirmed (at - end.confirmed)
-    ∙ ap (slice_get end.inbox) (let e : end.confirmed + (at - end.confirmed) ≡ at = omega (arith, behind) in e) ∙ is in
-    let held = can.delivered entry (found_contained (drop end.confirmed end.inbox) (at - end.confirmed) entry there) in
-    subst (λ (h : UserHeader). (pair h.parts copies ≡ true) × (fits_an_effect (delivered_body h copies) ≡ true)) (sym same_header)
-    (subst (λ (p : List Payload). (pair header.parts p ≡ true) × (fits_an_effect (delivered_body header p) ≡ true)) (sym same_payloads) held)
+-- shown at a place of the endpoint's compaction
+abbrev pub IsShownAt : End → List Spot → ℕ → Option Folding → Type 0
+IsShownAt end places part found = (effects : List Effect) × IsFolded end effects × IsShown end places part (slice_get effects part) found
+
+-- a known effect is shown as it is
+known_shown : (end : End) (places : List Spot) (part : ℕ) (found : Option Effect) → IsNotOpen end part
+    → IsShown end places part found (option_map folding.Known found)
+known_shown end places part None closed = tt
+known_shown end places part (Some e) closed = (refl, closed)
+
+pub shown_known : (end : End) (places : List Spot) (part : ℕ) (found : Option Effect) → IsNotOpen end part → IsFoundAt end part found
+    → IsShownAt end places part (option_map folding.Known found)
+shown_known end places part found closed is =
+    (is.0, is.1, subst (λ o. IsShown end places part o (option_map folding.Known found)) is.2 (known_shown end places part found closed))
+
+-- an open entry is shown by its place
+shown_entry : (end : End) (places : List Spot) (part at : ℕ) (id : List ℕ) (gate len : ℕ) (entry : InboxEntry) → IsConsistent end places
+    → part ≡ length end.sent + at → end.confirmed ≤ at → slice_get end.inbox at ≡ Some entry → id ≡ entry.header.id
+    → slice_get places at ≡ Some (record { gate = gate; length = len }) → IsShownAt end places part (Some (folding.Open id gate len))
+shown_entry end places part at id gate len entry consistent is waits there named place =
+    let fold = some_fold end (reached_written end consistent.reached) in
+    let found = delivered_at end part at entry fold.0 fold.1 is waits there in
+    let shown : IsOpenAt end places part found.0 id gate len = record {
+      n = at;
+      entry = entry;
+      at = is;
+      waits = waits;
+      there = there;
+      place = place;
+      again = found.2;
+      named = named;
+      measured = each_at IsMeasured end.confirmed places end.inbox at (record { gate = gate; length = len }) entry consistent.measured waits place there;
+    } in
+    (fold.0, fold.1, subst (λ o. IsShown end places part o (Some (folding.Open id gate len))) (sym found.1) shown)
+
+pub shown_open : (end : End) (places : List Spot) (rooms : Rooms) (part at : ℕ) (found : Option Folding) → IsConsistent end places
+    → part ≡ length end.sent + at → end.confirmed ≤ at → IsOpenEntry (record { end = end; places = places; rooms = rooms }) at found
+    → IsShownAt end places part found
+shown_open end places rooms part at None consistent is waits entry = absurd entry
+shown_open end places rooms part at (Some (folding.Known e)) consistent is waits entry = absurd entry
+shown_open end places rooms part at (Some (folding.Open id gate len)) consistent is waits entry =
+    by_entry (slice_get end.inbox at) refl entry.0
+  where
+    by_entry : (o : Option InboxEntry) → slice_get end.inbox at ≡ o → option_map (λ (entry : InboxEntry). entry.header.id) o ≡ Some id
+        → IsShownAt end places part (Some (folding.Open id gate len))
+    by_entry None there e = absurd cc
+    by_entry (Some found) there e =
+        shown_entry end places part at id gate len found consistent is waits there (sym (same_Some found.header.id id e)) entry.1

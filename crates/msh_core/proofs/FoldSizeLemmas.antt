@@ -5,8 +5,7 @@ use Rattle.std.proofs.lemmas.List.{length-append}
 use Rattle.std.proofs.lemmas.Option.{same_Some}
 use Rattle.std.proofs.lemmas.List.Sums.{sum_by-append, sum_by-cons}
 use Rattle.as4_values.specs.declared.header.UserHeader.{UserHeader}
-use Rattle.as4_values.specs.declared.payload.Payload.{Payload}
-use Rattle.as4_effects.specs.Bodies.{header_body, list_body, payload_body}
+use Rattle.as4_effects.specs.Bodies.{header_body}
 use Rattle.as4_effects.specs.Effects.{effect_body, effects_body, submission_body}
 use Rattle.as4_effects.specs.Lengths.{grown}
 use Rattle.as4_effects.specs.Marks.{mark_body}
@@ -29,7 +28,10 @@ use Rattle.fold_laws.specs.Reached.{IsReached}
 use Rattle.fold_laws.proofs.OneFold.{one_fold}
 use Rattle.fold_laws.proofs.Replays.{bytes_of}
 use Rattle.fold_laws.proofs.SomeFold.{reached_written, some_fold}
+use Rattle.inbox.specs.Spots.{Spot}
+use Rattle.msh_state.specs.Places.{EachOpen, IsMeasured, delivery_len}
 use Rattle.msh_core.proofs.FoldLemmas.{slice_get_dropped}
+use Rattle.msh_core.proofs.MeasuredLemmas.{each_at}
 use Rattle.msh_core.specs.Folding.{capped, carried_len, clock_len, delivered_len, kept_len, len_at}
 
 -- a sum over the first `n` items and one more
@@ -159,20 +161,23 @@ kept_sum sum first next result header (Some entry) is a b c =
     let one : length (header_body header) ≡ length (header_body entry.header) =
     ap (λ h. length (header_body h)) (same_Some header entry.header is) in omega (arith, one, a, b, c)
 
-pub delivered_sum : (sum first mid next result : ℕ) (header : UserHeader) (payloads : List Payload) (o : Option InboxEntry)
-    → o ≡ Some (record { header = header; payloads = payloads }) → first ≡ min (sum + 1) (2 ^ 64 - 1)
-    → mid ≡ grown first (header_body header) → next ≡ grown mid (list_body payload_body payloads) → result ≡ min (next + 11) (2 ^ 64 - 1)
-    → result ≡ capped (sum + len_at delivered_len o)
-unfolding delivered_len grown
-delivered_sum sum first mid next result header payloads None is a b c d = absurd cc
-delivered_sum sum first mid next result header payloads (Some entry) is a b c d =
-    let one : length (header_body entry.header) ≡ length (header_body header) =
-    ap (λ (e : InboxEntry). length (header_body e.header)) (same_Some entry (record { header = header; payloads = payloads }) is) in
-    let two : length (list_body payload_body entry.payloads) ≡ length (list_body payload_body payloads) =
-    ap (λ (e : InboxEntry). length (list_body payload_body e.payloads)) (same_Some entry (record { header = header; payloads = payloads }) is) in
-    let both : length (header_body entry.header ++ list_body payload_body entry.payloads)
-    ≡ length (header_body entry.header) + length (list_body payload_body entry.payloads) =
-    length-append (header_body entry.header) (list_body payload_body entry.payloads) in omega (arith, one, two, both, a, b, c, d)
+measured_len : (entry : InboxEntry) (len : ℕ) → len ≡ delivery_len entry.header entry.payloads → len + 9 ≡ delivered_len entry
+unfolding delivered_len delivery_len
+measured_len entry len e = omega (arith, e)
+
+pub delivered_sum : (sum first result : ℕ) (header : UserHeader) (gate len : ℕ) (confirmed : ℕ) (places : List Spot) (inbox : List InboxEntry) (n : ℕ)
+    → EachOpen IsMeasured confirmed places inbox → confirmed ≤ n → option_map (λ (entry : InboxEntry). entry.header) (slice_get inbox n) ≡ Some header
+    → slice_get places n ≡ Some (record { gate = gate; length = len }) → first ≡ min (sum + len) (2 ^ 64 - 1) → result ≡ min (first + 9) (2 ^ 64 - 1)
+    → result ≡ capped (sum + len_at delivered_len (slice_get inbox n))
+delivered_sum sum first result header gate len confirmed places inbox n each waits is place a b = by_entry (slice_get inbox n) refl is
+  where
+    by_entry : (o : Option InboxEntry) → slice_get inbox n ≡ o → option_map (λ (entry : InboxEntry). entry.header) o ≡ Some header
+        → result ≡ capped (sum + len_at delivered_len o)
+    by_entry None there e = absurd cc
+    by_entry (Some entry) there e =
+        let one : len + 9 ≡ delivered_len entry =
+        measured_len entry len (each_at IsMeasured confirmed places inbox n (record { gate = gate; length = len }) entry each waits place there) in
+        omega (arith, one, a, b)
 
 -- a submission by its number
 pub next_sent : (sent : List Sent) (number start total next : ℕ) → AreNumberedFrom 0 sent → total ≡ capped (start + sum_by carried_len (take number sent))

@@ -1,5 +1,7 @@
 pub mod FoldLemmas
 pub mod FoldSizeLemmas
+pub mod GivenLemmas
+pub mod MeasuredLemmas
 pub mod PlanLemmas
 pub mod PreparedLemmas
 pub mod RecordLemmas

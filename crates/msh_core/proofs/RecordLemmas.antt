@@ -1,5 +1,5 @@
 -- The journal grows by the record of the effects; without effects there is no record.
-use Rattle.std.proofs.Common.{◌≡◌, ◌+◌, ◌≤◌, List, [], ◌∷◌, Bool, true, false, ◌==◌, length, refl, ap, ◌∙◌, arith}
+use Rattle.std.proofs.Common.{◌≡◌, ℕ, ◌+◌, ◌≤◌, List, [], ◌∷◌, Bool, true, false, ◌==◌, length, refl, ap, ◌∙◌, arith}
 use Rattle.std.specs.Prelude.{◌||◌}
 use Rattle.std.proofs.lemmas.Bool.{eqb-true, leb-true, ne_eqb}
 use Rattle.as4_effects.specs.declared.effect.Effect.{Effect}
@@ -7,6 +7,8 @@ use Rattle.as4_effects.specs.declared.effect.Effect.TheVariants as effect
 use Rattle.exchange_model.specs.Apply.{after, after_all, applied, record_len}
 use Rattle.exchange_model.specs.End.{End}
 use Rattle.exchange_model.specs.Table.{has_room}
+use Rattle.inbox.specs.Spots.{Spot}
+use Rattle.msh_state.specs.Places.{places_after_all}
 
 -- an effect doesn't change the journal's size
 pub size_after : (e : Effect) (end : End) → (after e end).size ≡ end.size
@@ -50,6 +52,13 @@ pub rests : (effects : List Effect) (end : End) → (length effects == 0) ≡ tr
 unfolding applied
 rests [] end none = refl
 rests (e ∷ effects) end none =
+    let zero : length (e ∷ effects) ≡ 0 = eqb-true (length (e ∷ effects)) 0 none in absurd (omega arith)
+
+-- and nothing comes
+pub rests_places : (effects : List Effect) (gate : ℕ) (places : List Spot) → (length effects == 0) ≡ true → places ≡ places_after_all effects gate places
+unfolding places_after_all
+rests_places [] gate places none = refl
+rests_places (e ∷ effects) gate places none =
     let zero : length (e ∷ effects) ≡ 0 = eqb-true (length (e ∷ effects)) 0 none in absurd (omega arith)
 
 -- there are effects

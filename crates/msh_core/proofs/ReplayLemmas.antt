@@ -1,10 +1,7 @@
 -- Effects are replayed one after another, until one doesn't fit.
-use Rattle.std.proofs.Common.{◌≡◌, ℕ, suc, ◌+◌, ◌<◌, ◌≤◌, List, [], ◌∷◌, Bool, true, false, Option, Some, None, option_map, length, refl, sym, ap, subst, ◌∙◌, arith}
+use Rattle.std.proofs.Common.{◌≡◌, ℕ, suc, ◌+◌, ◌≤◌, List, [], ◌∷◌, Bool, true, false, Option, Some, None, option_map, length, refl, ap, ◌∙◌, arith}
 use Rattle.std.specs.Prelude.{if◌then◌else◌}
-use Rattle.std.proofs.lemmas.Bool.Decides.{nat_tests}
 use Rattle.as4_effects.specs.declared.effect.Effect.{Effect}
-use Rattle.as4_effects.specs.declared.effect.Effect.TheVariants as effect
-use Rattle.as4_effects.specs.declared.effect.Tick.{Tick}
 use Rattle.exchange_model.specs.Apply.{after, after_all, applied, first_unfit, is_fit, record_len}
 use Rattle.exchange_model.specs.End.{End}
 use Rattle.fold_laws.specs.Reached.{AreReplayed, IsReached}
@@ -32,21 +29,6 @@ unfolding applied
 reached_after e end fits reached =
     reached_resized (applied (e ∷ []) end) (after e end).size
     (reached_applied end (e ∷ []) reached (chosen (is_fit e end) None fits))
-
--- the same after a tick and after a confirmation, whose records have 20 bytes
-pub tick_reached : (end mid new : End) (tick : Tick) → end.moment < tick.moment → mid ≡ after (effect.Ticked tick) end
-    → new ≡ record mid { size = mid.size + 20 } → IsReached end → IsReached new
-unfolding is_fit
-tick_reached end mid new tick later makes grows reached =
-    subst IsReached (sym grows) (reached_resized mid (mid.size + 20)
-    (subst IsReached (sym makes) (reached_after (effect.Ticked tick) end (grind (arith, nat_tests)) reached)))
-
-pub confirm_reached : (end mid new : End) (upto : ℕ) → end.confirmed ≤ upto → upto < length end.inbox → mid ≡ after (effect.Confirmed upto) end
-    → new ≡ record mid { size = mid.size + 20 } → IsReached end → IsReached new
-unfolding is_fit
-confirm_reached end mid new upto left within makes grows reached =
-    subst IsReached (sym grows) (reached_resized mid (mid.size + 20)
-    (subst IsReached (sym makes) (reached_after (effect.Confirmed upto) end (grind (arith, nat_tests)) reached)))
 
 -- one more is applied
 pub one_made : (effects : List Effect) (start : End) (at : ℕ) (e : Effect) (rest : List Effect) (end : End)

@@ -1,5 +1,6 @@
 //! Applies effects one after another, with the room and the queues that were prepared for them.
 ghost use Rattle.std.specs.Prelude.{◌≡◌, IfOk, OnOk, map};
+ghost use Rattle.msh_state.specs.Places.{places_after_all};
 ghost use Rattle.msh_state.specs.Rooms.{queue_for};
 ghost use Rattle.msh_state.specs.Standing.{CanStand};
 ghost use Rattle.exchange_model.specs.Apply.{after_all};
@@ -21,6 +22,7 @@ pub fn room_for(
     ensures room { IfOk result (λ _. HaveRoom tables.new.rooms tables.new.end.sent effects.now) }
     ensures queues { IfOk result (λ queues. queues ≡ map (queue_for tables.new.end.sent) effects.now) }
     ensures end { tables.new.end ≡ tables.old.end }
+    ensures places { tables.new.places ≡ tables.old.places }
 {
     reserve_last(tables, effects)?;
     queues_for(alloc, tables, effects)
@@ -31,6 +33,7 @@ fn reserve_last(tables: &mut EndTables, effects: &Seq<Effect>) -> Result<(), NoM
     requires { CanStand tables.old.end effects.now }
     ensures room { OnOk result (HaveRoom tables.new.rooms tables.new.end.sent effects.now) }
     ensures end { tables.new.end ≡ tables.old.end }
+    ensures places { tables.new.places ≡ tables.old.places }
 {
     let items = effects.items();
     let len = items.len();
@@ -55,17 +58,18 @@ fn queues_for(
     Ok(Seq::of(queues))
 }
 
-/// Applies all effects, in order. Takes no memory.
-pub fn apply_all(tables: &mut EndTables, effects: Seq<Effect>, queues: &Seq<Queue>)
+/// Applies all effects of the record at this gate, in order. Takes no memory.
+pub fn apply_all(tables: &mut EndTables, effects: Seq<Effect>, queues: &Seq<Queue>, gate: u64)
     requires stands { CanStand tables.old.end effects }
     requires queues { queues.now ≡ map (queue_for tables.old.end.sent) effects }
     requires room { HaveRoom tables.old.rooms tables.old.end.sent effects }
-    ensures { tables.new.end ≡ after_all effects tables.old.end }
+    ensures end { tables.new.end ≡ after_all effects tables.old.end }
+    ensures places { tables.new.places ≡ places_after_all effects gate tables.old.places }
 {
     let queues = queues.items();
     let mut index = 0;
     for effect in effects.into_vec() {
-        tables.apply(effect, &queues[index]);
+        tables.apply(effect, &queues[index], gate);
         index += 1;
     }
 }

@@ -7,60 +7,85 @@
 //!     after them             Delivered   each other received message
 //!     after them, if set     Ticked      the clock
 //!
-//! The effects are made one at a time, so no list of them has to be kept in memory.
+//! The effects are made one at a time, so no list of them has to be kept in memory. The payloads of a delivery aren't in
+//! memory at all: `folded` says which record has them.
 
-ghost use Rattle.std.specs.Prelude.{◌≡◌, ℕ, ◌+◌, ◌<◌, ◌≤◌, IfOk, List, Some, drop, length, slice_get, take};
+ghost use Rattle.std.specs.Prelude.{◌≡◌, ℕ, ◌+◌, ◌<◌, ◌≤◌, IfOk, List, Some, drop, length, option_map, slice_get, take};
 ghost use Rattle.std.specs.List.{sum_by};
 ghost use Rattle.as4_effects.specs.declared.effect.Effect.{Effect as EffectValue};
+ghost use Rattle.msh_state.specs.Places.{EachOpen, IsMeasured};
 ghost use Rattle.msh_state.specs.Rooms.{new_tables};
 ghost use Rattle.exchange_model.specs.End.{End};
-ghost use Rattle.exchange_model.specs.Fold.{CarriesOver, DeliversAgain, IsFolded, IsFoldedSize, KeepsHeader, SetsClock, folded_size, resized};
+ghost use Rattle.exchange_model.specs.Fold.{CarriesOver, IsFolded, IsFoldedSize, KeepsHeader, SetsClock, folded_size, resized};
 ghost use Rattle.exchange_model.specs.Questions.{sent_at};
 ghost use Rattle.fold_laws.specs.Reached.{IsReached};
 ghost use Rattle.fold_laws.specs.Written.{CanBeWritten};
-ghost use Rattle.msh_core.specs.Folding.{CanBeReplayed, OneFor, capped, carried_len, clock_len, delivered_len, kept_len, len_at};
+ghost use Rattle.msh_core.specs.Folding.{CanBeReplayed, IsOpenEntry, IsShown, OneFor, capped, carried_len, clock_len, delivered_len, kept_len, len_at};
 
 use crate::machine::{Core, MAX_JOURNAL};
 use crate::small::SMALL_RECORD;
-use as4_effects::{Carried, Delivery, Effect, Kept, Measured, Tick};
-use as4_values::{NoMemory, PlainData, try_clone_two};
+use as4_effects::{Carried, Effect, Kept, Measured, Tick};
+use as4_values::{MessageId, NoMemory, PlainData, try_clone_two};
 use msh_state::{EndTables, Held};
 use std::alloc::Global;
 
 /// The bytes of a journal before its first record.
 const JOURNAL_HEAD: u64 = 9;
 
-/// The bytes of the record of one effect in addition to the effect: its gate (the commit byte), the length of its body,
-/// and the count of its effects.
+/// The bytes of a record in addition to its body: its gate (the commit byte), and the length of the body.
+const BESIDE_BODY: u64 = 9;
+
+/// The bytes of the record of one effect in addition to the effect: also the count of its effects.
 const BESIDE_EFFECT: u64 = 11;
 
 /// The bytes of a carried submission between its fields and its mark: the number of tries, and the time of the last
 /// one.
 const TRIES_AND_LAST: u64 = 12;
 
+/// An effect of a compaction.
+#[derive(Drop)]
+pub enum Folding {
+    /// The delivery of an open entry of the inbox.
+    Open {
+        /// The entry's identifier.
+        id: MessageId,
+        /// The gate of the record that has its payloads.
+        gate: u64,
+        /// The length of a body that delivers the entry alone.
+        length: u64,
+    },
+    /// Any other effect.
+    Known(Effect),
+}
+
 impl Core {
     /// The effect at this place of the endpoint's compaction, from 0; None past the last.
-    pub fn folded(&self, part: u64) -> Result<Option<Effect>, NoMemory>
-        ensures { IfOk result (λ found. (effects : List EffectValue) × IsFolded self.now.end effects × (found ≡ slice_get effects part)) }
+    pub fn folded(&self, part: u64) -> Result<Option<Folding>, NoMemory>
+        ensures { IfOk result (λ found. (effects : List EffectValue) × IsFolded self.now.end effects
+            × IsShown self.now.end self.now.places part (slice_get effects part) found) }
     {
         let submitted = self.tables.submitted();
         if part < submitted {
-            return carried_over(self.alloc, &self.tables, part);
+            let carried = carried_over(self.alloc, &self.tables, part)?;
+            return Ok(known(carried));
         }
         let place = part - submitted;
         if place < self.tables.confirmed() {
-            return kept_header(self.alloc, &self.tables, place);
+            let kept = kept_header(self.alloc, &self.tables, place)?;
+            return Ok(known(kept));
         }
         let received = self.tables.received();
         if place < received {
-            return delivered_again(self.alloc, &self.tables, place);
+            return open_entry(self.alloc, &self.tables, place);
         }
-        Ok(set_clock(&self.tables, place - received))
+        let clock = set_clock(&self.tables, place - received);
+        Ok(known(clock))
     }
 
     /// The size of a journal that has only the endpoint's compaction, at most `u64::MAX`. Takes no memory.
     pub fn folded_size(&self) -> u64
         ensures reached { IsReached self.now.end }
+        ensures measured { EachOpen IsMeasured self.now.end.confirmed self.now.places self.now.end.inbox }
         ensures size { (size : ℕ) × IsFoldedSize self.now.end size × (result ≡ capped size) }
         ensures only { (size : ℕ) → IsFoldedSize self.now.end size → result ≡ capped size }
     {
@@ -74,6 +99,7 @@ impl Core {
     pub fn set_folded(&mut self)
         requires { (size : ℕ) → IsFoldedSize self.old.end size → size ≤ MAX_JOURNAL }
         ensures end { (size : ℕ) → IsFoldedSize self.old.end size → self.new.end ≡ resized size self.old.end }
+        ensures places { self.new.places ≡ self.old.places }
         ensures modes { self.new.modes ≡ self.old.modes }
     {
         let size = self.folded_size();
@@ -123,20 +149,30 @@ fn kept_header(alloc: Global, tables: &EndTables, place: u64) -> Result<Option<E
     Ok(Some(Effect::Kept(Kept { header })))
 }
 
-/// The message at this place, which isn't confirmed.
-fn delivered_again(
-    alloc: Global,
-    tables: &EndTables,
-    place: u64,
-) -> Result<Option<Effect>, NoMemory>
-    requires written { CanBeWritten tables.now.end }
+/// An effect that is known, if there is one.
+fn known(effect: Option<Effect>) -> Option<Folding>
+    ensures { result ≡ option_map Folding.Known effect }
+{
+    match effect {
+        Some(effect) => Some(Folding::Known(effect)),
+        None => None,
+    }
+}
+
+/// The open entry at this place.
+fn open_entry(alloc: Global, tables: &EndTables, place: u64) -> Result<Option<Folding>, NoMemory>
     requires waits { tables.now.end.confirmed ≤ place }
-    ensures { IfOk result (λ found. OneFor DeliversAgain (slice_get tables.now.end.inbox place) found) }
+    requires there { place < length tables.now.end.inbox }
+    ensures { IfOk result (IsOpenEntry tables.now place) }
 {
     match tables.read(place) {
-        Held::Entry { header, payloads } => {
-            let (header, payloads) = try_clone_two(alloc, header, payloads)?;
-            Ok(Some(Effect::Delivered(Delivery { header, payloads })))
+        Held::Entry {
+            header,
+            gate,
+            length,
+        } => {
+            let id = header.id.try_clone(alloc)?;
+            Ok(Some(Folding::Open { id, gate, length }))
         }
         Held::Gone | Held::NoEntry => Ok(None),
     }
@@ -203,6 +239,7 @@ fn kept_size(tables: &EndTables, place: u64, sum: u64) -> u64
 
 /// The sum plus the bytes of the records of all other messages.
 fn waiting_size(tables: &EndTables, sum: u64) -> u64
+    requires { EachOpen IsMeasured tables.now.end.confirmed tables.now.places tables.now.end.inbox }
     ensures { result ≡ capped (sum + sum_by delivered_len (drop tables.now.end.confirmed tables.now.end.inbox)) }
 {
     let confirmed = tables.confirmed();
@@ -215,14 +252,12 @@ fn waiting_size(tables: &EndTables, sum: u64) -> u64
 
 /// The sum plus the bytes of the record of the message at this place, which isn't confirmed.
 fn delivered_size(tables: &EndTables, place: u64, sum: u64) -> u64
-    requires { tables.now.end.confirmed ≤ place }
+    requires waits { tables.now.end.confirmed ≤ place }
+    requires measured { EachOpen IsMeasured tables.now.end.confirmed tables.now.places tables.now.end.inbox }
     ensures { result ≡ capped (sum + len_at delivered_len (slice_get tables.now.end.inbox place)) }
 {
     match tables.read(place) {
-        Held::Entry { header, payloads } => {
-            let sum = header.add_len(sum.saturating_add(1));
-            payloads.add_len(sum).saturating_add(BESIDE_EFFECT)
-        }
+        Held::Entry { length, .. } => sum.saturating_add(length).saturating_add(BESIDE_BODY),
         Held::Gone | Held::NoEntry => sum,
     }
 }

@@ -3,6 +3,7 @@
 ghost use Rattle.std.specs.Prelude.{◌≡◌, ◌+◌, ◌≤◌, ◌^◌, IfOk, IfSome, IsOk, None, false, length, option_copied, option_map, true};
 ghost use Rattle.std.specs.List.{sum_by};
 ghost use Rattle.as4_effects.specs.Effects.{effects_body, effects_limit, most_bytes_of};
+ghost use Rattle.msh_state.specs.Places.{places_after_all};
 ghost use Rattle.msh_state.specs.Rooms.{new_tables};
 ghost use Rattle.msh_state.specs.Standing.{CanStand};
 ghost use Rattle.msh_state.specs.Totals.{AreTotals};
@@ -11,7 +12,7 @@ ghost use Rattle.exchange_model.specs.Questions.{sent_at};
 ghost use Rattle.exchange_model.specs.Table.{IsLimited, Step, has_room};
 ghost use Rattle.exchange_model.specs.declared.outcome.Outcome.{Outcome as OutcomeValue};
 ghost use Rattle.msh_transitions.specs.Free.{IsFree};
-ghost use Rattle.msh_core.specs.Machine.{IsReady};
+ghost use Rattle.msh_core.specs.Machine.{IsGiven, IsReady};
 
 use crate::applying::{apply_all, room_for};
 use crate::plan::Plan;
@@ -40,22 +41,20 @@ pub struct Core {
 }
 
 impl Model for Core {
-    ghost use Rattle.fold_laws.specs.Reached.{IsReached};
-    ghost use Rattle.msh_core.specs.Machine.{Machine};
+    ghost use Rattle.msh_core.specs.Machine.{IsConsistent, Machine};
 
     ghost Value = { Machine };
 
-    ghost view = { λ core. record { end = core.tables.end; modes = core.modes; rooms = core.tables.rooms } };
+    ghost view = { λ core. record { end = core.tables.end; places = core.tables.places; modes = core.modes; rooms = core.tables.rooms } };
 
-    // Effects that fit lead to the endpoint.
-    ghost invariant = { λ core. IsReached core.tables.end };
+    ghost invariant = { λ core. IsConsistent core.tables.end core.tables.places };
 }
 
 impl Core {
     /// An endpoint to which nothing has happened yet.
-    #[tactic(auto, using(fold_laws::proofs::ReachedLemmas::reached_first))]
+    #[tactic(auto, using(crate::proofs::MeasuredLemmas::new_consistent))]
     pub fn new(alloc: Global, modes: Modes) -> Core
-        ensures { result ≡ record { end = new_tables.end; modes = modes; rooms = new_tables.rooms } }
+        ensures { result ≡ record { end = new_tables.end; places = new_tables.places; modes = modes; rooms = new_tables.rooms } }
     {
         Core {
             alloc,
@@ -65,13 +64,15 @@ impl Core {
     }
 
     /// What the endpoint does with an event. Takes all the memory that this needs; changes nothing but the reserved
-    /// room. If the outcome is free (no effects, and a bare reply), this doesn't fail.
+    /// room. If the outcome is free (no effects, and a bare reply), this doesn't fail. The reply to `Read` comes without
+    /// payloads: `held` says where they are, and `Plan::filled` puts them in.
     pub fn prepare(&mut self, event: &Event) -> Result<Plan, NoMemory>
-        ensures step { IfOk result (λ plan. Step self.old.modes self.old.end event.now plan.outcome) }
+        ensures given { IfOk result (λ plan. IsGiven self.old.modes self.old.end event.now plan.outcome) }
         ensures ready { IfOk result (IsReady self.new) }
         ensures short { IfOk result (λ plan. length (effects_body plan.outcome.effects) ≤ 2 ^ 30) }
         ensures free { (outcome : OutcomeValue) → Step self.old.modes self.old.end event.now outcome → IsFree outcome → IsOk result }
         ensures end { self.new.end ≡ self.old.end }
+        ensures places { self.new.places ≡ self.old.places }
         ensures modes { self.new.modes ≡ self.old.modes }
     {
         let row = row_of(self.alloc, &self.modes, &self.tables, event)?;
@@ -90,10 +91,11 @@ impl Core {
         }
     }
 
-    /// Carries out a plan for the present state. Takes no memory.
-    pub fn commit(&mut self, plan: Plan) -> Reply
+    /// Carries out a plan for the present state. The plan's effects are in the record at this gate. Takes no memory.
+    pub fn commit(&mut self, plan: Plan, gate: u64) -> Reply
         requires { IsReady self.old plan }
         ensures end { self.new.end ≡ applied plan.outcome.effects self.old.end }
+        ensures places { self.new.places ≡ places_after_all plan.outcome.effects gate self.old.places }
         ensures modes { self.new.modes ≡ self.old.modes }
         ensures reply { result ≡ plan.outcome.reply }
     {
@@ -104,7 +106,7 @@ impl Core {
             return reply;
         }
         let len = record_len(&effects);
-        apply_all(&mut self.tables, effects, &queues);
+        apply_all(&mut self.tables, effects, &queues, gate);
         self.tables.grow(len);
         reply
     }

@@ -74,11 +74,12 @@ impl Core {
         SmallPlan::Rest(Reply::Full { size, need })
     }
 
-    /// Carries out a plan for the present state.
+    /// Carries out a plan for the present state. No payloads come or move.
     pub fn commit_small(&mut self, plan: SmallPlan) -> Reply
         requires { IsSmallReady self.old plan }
         ensures step { (outcome : OutcomeValue) → StandsFor self.old.end plan outcome
             → (self.new.end ≡ applied outcome.effects self.old.end) × (result ≡ outcome.reply) }
+        ensures places { self.new.places ≡ self.old.places }
         ensures modes { self.new.modes ≡ self.old.modes }
     {
         match plan {
@@ -94,28 +95,31 @@ impl Core {
         }
     }
 
-    #[tactic(auto, unfolding(exchange_model::specs::Apply::is_fit, msh_state::specs::Rooms::HasRoom, msh_state::specs::Rooms::queue_for), using(crate::proofs::RecordLemmas::size_after))]
+    #[tactic(auto, unfolding(exchange_model::specs::Apply::is_fit, msh_state::specs::Places::places_after, msh_state::specs::Rooms::HasRoom, msh_state::specs::Rooms::queue_for), using(crate::proofs::RecordLemmas::size_after))]
     fn commit_tick(&mut self, moment: u64) -> Reply
         requires { CanGo self.old.end (SmallPlan.Tick moment) }
         ensures step { (outcome : OutcomeValue) → StandsFor self.old.end (SmallPlan.Tick moment) outcome
             → (self.new.end ≡ applied outcome.effects self.old.end) × (result ≡ outcome.reply) }
+        ensures places { self.new.places ≡ self.old.places }
         ensures modes { self.new.modes ≡ self.old.modes }
     {
         let failed = self.tables.spent(moment);
         self.tables
-            .apply(Effect::Ticked(Tick { moment }), &Queue::Push);
+            .apply(Effect::Ticked(Tick { moment }), &Queue::Push, 0);
         self.tables.grow(SMALL_RECORD);
         Reply::Ticked { failed }
     }
 
-    #[tactic(auto, unfolding(exchange_model::specs::Apply::is_fit, msh_state::specs::Rooms::HasRoom, msh_state::specs::Rooms::queue_for), using(crate::proofs::RecordLemmas::size_after))]
+    #[tactic(auto, unfolding(exchange_model::specs::Apply::is_fit, msh_state::specs::Places::places_after, msh_state::specs::Rooms::HasRoom, msh_state::specs::Rooms::queue_for), using(crate::proofs::RecordLemmas::size_after))]
     fn commit_confirm(&mut self, upto: u64) -> Reply
         requires { CanGo self.old.end (SmallPlan.Confirm upto) }
         ensures step { (outcome : OutcomeValue) → StandsFor self.old.end (SmallPlan.Confirm upto) outcome
             → (self.new.end ≡ applied outcome.effects self.old.end) × (result ≡ outcome.reply) }
+        ensures places { self.new.places ≡ self.old.places }
         ensures modes { self.new.modes ≡ self.old.modes }
     {
-        self.tables.apply(Effect::Confirmed { upto }, &Queue::Push);
+        self.tables
+            .apply(Effect::Confirmed { upto }, &Queue::Push, 0);
         self.tables.grow(SMALL_RECORD);
         Reply::Confirmed { upto }
     }

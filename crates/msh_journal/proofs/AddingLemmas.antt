@@ -1,4 +1,4 @@
--- A record that is added to the journal of an end.
+-- A record that is appended to the journal of an endpoint.
 use Rattle.std.proofs.Common.{◌≡◌, ℕ, ◌+◌, ◌∙◌, List, [], ◌∷◌, ◌++◌, Some, IsNone, is_some, length, arith, subst, sym}
 use Rattle.as4_disk.specs.declared.disk.Disk.{Ghosts as DiskMeaning}
 use Rattle.as4_disk.specs.Image.{Image}
@@ -8,7 +8,12 @@ use Rattle.exchange_model.specs.End.{End, empty_end}
 use Rattle.journal.specs.State.{HasRecords}
 use Rattle.journal.specs.Store.{InVersion, OpensToOneOf}
 use Rattle.journal.specs.declared.journal.Journal.{Journal}
+use Rattle.journal.specs.declared.version.Version.{Version}
 use Rattle.journal.specs.declared.version.Version.TheVariants.{Two}
+use Rattle.inbox.specs.Spots.{Spot}
+use Rattle.msh_journal.specs.Payloads.{HoldsPayloads, IsJournalWith}
+use Rattle.msh_journal.specs.Reading.{RecordBrings}
+use Rattle.msh_journal.proofs.PayloadLemmas.{brings_leads, payloads_more}
 use Rattle.msh_recovery.specs.Opens.{IsAtOneOf, IsJournalOf}
 use Rattle.msh_recovery.specs.Records.{RecordLeads}
 use Rattle.msh_recovery.proofs.RecordLemmas.{lead_more}
@@ -28,6 +33,22 @@ module _ {D : Type 0} (M : DiskMeaning D) (old new : Journal D) (body : List ℕ
         let was = told_before (M.seen old.disk) (M.seen new.disk) image tells told in
         let had = is.records was.0 was.1 in
         (had.0 ++ body ∷ [], settled had.0 had.1, lead_more had.0 body empty_end end next had.2 leads);
+  }
+
+  -- and what it delivers has its payloads in it
+  pub added_held : ((bodies : List (List ℕ)) → HasRecords M old bodies → HasRecords M new (bodies ++ body ∷ []))
+      → (new.version ≡ old.version) × (new.fold ≡ old.fold) → new.gate ≡ old.gate + (length body + 9) → is_some (M.seen new.disk) ≡ is_some (M.seen old.disk)
+      → (gate : ℕ) (places after : List Spot) → gate ≡ old.gate → IsJournalWith M end places old → RecordBrings body gate end places next after → IsJournalWith M next after new
+  added_held settled kept grows tells gate places after at has brings = record {
+    is = added_kept settled kept grows tells has.is (brings_leads body gate end next places after brings);
+    held = λ image told.
+        let was = told_before (M.seen old.disk) (M.seen new.disk) image tells told in
+        let had = has.held was.0 was.1 in
+        let P : Version → Type 0 = λ v. HoldsPayloads v (had.0 ++ body ∷ []) next after in (
+          had.0 ++ body ∷ [],
+          settled had.0 had.1,
+          subst P (sym kept.0) (payloads_more old.version had.0 body gate end next places after had.2 brings (at ∙ had.1.place)),
+        );
   }
 
   pub added_run : ((bodies : List (List ℕ)) → HasRecords M old bodies → LeavesOnly M old.disk new.disk (InVersion Two (OpensToOneOf bodies body)))

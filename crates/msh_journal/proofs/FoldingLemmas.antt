@@ -8,8 +8,8 @@ use Rattle.std.proofs.lemmas.List.Sums.{sum_by-append, sum_by-cons}
 use Rattle.std.proofs.lemmas.Option.{same_Some, slice_get_cases, slice_get_within, get_or_from_slice_get}
 use Rattle.as4_disk.specs.declared.disk.Disk.{Ghosts as DiskMeaning}
 use Rattle.as4_disk.specs.Image.{Image}
-use Rattle.as4_disk.specs.Leaving.{FirstThen, LeavesOnly}
-use Rattle.as4_disk.proofs.RunLemmas.{no_call, then}
+use Rattle.as4_disk.specs.Leaving.{FirstThen, LeavesOnly, Quiet}
+use Rattle.as4_disk.proofs.RunLemmas.{no_call, then, weaken}
 use Rattle.as4_effects.specs.declared.effect.Effect.{Effect}
 use Rattle.as4_flow.specs.Flow.{Told}
 use Rattle.event_code.specs.Spelled.{AreSpelled, IsSpelledEffect}
@@ -28,11 +28,17 @@ use Rattle.journal.specs.declared.version.Version.{Version}
 use Rattle.journal.specs.declared.version.Version.TheVariants.{Two}
 use Rattle.journal.proofs.OtherLemmas.{first_weaken}
 use Rattle.journal.proofs.StoreLemmas.{closed_in, settled_left}
+use Rattle.inbox.specs.Spots.{Spot}
 use Rattle.msh_recovery.specs.Opens.{IsAt, IsJournalOf}
 use Rattle.msh_recovery.specs.Records.{RecordsLead, alone}
 use Rattle.msh_recovery.proofs.FoldLemmas.{fold_leads}
 use Rattle.msh_recovery.proofs.OpenLemmas.{settled_at}
-use Rattle.msh_journal.specs.Adding.{AddsPart, HasAdded, bytes_of}
+use Rattle.payload_gates.specs.Gates.{AreGates, moved, one_by_one}
+use Rattle.payload_gates.proofs.GateLemmas.{gates_none, gates_noted}
+use Rattle.msh_journal.specs.Adding.{AddsPart, FoldHasPayloads, HasAdded, KeepsFold, KeepsNewFold, NewFoldHasPayloads, bytes_of}
+use Rattle.msh_journal.specs.Payloads.{HasPayloads, HoldsPayloads, IsJournalWith, gate_at}
+use Rattle.msh_journal.proofs.KeepingLemmas.{journal_kept, with_kept}
+use Rattle.msh_journal.proofs.PayloadLemmas.{gate_of_alone, payloads_folded}
 use Rattle.msh_journal.proofs.RunLemmas.{then_first, told_before}
 
 -- ---- lengths
@@ -130,81 +136,161 @@ effects_lead end effects reached folded spelled =
 -- ---- the parts
 
 module _ {D : Type 0} (M : DiskMeaning D) where
-  pub added_none : (first : Journal D) (effects : List Effect) → first.fold ≡ Some 8 → HasAdded M first first (take 0 effects)
-  added_none first effects fold = record {
-    spelled = tt;
+  pub added_none : (first : Journal D) (effects : List Effect) (gates : List ℕ) → first.fold ≡ Some 8 → gates ≡ [] → HasAdded M first first (take 0 effects) gates
+  added_none first effects gates fold none = record {
     gate = refl;
     version = refl;
     fold = fold;
-    added = λ bodies has. has;
+    noted = subst (AreGates (gate_at Two) [] []) (sym none) (gates_none (gate_at Two) []);
+    added = λ bodies has. (tt, has);
   }
 
-  pub added_more : (first old new : Journal D) (effects : List Effect) (part : ℕ) (effect : Effect) → slice_get effects part ≡ Some effect
-      → HasAdded M first old (take part effects) → AddsPart M old new effect → HasAdded M first new (take (part + 1) effects)
-  added_more first old new effects part effect found so_far adds =
+  pub added_more : (first old new : Journal D) (effects : List Effect) (part : ℕ) (effect : Effect) (before after : List ℕ) → slice_get effects part ≡ Some effect
+      → HasAdded M first old (take part effects) before → AddsPart M old new effect before after → HasAdded M first new (take (part + 1) effects) after
+  added_more first old new effects part effect before after found so_far adds =
       let taken = take part effects in
+      let here : 8 + bytes_of taken ≡ gate_at Two (one_by_one taken) = sym (gate_of_alone taken) in
       let place : 8 + bytes_of taken + record_len (effect ∷ []) ≡ 8 + bytes_of (taken ++ effect ∷ []) = omega (arith, bytes_more taken effect) in
-      let one : HasAdded M first new (taken ++ effect ∷ []) = record {
-        spelled = spelled_more taken effect so_far.spelled adds.spelled;
-        gate = adds.gate ∙ so_far.gate;
-        version = adds.version ∙ so_far.version;
-        fold = adds.fold (8 + bytes_of taken) so_far.fold ∙ ap (λ (n : ℕ). Some n) place;
+      let one : HasAdded M first new (taken ++ effect ∷ []) after = record {
+        gate = adds.adds.gate ∙ so_far.gate;
+        version = adds.adds.version ∙ so_far.version;
+        fold = adds.adds.fold (8 + bytes_of taken) so_far.fold ∙ ap (λ (n : ℕ). Some n) place;
+        noted = gates_noted (gate_at Two) taken before after effect (8 + bytes_of taken) here (adds.noted (8 + bytes_of taken) so_far.fold) so_far.noted;
         added = λ bodies has.
             let F : List (List ℕ) → Type 0 = λ l. HasFold M new bodies l in
-            subst F (sym (map-append alone taken (effect ∷ []))) (adds.added bodies (map alone taken) (so_far.added bodies has));
+            let had = so_far.added bodies has in
+            let more = adds.adds.added bodies (map alone taken) had.1 in (
+              spelled_more taken effect had.0 more.0,
+              subst F (sym (map-append alone taken (effect ∷ []))) more.1,
+            );
       } in
-      let P : List Effect → Type 0 = λ l. HasAdded M first new l in
+      let P : List Effect → Type 0 = λ l. HasAdded M first new l after in
       subst P (sym (take_more effects part effect found)) one
 
-  -- behind the last part
-  pub added_all : (first now : Journal D) (effects : List Effect) (part : ℕ) → slice_get effects part ≡ None → HasAdded M first now (take part effects) → HasAdded M first now effects
-  added_all first now effects part none so_far =
-      let P : List Effect → Type 0 = λ l. HasAdded M first now l in
+  -- past the last part
+  pub added_all : (first now : Journal D) (effects : List Effect) (part : ℕ) (gates : List ℕ) → slice_get effects part ≡ None → HasAdded M first now (take part effects) gates → HasAdded M first now effects gates
+  added_all first now effects part gates none so_far =
+      let P : List Effect → Type 0 = λ l. HasAdded M first now l gates in
       subst P (take_all part effects (all_taken effects part none)) so_far
 
-  -- where a part wasn't added, the parts before it were
-  pub starved_parts : (first old new : Journal D) (effects : List Effect) → new ≡ old → HasAdded M first old effects
-      → (new.gate ≡ first.gate) × (new.version ≡ first.version) × ((bodies : List (List ℕ)) → HasFold M first bodies [] → (folded : List (List ℕ)) × HasFold M new bodies folded)
-  starved_parts first old new effects same so_far =
-      let P : Journal D → Type 0 = λ j. HasAdded M first j effects in
-      let now : HasAdded M first new effects = subst P (sym same) so_far in
-      (now.gate, now.version, λ bodies has. (map alone effects, now.added bodies has))
+  -- while parts are added the payloads are there
+  pub payloads_still : (first now : Journal D) (end : End) (places : List Spot) (effects : List Effect) (gates : List ℕ) → HasAdded M first now effects gates → is_some (M.seen now.disk) ≡ is_some (M.seen first.disk)
+      → NewFoldHasPayloads M end places first → FoldHasPayloads M end places now
+  payloads_still first now end places effects gates so_far tells held b told =
+      let was = told_before (M.seen first.disk) (M.seen now.disk) b tells told in
+      let had = held was.0 was.1 in
+      let P : Version → Type 0 = λ v. HoldsPayloads v had.0 end places in
+      (had.0, map alone effects, (so_far.added had.0 had.1).1, subst P (sym so_far.version) had.2)
 
-  -- the journal whose records are the fold's
-  pub folded_journal : (old started added new : Journal D) (end : End) (effects : List Effect) → IsReached end → IsFolded end effects → HasAdded M started added effects
+  -- a disk that isn't observable wasn't before
+  pub lost_before : (first now : Journal D) → is_some (M.seen now.disk) ≡ is_some (M.seen first.disk) → Told (M.seen now.disk) (λ _. ⊥) → Told (M.seen first.disk) (λ _. ⊥)
+  lost_before first now tells lost b told =
+      let now_told = told_before (M.seen now.disk) (M.seen first.disk) b (sym tells) told in lost now_told.0 now_told.1
+
+  -- the parts that were added, and what the next call kept
+  pub added_then : (first old new : Journal D) (effects : List Effect) (gates : List ℕ) → HasAdded M first old effects gates → KeepsFold M old new
+      → KeepsNewFold M first new
+  added_then first old new effects gates so_far keeps =
+      (keeps.gate ∙ so_far.gate, keeps.version ∙ so_far.version, λ bodies has. keeps.kept bodies (map alone effects) (so_far.added bodies has).1)
+
+  -- the journal whose records are the compaction's
+  pub folded_journal : (old started added new : Journal D) (end : End) (effects : List Effect) (gates : List ℕ) → IsReached end → IsFolded end effects → HasAdded M started added effects gates
       → ((bodies : List (List ℕ)) → HasRecords M old bodies → HasFold M started bodies [])
       → ((bodies folded : List (List ℕ)) → HasFold M added bodies folded → HasRecords M new folded)
-      → new.version ≡ Two → IsNone new.fold → added.fold ≡ Some new.gate → is_some (M.seen new.disk) ≡ is_some (M.seen old.disk) → Told (M.seen old.disk) (λ b. (bodies : List (List ℕ)) × HasRecords M old bodies)
-      → IsJournalOf M (resized (folded_size effects) end) new
-  folded_journal old started added new end effects reached folded parts start finish version no_fold at tells records =
+      → new.version ≡ Two → IsNone new.fold → added.fold ≡ Some new.gate → is_some (M.seen new.disk) ≡ is_some (M.seen old.disk)
+      → (places : List Spot) → length places ≡ length end.inbox → HasPayloads M end places old
+      → IsJournalWith M (resized (folded_size effects) end) (moved end.confirmed gates places) new
+  folded_journal old started added new end effects gates reached folded parts start finish version no_fold at tells places long held =
       let gate : new.gate ≡ 8 + bytes_of effects = same_Some _ _ (sym at ∙ parts.fold) in
       record {
-        version = version;
-        no_fold = no_fold;
-        size = omega (arith, gate, size_of_fold effects);
-        records = λ b told.
+        is = record {
+          version = version;
+          no_fold = no_fold;
+          size = omega (arith, gate, size_of_fold effects);
+          records = λ b told.
+              let was = told_before (M.seen old.disk) (M.seen new.disk) b tells told in
+              let had = held was.0 was.1 in
+              let all = parts.added had.0 (start had.0 had.1) in
+              (map alone effects, finish had.0 (map alone effects) all.1, effects_lead end effects reached folded all.0);
+        };
+        held = λ b told.
             let was = told_before (M.seen old.disk) (M.seen new.disk) b tells told in
-            let had = records was.0 was.1 in
-            (map alone effects, finish had.0 (map alone effects) (parts.added had.0 (start had.0 had.1)), effects_lead end effects reached folded parts.spelled);
+            let had = held was.0 was.1 in
+            let all = parts.added had.0 (start had.0 had.1) in
+            let P : Version → Type 0 = λ v. HoldsPayloads v (map alone effects) (resized (folded_size effects) end) (moved end.confirmed gates places) in (
+              map alone effects,
+              finish had.0 (map alone effects) all.1,
+              subst P (sym version) (payloads_folded end effects gates places (folded_size effects) folded all.0 parts.noted long),
+            );
       }
 
-module _ {D : Type 0} (M : DiskMeaning D) where
-  -- while no part is added a crash leaves the records
+  -- what a crash leaves while a fold is open
+  fold_left : (journal : Journal D) (bodies folded : List (List ℕ)) → HasFold M journal bodies folded → (c : Image) → M.may_leave journal.disk c → InVersion journal.version (OpensSettled bodies) c
+  fold_left journal bodies folded has c left =
+      closed_in journal.version bodies has.rest c has.within (settled_left M journal.disk journal.is_second (front_of journal.version bodies ++ 0 ∷ has.rest) c has.settled left).2
+
+  -- while nothing is added
   pub still_fold : ((disk : D) (c : Image) → M.left_since disk (M.moment disk) c → M.may_leave disk c) → (journal : Journal D) (bodies folded : List (List ℕ)) → HasFold M journal bodies folded
       → LeavesOnly M journal.disk journal.disk (InVersion journal.version (OpensSettled bodies))
   still_fold only_now journal bodies folded has =
-      let leaf = front_of journal.version bodies ++ 0 ∷ has.rest in
+      no_call M journal.disk (InVersion journal.version (OpensSettled bodies)) (λ c left. fold_left journal bodies folded has c (only_now journal.disk c left))
+
+  -- and while no fold is open
+  pub still_records : ((disk : D) (c : Image) → M.left_since disk (M.moment disk) c → M.may_leave disk c) → (journal : Journal D) (bodies : List (List ℕ)) → HasRecords M journal bodies
+      → LeavesOnly M journal.disk journal.disk (InVersion journal.version (OpensSettled bodies))
+  still_records only_now journal bodies has =
       no_call M journal.disk (InVersion journal.version (OpensSettled bodies))
-      (λ c left. closed_in journal.version bodies has.rest c has.within (settled_left M journal.disk journal.is_second leaf c has.settled (only_now journal.disk c left)).2)
+      (λ c left. closed_in journal.version bodies has.rest c has.within (settled_left M journal.disk journal.is_second (front_of journal.version bodies ++ 0 ∷ has.rest) c has.settled (only_now journal.disk c left)).2)
+
+  -- while a record is read
+  pub read_fold : (old new : Journal D) → Quiet M old.disk new.disk → (bodies folded : List (List ℕ)) → HasFold M old bodies folded
+      → LeavesOnly M old.disk new.disk (InVersion old.version (OpensSettled bodies))
+  read_fold old new quiet bodies folded has =
+      weaken M old.disk new.disk (M.may_leave old.disk) (InVersion old.version (OpensSettled bodies)) (fold_left old bodies folded has) quiet.run
+
+  -- one run, and then another
+  pub fold_then : (old mid new : Journal D) → mid.version ≡ old.version → ((bodies folded : List (List ℕ)) → HasFold M old bodies folded → HasFold M mid bodies folded)
+      → ((bodies folded : List (List ℕ)) → HasFold M old bodies folded → LeavesOnly M old.disk mid.disk (InVersion old.version (OpensSettled bodies)))
+      → ((bodies folded : List (List ℕ)) → HasFold M mid bodies folded → LeavesOnly M mid.disk new.disk (InVersion mid.version (OpensSettled bodies)))
+      → (bodies folded : List (List ℕ)) → HasFold M old bodies folded → LeavesOnly M old.disk new.disk (InVersion old.version (OpensSettled bodies))
+  fold_then old mid new version kept first next bodies folded has =
+      let P : Version → Type 0 = λ v. LeavesOnly M mid.disk new.disk (InVersion v (OpensSettled bodies)) in
+      then M old.disk mid.disk new.disk (InVersion old.version (OpensSettled bodies)) (first bodies folded has) (subst P version (next bodies folded (kept bodies folded has)))
 
   -- and while one more is
-  pub fold_run_on : (first old new : Journal D) (effects : List Effect) → HasAdded M first old effects
+  pub fold_run_on : (first old new : Journal D) (effects : List Effect) (gates : List ℕ) → HasAdded M first old effects gates
       → ((bodies : List (List ℕ)) → HasFold M first bodies [] → LeavesOnly M first.disk old.disk (InVersion first.version (OpensSettled bodies)))
       → ((bodies folded : List (List ℕ)) → HasFold M old bodies folded → LeavesOnly M old.disk new.disk (InVersion old.version (OpensSettled bodies)))
       → (bodies : List (List ℕ)) → HasFold M first bodies [] → LeavesOnly M first.disk new.disk (InVersion first.version (OpensSettled bodies))
-  fold_run_on first old new effects so_far run next bodies has =
+  fold_run_on first old new effects gates so_far run next bodies has =
       let P : Version → Type 0 = λ v. LeavesOnly M old.disk new.disk (InVersion v (OpensSettled bodies)) in
-      then M first.disk old.disk new.disk (InVersion first.version (OpensSettled bodies)) (run bodies has) (subst P so_far.version (next bodies (map alone effects) (so_far.added bodies has)))
+      then M first.disk old.disk new.disk (InVersion first.version (OpensSettled bodies)) (run bodies has) (subst P so_far.version (next bodies (map alone effects) (so_far.added bodies has).1))
+
+-- a compaction that was dropped
+module _ {D : Type 0} (M : DiskMeaning D) (old started added dropped : Journal D) (same : (started.gate ≡ old.gate) × (started.version ≡ old.version)) (keeps : KeepsNewFold M started added)
+    (is : dropped ≡ record added { fold = dropped.fold; fold_in_range = dropped.fold_in_range }) (closed : IsNone dropped.fold) (tells : is_some (M.seen added.disk) ≡ is_some (M.seen old.disk))
+    (start : (bodies : List (List ℕ)) → HasRecords M old bodies → HasFold M started bodies []) (drops : (bodies folded : List (List ℕ)) → HasFold M added bodies folded → HasRecords M dropped bodies) where
+  dropped_gate : dropped.gate ≡ old.gate
+  dropped_gate = ap (λ (j : Journal D). j.gate) is ∙ keeps.0 ∙ same.0
+
+  dropped_version : dropped.version ≡ old.version
+  dropped_version = ap (λ (j : Journal D). j.version) is ∙ keeps.1 ∙ same.1
+
+  pub dropped_tells : is_some (M.seen dropped.disk) ≡ is_some (M.seen old.disk)
+  dropped_tells = ap (λ (j : Journal D). is_some (M.seen j.disk)) is ∙ tells
+
+  dropped_records : (bodies : List (List ℕ)) → HasRecords M old bodies → HasRecords M dropped bodies
+  dropped_records bodies has = let fold = keeps.2 bodies (start bodies has) in drops bodies fold.0 fold.1
+
+  pub dropped_of : (end : End) → IsJournalOf M end old → IsJournalOf M end dropped
+  dropped_of = journal_kept M old dropped dropped_gate dropped_version (λ none. closed) dropped_tells dropped_records
+
+  pub dropped_with : (end : End) (places : List Spot) → IsJournalWith M end places old → IsJournalWith M end places dropped
+  dropped_with = with_kept M old dropped dropped_gate dropped_version (λ none. closed) dropped_tells dropped_records
+
+-- the endpoint's count of confirmed entries
+pub confirmed_within : (end : End) → IsReached end → end.confirmed ≤ length end.inbox
+confirmed_within end reached = (reached_sound end reached).inbox.came
 
 -- a whole fold
 module _ {D : Type 0} (M : DiskMeaning D) (old started added : Journal D) (bodies : List (List ℕ)) (starts : LeavesOnly M old.disk started.disk (InVersion old.version (OpensSettled bodies))) (adds : LeavesOnly M started.disk added.disk (InVersion started.version (OpensSettled bodies))) (same : started.version ≡ old.version) (end : End) (size : ℕ) where

@@ -1,5 +1,10 @@
 mod AddingLemmas
-mod ReadingLemmas
+mod FetchLemmas
 mod FoldingLemmas
+pub mod KeepingLemmas
+mod MoveLemmas
+mod OpenEntryLemmas
 mod OpeningLemmas
+pub mod PayloadLemmas
+mod ReadingLemmas
 pub mod RunLemmas

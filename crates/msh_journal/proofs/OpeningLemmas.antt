@@ -22,12 +22,14 @@ use Rattle.journal.proofs.JournalLaws.{keeps_lists, keeps_reopens, keeps_version
 use Rattle.journal.proofs.LeafLemmas.{magics_differ}
 use Rattle.journal.proofs.OtherLemmas.{first_weaken}
 use Rattle.journal.proofs.StoreLemmas.{keeps_pending, keeps_records, lists_once, magic_in, whole_lists}
-use Rattle.msh_recovery.specs.Opens.{HasPendingEnd, IsAt, IsFoldedOf, IsJournalOf, IsMigrated, IsOld, OpensAs, OpensBy, OpensOnly, OpensWith, ReadsAs, ReopensAs}
+use Rattle.msh_recovery.specs.Opens.{HasPendingEnd, IsAt, IsFoldedOf, IsMigrated, IsOld, OpensAs, OpensBy, OpensOnly, OpensWith, ReadsAs, ReopensAs}
 use Rattle.msh_recovery.specs.Records.{RecordsLead}
 use Rattle.msh_recovery.specs.Unfit.{IsNoJournal}
 use Rattle.msh_recovery.proofs.OpenLemmas.{opens_weaker, reopens_as, settled_opens}
 use Rattle.msh_recovery.proofs.RecordLemmas.{HasOneBody, one_end}
 use Rattle.msh_recovery.proofs.SizeLemmas.{front_len, size_of_end}
+use Rattle.inbox.specs.Spots.{Spot}
+use Rattle.msh_journal.specs.Payloads.{HasPayloads, IsJournalWith}
 use Rattle.msh_journal.specs.Reading.{HasReplayedAll}
 use Rattle.msh_journal.proofs.RunLemmas.{first_all, first_then_next}
 
@@ -171,29 +173,37 @@ module _ {D : Type 0} (M : DiskMeaning D) where
     opened_end end other reads was_one was_two =
         (reads_kept b d end keeps reads, λ old. was_one (old_version old), λ young. was_two (young_version young))
 
+  -- a journal of which all was read has the payloads
+  pub all_held : (first now : Journal D) (end : End) (places : List Spot) (bodies : List (List ℕ)) → HasReplayedAll M first now end places bodies
+      → Told (M.seen now.disk) (λ b. HasRead M first []) → HasPayloads M end places now
+  all_held first now end places bodies all read b told = (bodies, all.records (read b told), all.held)
+
   -- a journal of version 2 of which all was read
-  pub whole_journal : (first now : Journal D) (end : End) (bodies : List (List ℕ)) → HasReplayedAll M first now end bodies → now.version ≡ Two → IsNone first.fold
-      → Told (M.seen now.disk) (λ b. HasRead M first []) → IsJournalOf M end now
-  whole_journal first now end bodies all two none read =
+  pub whole_journal : (first now : Journal D) (end : End) (places : List Spot) (bodies : List (List ℕ)) → HasReplayedAll M first now end places bodies → now.version ≡ Two → IsNone first.fold
+      → Told (M.seen now.disk) (λ b. HasRead M first []) → IsJournalWith M end places now
+  whole_journal first now end places bodies all two none read =
       let P : Version → Type 0 = λ v. now.gate ≡ length (front_of v bodies) in
       let place : now.gate ≡ length (front_of Two bodies) = subst P two all.place in
       record {
-        version = two;
-        no_fold = subst IsNone (sym all.fold) none;
-        size = omega (arith, place, size_of_end bodies end all.leads);
-        records = λ b told. (bodies, all.records (read b told), all.leads);
+        is = record {
+          version = two;
+          no_fold = subst IsNone (sym all.fold) none;
+          size = omega (arith, place, size_of_end bodies end all.leads);
+          records = λ b told. (bodies, all.records (read b told), all.leads);
+        };
+        held = all_held first now end places bodies all read;
       }
 
   -- and its end is the one that was read
-  pub read_end : (first now : Journal D) (end : End) (bodies : List (List ℕ)) → HasReplayedAll M first now end bodies → now.version ≡ Two → HasRead M first []
+  pub read_end : (first now : Journal D) (end : End) (places : List Spot) (bodies : List (List ℕ)) → HasReplayedAll M first now end places bodies → now.version ≡ Two → HasRead M first []
       → Told (M.seen first.disk) (λ b. (x : End) × ReadsAs b x × (first.version ≡ One → (size : ℕ) × IsFoldedSize x size × (end ≡ resized size x)) × (first.version ≡ Two → end ≡ x))
-  read_end first now end bodies all two has b told =
+  read_end first now end places bodies all two has b told =
       (end, (bodies, all.all has b told, all.leads), λ was. let differs : One ≡ Two = sym was ∙ sym all.version ∙ two in absurd cc, λ was. refl)
 
   -- of version 1, and the fold is short
-  pub short_fold : (first now : Journal D) (end : End) (bodies : List (List ℕ)) → HasReplayedAll M first now end bodies → now.version ≡ One
+  pub short_fold : (first now : Journal D) (end : End) (places : List Spot) (bodies : List (List ℕ)) → HasReplayedAll M first now end places bodies → now.version ≡ One
       → (size : ℕ) → size ≤ 29 + 4 * sum_by length bodies → size < 2 ^ 32
-  short_fold first now end bodies all one size most =
+  short_fold first now end places bodies all one size most =
       let P : Version → Type 0 = λ v. now.gate ≡ length (front_of v bodies) in
       let Q : Version → Type 0 = λ v. now.gate < limit_of v in
       let place : now.gate ≡ length (front_of One bodies) = subst P one all.place in
@@ -201,10 +211,10 @@ module _ {D : Type 0} (M : DiskMeaning D) where
       omega (arith, place, within, front_len One bodies, most)
 
   -- and its fold gives the end with another size
-  pub folded_end : (first now : Journal D) (end new : End) (bodies : List (List ℕ)) → HasReplayedAll M first now end bodies → now.version ≡ One
+  pub folded_end : (first now : Journal D) (end new : End) (places : List Spot) (bodies : List (List ℕ)) → HasReplayedAll M first now end places bodies → now.version ≡ One
       → ((size : ℕ) → IsFoldedSize end size → new ≡ resized size end) → HasRead M first []
       → Told (M.seen first.disk) (λ b. (x : End) × ReadsAs b x × (first.version ≡ One → (size : ℕ) × IsFoldedSize x size × (new ≡ resized size x)) × (first.version ≡ Two → new ≡ x))
-  folded_end first now end new bodies all one law has b told =
+  folded_end first now end new places bodies all one law has b told =
       let size = has_folded_size bodies end all.leads in
       (end, (bodies, all.all has b told, all.leads), λ was. (size.0, size.1, law size.0 size.1), λ two. let differs : One ≡ Two = sym one ∙ all.version ∙ two in absurd cc)
 

@@ -23,7 +23,10 @@ use Rattle.msh_recovery.specs.Records.{RecordLeads, RecordsLead}
 use Rattle.msh_recovery.specs.Unfit.{IsNoJournal, IsUnfit}
 use Rattle.msh_recovery.proofs.RecordLemmas.{lead_more}
 use Rattle.msh_recovery.proofs.SizeLemmas.{front_len, size_of_end}
+use Rattle.inbox.specs.Spots.{Spot}
+use Rattle.msh_journal.specs.Payloads.{HoldsPayloads}
 use Rattle.msh_journal.specs.Reading.{HasReplayed, ReadsOn}
+use Rattle.msh_journal.proofs.PayloadLemmas.{brings_leads, payloads_more, payloads_none}
 
 -- a record that the leaf has is within what an end's journal may have
 pub room_led : (version : Version) (bodies : List (List ℕ)) (end : End) (gate len : ℕ) → RecordsLead bodies empty_end end → gate ≡ length (front_of version bodies)
@@ -38,11 +41,12 @@ len_of_record effects body bytes = ap (λ (b : List ℕ). length b + 9) (sym byt
 
 module _ {D : Type 0} (M : DiskMeaning D) where
   -- before the first record
-  pub read_none : (first : Journal D) → first.gate ≡ 8 → HasReplayed M first first empty_end []
+  pub read_none : (first : Journal D) → first.gate ≡ 8 → HasReplayed M first first empty_end [] []
   read_none first gate =
       let magic : length (front_of first.version []) ≡ 8 = ap (λ (l : List ℕ). length l) (front_none first.version) ∙ length-magic first.version in
       record {
         leads = refl;
+        held = payloads_none first.version;
         version = refl;
         fold = refl;
         place = gate ∙ sym magic;
@@ -56,15 +60,17 @@ module _ {D : Type 0} (M : DiskMeaning D) where
       first_place Two gate is = omega (arith, is)
 
   -- and one more
-  pub read_on : (first old new : Journal D) (start end : End) (bodies : List (List ℕ)) → HasReplayed M first old start bodies → (on : ReadsOn M old new start end)
-      → HasReplayed M first new end (bodies ++ on.body ∷ [])
-  read_on first old new start end bodies so_far on =
+  pub read_on : (first old new : Journal D) (start end : End) (before after : List Spot) (bodies : List (List ℕ)) → HasReplayed M first old start before bodies
+      → (on : ReadsOn M old new start before end after) → HasReplayed M first new end after (bodies ++ on.body ∷ [])
+  read_on first old new start end before after bodies so_far on =
       let P : Version → Type 0 = λ v. new.gate ≡ length (front_of v (bodies ++ on.body ∷ [])) in
       let Q : Version → Type 0 = λ v. new.gate < limit_of v in
+      let H : Version → Type 0 = λ v. HoldsPayloads v (bodies ++ on.body ∷ []) end after in
       let here : new.gate ≡ length (front_of old.version (bodies ++ on.body ∷ [])) =
       omega (arith, on.gate, so_far.place, length-front_more old.version bodies on.body) in
       record {
-        leads = lead_more bodies on.body empty_end start end so_far.leads on.leads;
+        leads = lead_more bodies on.body empty_end start end so_far.leads (brings_leads on.body old.gate start end before after on.brings);
+        held = subst H (sym on.version) (payloads_more old.version bodies on.body old.gate start end before after so_far.held on.brings so_far.place);
         version = on.version ∙ so_far.version;
         fold = on.fold ∙ so_far.fold;
         place = subst P (sym on.version) here;
@@ -112,9 +118,9 @@ module _ {D : Type 0} (M : DiskMeaning D) where
       (λ c left. keeps_reopens b c (inl ((settled_left M first.disk first.is_second leaf c has.settled (only_now first.disk c left)).2 ∙ sym here)))
 
   -- and while one more is read
-  pub run_on : (first old new : Journal D) (end : End) (bodies : List (List ℕ)) → HasReplayed M first old end bodies
+  pub run_on : (first old new : Journal D) (end : End) (places : List Spot) (bodies : List (List ℕ)) → HasReplayed M first old end places bodies
       → (HasRead M first [] → Told (M.seen first.disk) (λ b. LeavesOnly M first.disk old.disk (Reopens b)))
       → ((read : List (List ℕ)) → HasRead M old read → Told (M.seen old.disk) (λ b. LeavesOnly M old.disk new.disk (Reopens b)))
       → HasRead M first [] → Told (M.seen first.disk) (λ b. LeavesOnly M first.disk new.disk (Reopens b))
-  run_on first old new end bodies so_far run next has b told =
+  run_on first old new end places bodies so_far run next has b told =
       then M first.disk old.disk new.disk (Reopens b) (run has b told) (next bodies (so_far.read has) b (so_far.told ∙ told))

@@ -1,5 +1,5 @@
 -- Runs of device calls behind one another.
-use Rattle.std.proofs.Common.{◌≡◌, inl, inr, ℕ, Option, Some, None, is_some, refl}
+use Rattle.std.proofs.Common.{◌≡◌, inl, inr, Option, Some, None, is_some, refl}
 use Rattle.as4_disk.specs.declared.disk.Disk.{Ghosts as DiskMeaning}
 use Rattle.as4_disk.specs.Image.{Image}
 use Rattle.as4_disk.specs.Leaving.{FirstThen, LeavesOnly, Quiet}

@@ -1,3 +1,6 @@
-pub mod Frames
-pub mod Reading
 pub mod Adding
+pub mod Fetching
+pub mod Frames
+pub mod Keeping
+pub mod Payloads
+pub mod Reading

@@ -1,8 +1,9 @@
-//! How the journal of an end is opened.
+//! How the journal of an endpoint is opened.
 ghost use Rattle.std.specs.Prelude.{◌≡◌, ℕ, [], IfErr, IfOk, IsNone, OnOk, is_some};
 ghost use Rattle.as4_disk.specs.Leaving.{FirstThen, LeavesOnly, Quiet};
 ghost use Rattle.as4_flow.specs.Flow.{Told};
-ghost use Rattle.msh_recovery.specs.Opens.{IsJournalOf, IsOld, ReadsAs, ReopensAs};
+ghost use Rattle.msh_journal.specs.Payloads.{IsJournalWith};
+ghost use Rattle.msh_recovery.specs.Opens.{IsOld, ReadsAs, ReopensAs};
 ghost use Rattle.msh_recovery.specs.Unfit.{IsNoJournal};
 ghost use Rattle.exchange_model.specs.End.{End, empty_end};
 ghost use Rattle.exchange_model.specs.Fold.{IsFoldedSize, resized};
@@ -12,7 +13,7 @@ ghost use Rattle.journal.specs.State.{HasRead};
 ghost use Rattle.journal.specs.Store.{picked_leaf};
 ghost use Rattle.journal.specs.declared.version.Version.TheVariants.{One, Two};
 
-use crate::folding::fold_end;
+use crate::folding::{Compaction, fold_end};
 use crate::reading::read_all;
 use as4_disk::Disk;
 use event_code::one_body;
@@ -25,17 +26,17 @@ use std::alloc::Global;
 /// The version of a journal that is appended to.
 const WRITTEN_VERSION: u8 = 2;
 
-/// Opens the journal of an end, and gives the end that its records lead to. A journal of version 1 is folded into one of
-/// version 2 first.
+/// Opens the journal of an endpoint, and gives the endpoint that its records lead to. A journal of version 1 is compacted
+/// into one of version 2 first.
 pub fn open_end<D: Disk>(
     alloc: Global,
     disk: D,
     modes: Modes,
 ) -> Result<(Journal<D>, Core), (JournalFault, D)>
-    ensures kept { IfOk result (λ opened. IsJournalOf D.Disk opened.1.end opened.0) }
+    ensures kept { IfOk result (λ opened. IsJournalWith D.Disk opened.1.end opened.1.places opened.0) }
     ensures modes { IfOk result (λ opened. opened.1.modes ≡ modes) }
 
-    // The end is that of the records as the disk read; where the leaf was of version 1, its journal was folded.
+    // The endpoint is that of the records as the disk read; where the leaf was of version 1, its journal was compacted.
     ensures end { IfOk result (λ opened. Told (D.seen disk) (λ b. (end : End) × ReadsAs b end
         × (IsOld (picked_leaf b) → (size : ℕ) × IsFoldedSize end size × (opened.1.end ≡ resized size end))
         × (¬ IsOld (picked_leaf b) → opened.1.end ≡ end))) }
@@ -74,16 +75,17 @@ pub fn open_end<D: Disk>(
     }
 }
 
-/// Reads all records, and folds the journal where it has version 1.
+/// Reads all records, and compacts the journal where it has version 1.
 fn bring_up<D: Disk>(
     alloc: Global,
     journal: &mut Journal<D>,
     core: &mut Core,
 ) -> Result<(), JournalFault>
-    requires new { (core.old.end ≡ empty_end) × (journal.old.gate ≡ 8) × IsNone journal.old.fold }
+    requires new { (core.old.end ≡ empty_end) × (core.old.places ≡ []) × (journal.old.gate ≡ 8)
+        × IsNone journal.old.fold }
     requires read { Told (D.seen journal.old.disk) (λ _. HasRead D.Disk journal.old []) }
     requires version { Told (D.seen journal.old.disk) (λ b. IsNew (picked_leaf b) → journal.old.version ≡ Two) }
-    ensures kept { OnOk result (IsJournalOf D.Disk core.new.end journal.new) }
+    ensures kept { OnOk result (IsJournalWith D.Disk core.new.end core.new.places journal.new) }
     ensures modes { core.new.modes ≡ core.old.modes }
     ensures end { OnOk result (HasRead D.Disk journal.old [] → Told (D.seen journal.old.disk) (λ b. (end : End)
         × ReadsAs b end
@@ -95,7 +97,7 @@ fn bring_up<D: Disk>(
         → HasRead D.Disk journal.old [] → Told (D.seen journal.old.disk) (λ b.
         IsNoJournal at (picked_leaf b))) }
     ensures untouched { IfErr result (λ e. (at : ℕ) → e ≡ JournalFault.NotJournal at
-        → Quiet D.Disk journal.old.disk journal.new.disk) }
+        → Told (D.seen journal.old.disk) (λ _. Quiet D.Disk journal.old.disk journal.new.disk)) }
     ensures faults { IfErr result IsOpeningFault }
     ensures counts { CountsFault D.Disk journal.old.disk journal.new.disk result }
 {
@@ -105,5 +107,8 @@ fn bring_up<D: Disk>(
     }
     one_body();
     a_fold_of_few_bytes_is_short();
-    fold_end(alloc, journal, core)
+    match fold_end(alloc, journal, core)? {
+        Compaction::Done => Ok(()),
+        Compaction::Lost { gate } => Err(JournalFault::NotJournal { at: gate }),
+    }
 }

@@ -1,8 +1,8 @@
-//! How the records of a journal are read, and their effects made again.
+//! How the records of a journal are read, and their effects replayed.
 ghost use Rattle.std.specs.Prelude.{◌≡◌, ℕ, ◌+◌, ◌≤◌, ◌^◌, List, [], IfErr, IfOk, OnOk, length, true, false};
 ghost use Rattle.as4_disk.specs.Leaving.{LeavesOnly, Quiet};
 ghost use Rattle.as4_flow.specs.Flow.{Told};
-ghost use Rattle.msh_journal.specs.Reading.{EndsReading, HasReplayedAll, ReadsOn};
+ghost use Rattle.msh_journal.specs.Reading.{EndsReading, HasReplayedAll, ReadsOn, RecordBrings};
 ghost use Rattle.msh_recovery.specs.Records.{RecordLeads, RecordsLead};
 ghost use Rattle.msh_recovery.specs.Unfit.{IsNoJournal};
 ghost use Rattle.exchange_model.specs.End.{End, empty_end};
@@ -18,15 +18,15 @@ use journal::{Journal, JournalFault};
 use msh_core::{Core, ReplayRefusal};
 use std::alloc::Global;
 
-/// Reads all records of a journal of which none was read, and makes their effects again on a new core.
+/// Reads all records of a journal of which none was read, and replays their effects on a new core.
 pub(crate) fn read_all<D: Disk>(
     alloc: Global,
     journal: &mut Journal<D>,
     core: &mut Core,
 ) -> Result<(), JournalFault>
-    requires new { (core.old.end ≡ empty_end) × (journal.old.gate ≡ 8) }
+    requires new { (core.old.end ≡ empty_end) × (core.old.places ≡ []) × (journal.old.gate ≡ 8) }
     ensures read { OnOk result ((bodies : List (List ℕ))
-        × HasReplayedAll D.Disk journal.old journal.new core.new.end bodies) }
+        × HasReplayedAll D.Disk journal.old journal.new core.new.end core.new.places bodies) }
     ensures modes { core.new.modes ≡ core.old.modes }
     ensures any_moment { HasRead D.Disk journal.old [] → Told (D.seen journal.old.disk) (λ b.
         LeavesOnly D.Disk journal.old.disk journal.new.disk (Reopens b)) }
@@ -42,7 +42,7 @@ pub(crate) fn read_all<D: Disk>(
     Ok(())
 }
 
-/// Reads the next record and makes its effects again. False at the closed gate.
+/// Reads the next record and replays its effects. False at the closed gate.
 fn replay_next<D: Disk>(
     alloc: Global,
     journal: &mut Journal<D>,
@@ -51,11 +51,12 @@ fn replay_next<D: Disk>(
     requires led { (bodies : List (List ℕ)) × RecordsLead bodies empty_end core.old.end
         × (journal.old.gate ≡ length (front_of journal.old.version bodies)) }
     ensures more { IfOk result (λ more. more ≡ true
-        → ReadsOn D.Disk journal.old journal.new core.old.end core.new.end) }
+        → ReadsOn D.Disk journal.old journal.new core.old.end core.old.places core.new.end core.new.places) }
     ensures quiet { IfOk result (λ more. more ≡ true
         → Quiet D.Disk journal.old.disk journal.new.disk) }
     ensures done { IfOk result (λ more. more ≡ false
-        → EndsReading D.Disk journal.old journal.new × (core.new.end ≡ core.old.end)) }
+        → EndsReading D.Disk journal.old journal.new × (core.new.end ≡ core.old.end)
+        × (core.new.places ≡ core.old.places)) }
     ensures modes { core.new.modes ≡ core.old.modes }
     ensures any_moment { (bodies : List (List ℕ)) → HasRead D.Disk journal.old bodies
         → Told (D.seen journal.old.disk) (λ b.
@@ -72,7 +73,7 @@ fn replay_next<D: Disk>(
     let Some((gate, body)) = journal.next_record(alloc)? else {
         return Ok(false);
     };
-    let led = replay(alloc, core, body.bytes());
+    let led = replay(alloc, core, body.bytes(), gate);
     drop(body);
     match led {
         Ok(true) => Ok(true),
@@ -81,10 +82,11 @@ fn replay_next<D: Disk>(
     }
 }
 
-/// Makes the effects of a record again. False where its body isn't that of effects, or they don't fit.
-fn replay(alloc: Global, core: &mut Core, body: &[u8]) -> Result<bool, NoMemory>
+/// Replays the effects of the record at this gate. False where its body isn't that of effects, or they don't fit.
+fn replay(alloc: Global, core: &mut Core, body: &[u8], gate: u64) -> Result<bool, NoMemory>
     requires room { core.old.end.size + (length body.now + 9) ≤ 2 ^ 32 }
-    ensures led { IfOk result (λ led. led ≡ true → RecordLeads body.now core.old.end core.new.end) }
+    ensures led { IfOk result (λ led. led ≡ true
+        → RecordBrings body.now gate core.old.end core.old.places core.new.end core.new.places) }
     ensures unfit { IfOk result (λ led. led ≡ false → (next : End) → RecordLeads body.now core.old.end next → ⊥) }
     ensures modes { core.new.modes ≡ core.old.modes }
 {
@@ -94,7 +96,7 @@ fn replay(alloc: Global, core: &mut Core, body: &[u8]) -> Result<bool, NoMemory>
         Err(BodyRefusal::NotBody) => return Ok(false),
         Err(BodyRefusal::NoMemory) => return Err(NoMemory),
     };
-    match core.replay(effects) {
+    match core.replay(effects, gate) {
         Ok(()) => Ok(true),
         Err(ReplayRefusal::Unfit { .. }) => Ok(false),
         Err(ReplayRefusal::NoMemory) => Err(NoMemory),

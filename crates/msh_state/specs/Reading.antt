@@ -1,13 +1,15 @@
 -- The result of reading an inbox at a number.
-use Rattle.std.specs.Prelude.{◌≡◌, ℕ, ◌<◌, ◌≤◌, Some, length, slice_get}
-use Rattle.exchange_model.specs.End.{End}
+use Rattle.std.specs.Prelude.{◌≡◌, ℕ, ◌<◌, ◌≤◌, Some, length, option_map, slice_get}
 use Rattle.inbox.specs.declared.held.Held.{Held}
 use Rattle.inbox.specs.declared.held.Held.TheVariants as held
+use Rattle.msh_state.specs.Rooms.{TablesState}
 
--- confirmed entries are gone, and past the last there is none
-abbrev pub IsRead : End → ℕ → Held → Type 0
-IsRead end n held.Gone = n < end.confirmed
-IsRead end n held.NoEntry = (end.confirmed ≤ n) × (length end.inbox ≤ n)
-IsRead end n (held.Entry header payloads) =
-    (end.confirmed ≤ n)
-    × (slice_get end.inbox n ≡ Some (record { header = header.now; payloads = payloads.now }))
+-- Confirmed entries are gone, and past the last there is none. Of the others the header is read, and where the payloads
+-- are.
+abbrev pub IsRead : TablesState → ℕ → Held → Type 0
+IsRead tables n held.Gone = n < tables.end.confirmed
+IsRead tables n held.NoEntry = (tables.end.confirmed ≤ n) × (length tables.end.inbox ≤ n)
+IsRead tables n (held.Entry header gate len) =
+    (tables.end.confirmed ≤ n)
+    × (option_map (λ entry. entry.header) (slice_get tables.end.inbox n) ≡ Some header.now)
+    × (slice_get tables.places n ≡ Some (record { gate = gate; length = len }))

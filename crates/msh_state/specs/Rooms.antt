@@ -1,5 +1,5 @@
--- The room that an endpoint's tables have.
-use Rattle.std.specs.Prelude.{◌≡◌, ℕ, List, Option, Some, None, IsSome}
+-- The state of an endpoint's tables, and the room that they have.
+use Rattle.std.specs.Prelude.{◌≡◌, ℕ, List, [], Option, Some, None, IsSome}
 use Rattle.as4_effects.specs.declared.effect.Effect.{Effect}
 use Rattle.as4_effects.specs.declared.effect.Effect.TheVariants as effect
 use Rattle.as4_effects.specs.declared.submission.Submission.{Submission}
@@ -9,6 +9,7 @@ use Rattle.channels.specs.declared.waiting.Place.{Place}
 use Rattle.exchange_model.specs.End.{End, empty_end}
 use Rattle.exchange_model.specs.Questions.{queue_of, sent_at}
 use Rattle.exchange_model.specs.declared.sent.Sent.{Sent}
+use Rattle.inbox.specs.Spots.{Spot}
 
 -- the identifier that the next submission may have, the queue and number that may wait, and the identifier that the
 -- next delivery may have
@@ -17,13 +18,14 @@ pub record Rooms : Type 0 where
   pub channels : Option Place
   pub inbox : Option (List ℕ)
 
--- an endpoint, and the room of its tables
-pub record Kept : Type 0 where
+-- an endpoint, where the payloads of each received message are, and the room of its tables
+pub record TablesState : Type 0 where
   pub end : End
+  pub places : List Spot
   pub rooms : Rooms
 
-abbrev pub new_tables : Kept
-new_tables = record { end = empty_end; rooms = record { outbox = None; channels = None; inbox = None } }
+abbrev pub new_tables : TablesState
+new_tables = record { end = empty_end; places = []; rooms = record { outbox = None; channels = None; inbox = None } }
 
 abbrev pub queue_of_sent : Option Sent → Queue
 queue_of_sent None = queue.Push

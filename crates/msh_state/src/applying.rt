@@ -6,43 +6,46 @@
 //!     Receipted  it is settled, and no longer waits
 //!     Refused    the same
 //!     Ticked     the spent ones expire: none of these waits
-//!     Delivered  the inbox has one more
-//!     Confirmed  those up to and including a number lose their payloads
+//!     Delivered  the inbox has one more, whose payloads are in the record
+//!     Confirmed  the payloads of those up to and including a number no longer count
 //!     Carried    the outbox has one more, with its state, which waits if it may be sent again
 //!     Kept       the inbox has one more, which is confirmed
 //!
 //! The calls of `Outbox::len` are for its contract: each submission is at the place of its number.
 
-ghost use Rattle.std.specs.Prelude.{◌≡◌, None, Some, IsTrue};
+ghost use Rattle.std.specs.Prelude.{◌≡◌, ◌<◌, None, Some, IsTrue, length, set, slice_get};
 ghost use Rattle.channels.specs.Queues.{waiting_at, without};
 ghost use Rattle.msh_state.specs.Again.{with_again};
+ghost use Rattle.inbox.specs.Spots.{Spot};
+ghost use Rattle.msh_state.specs.Places.{delivery_len, places_after};
 ghost use Rattle.msh_state.specs.Rooms.{HasRoom, TakesNoRoom, queue_at, queue_for};
 ghost use Rattle.msh_state.specs.Waiting.{waiting_in};
 ghost use Rattle.exchange_model.specs.Apply.{after, is_fit};
 ghost use Rattle.exchange_model.specs.Questions.{sent_at};
 
-use crate::standing;
 use crate::tables::EndTables;
-use as4_effects::{Carried, Delivery, Effect, Kept, Queue, Submission, Tick};
+use crate::waiting;
+use as4_effects::{Carried, Delivery, Effect, Kept, Measured, Queue, Submission, Tick};
 use as4_values::Code;
 use channels::Channels;
 use outbox::Outbox;
 
 impl EndTables {
-    /// Applies an effect. Takes no memory.
-    #[tactic(auto, unfolding(crate::specs::Rooms::TakesNoRoom))]
-    pub fn apply(&mut self, effect: Effect, queue: &Queue)
+    /// Applies an effect of the record at this gate. Takes no memory.
+    #[tactic(auto, unfolding(crate::specs::Rooms::TakesNoRoom, crate::specs::Places::places_after))]
+    pub fn apply(&mut self, effect: Effect, queue: &Queue, gate: u64)
         requires fit { IsTrue (is_fit effect self.old.end) }
         requires room { HasRoom self.old.rooms self.old.end.sent effect }
         requires queue { queue.now ≡ queue_for self.old.end.sent effect }
         ensures end { self.new.end ≡ after effect self.old.end }
+        ensures places { self.new.places ≡ places_after effect gate self.old.places }
         ensures rooms { TakesNoRoom effect → self.new.rooms ≡ self.old.rooms }
     {
         match effect {
             Effect::Submitted(submission) => self.submit(submission, queue),
             Effect::Ticked(tick) => self.tick(tick),
             Effect::Tried { number } => self.send_again(number, queue),
-            Effect::Delivered(delivery) => self.deliver(delivery),
+            Effect::Delivered(delivery) => self.deliver(delivery, gate),
             Effect::Receipted { number } => self.receipt(number, queue),
             Effect::Refused { number, code } => self.refuse(number, code, queue),
             Effect::Confirmed { upto } => self.confirm(upto),
@@ -56,7 +59,8 @@ impl EndTables {
         requires fit { IsTrue (is_fit (Effect.Carried carried) self.old.end) }
         requires room { HasRoom self.old.rooms self.old.end.sent (Effect.Carried carried) }
         requires queue { queue.now ≡ queue_for self.old.end.sent (Effect.Carried carried) }
-        ensures { self.new.end ≡ after (Effect.Carried carried) self.old.end }
+        ensures end { self.new.end ≡ after (Effect.Carried carried) self.old.end }
+        ensures places { self.new.places ≡ self.old.places }
     {
         let number = carried.submission.number;
         let _numbered = self.outbox.len();
@@ -64,11 +68,12 @@ impl EndTables {
         put_back(&self.outbox, &mut self.channels, queue, number);
     }
 
-    #[tactic(auto, unfolding(exchange_model::specs::Apply::after, exchange_model::specs::Apply::is_fit, crate::specs::Rooms::HasRoom))]
+    #[tactic(auto, unfolding(exchange_model::specs::Apply::after, exchange_model::specs::Apply::is_fit, crate::specs::Rooms::HasRoom, crate::specs::Places::places_after))]
     fn keep(&mut self, kept: Kept)
         requires fit { IsTrue (is_fit (Effect.Kept kept) self.old.end) }
         requires room { HasRoom self.old.rooms self.old.end.sent (Effect.Kept kept) }
-        ensures { self.new.end ≡ after (Effect.Kept kept) self.old.end }
+        ensures end { self.new.end ≡ after (Effect.Kept kept) self.old.end }
+        ensures places { self.new.places ≡ places_after (Effect.Kept kept) 0 self.old.places }
     {
         let Kept { header } = kept;
         self.inbox.keep(header);
@@ -79,7 +84,8 @@ impl EndTables {
         requires fit { IsTrue (is_fit (Effect.Submitted submission) self.old.end) }
         requires room { HasRoom self.old.rooms self.old.end.sent (Effect.Submitted submission) }
         requires queue { queue.now ≡ queue_for self.old.end.sent (Effect.Submitted submission) }
-        ensures { self.new.end ≡ after (Effect.Submitted submission) self.old.end }
+        ensures end { self.new.end ≡ after (Effect.Submitted submission) self.old.end }
+        ensures places { self.new.places ≡ self.old.places }
     {
         let number = submission.number;
         let _numbered = self.outbox.len();
@@ -91,6 +97,7 @@ impl EndTables {
     fn tick(&mut self, tick: Tick)
         requires { IsTrue (is_fit (Effect.Ticked tick) self.old.end) }
         ensures end { self.new.end ≡ after (Effect.Ticked tick) self.old.end }
+        ensures places { self.new.places ≡ self.old.places }
         ensures rooms { self.new.rooms ≡ self.old.rooms }
     {
         let _failed = self.outbox.fail_spent(tick.moment);
@@ -102,7 +109,8 @@ impl EndTables {
         requires fit { IsTrue (is_fit (Effect.Tried number) self.old.end) }
         requires room { HasRoom self.old.rooms self.old.end.sent (Effect.Tried number) }
         requires queue { queue.now ≡ queue_for self.old.end.sent (Effect.Tried number) }
-        ensures { self.new.end ≡ after (Effect.Tried number) self.old.end }
+        ensures end { self.new.end ≡ after (Effect.Tried number) self.old.end }
+        ensures places { self.new.places ≡ self.old.places }
     {
         let _numbered = self.outbox.len();
         take_out(&self.outbox, &mut self.channels, queue, number);
@@ -110,14 +118,16 @@ impl EndTables {
         put_back(&self.outbox, &mut self.channels, queue, number);
     }
 
-    #[tactic(auto, unfolding(exchange_model::specs::Apply::after, exchange_model::specs::Apply::is_fit, crate::specs::Rooms::HasRoom))]
-    fn deliver(&mut self, delivery: Delivery)
+    #[tactic(auto, unfolding(exchange_model::specs::Apply::after, exchange_model::specs::Apply::is_fit, crate::specs::Rooms::HasRoom, crate::specs::Places::places_after))]
+    fn deliver(&mut self, delivery: Delivery, gate: u64)
         requires fit { IsTrue (is_fit (Effect.Delivered delivery) self.old.end) }
         requires room { HasRoom self.old.rooms self.old.end.sent (Effect.Delivered delivery) }
-        ensures { self.new.end ≡ after (Effect.Delivered delivery) self.old.end }
+        ensures end { self.new.end ≡ after (Effect.Delivered delivery) self.old.end }
+        ensures places { self.new.places ≡ places_after (Effect.Delivered delivery) gate self.old.places }
     {
+        let length = body_len(&delivery);
         let Delivery { header, payloads } = delivery;
-        self.inbox.commit(header, payloads);
+        self.inbox.commit(header, &payloads, gate, length);
     }
 
     #[tactic(auto, unfolding(exchange_model::specs::Apply::after, exchange_model::specs::Apply::is_fit, crate::specs::Rooms::queue_for))]
@@ -125,6 +135,7 @@ impl EndTables {
         requires fit { IsTrue (is_fit (Effect.Receipted number) self.old.end) }
         requires queue { queue.now ≡ queue_for self.old.end.sent (Effect.Receipted number) }
         ensures end { self.new.end ≡ after (Effect.Receipted number) self.old.end }
+        ensures places { self.new.places ≡ self.old.places }
         ensures rooms { self.new.rooms ≡ self.old.rooms }
     {
         let _numbered = self.outbox.len();
@@ -137,6 +148,7 @@ impl EndTables {
         requires fit { IsTrue (is_fit (Effect.Refused number code) self.old.end) }
         requires queue { queue.now ≡ queue_for self.old.end.sent (Effect.Refused number code) }
         ensures end { self.new.end ≡ after (Effect.Refused number code) self.old.end }
+        ensures places { self.new.places ≡ self.old.places }
         ensures rooms { self.new.rooms ≡ self.old.rooms }
     {
         let _numbered = self.outbox.len();
@@ -148,10 +160,30 @@ impl EndTables {
     fn confirm(&mut self, upto: u64)
         requires { IsTrue (is_fit (Effect.Confirmed upto) self.old.end) }
         ensures end { self.new.end ≡ after (Effect.Confirmed upto) self.old.end }
+        ensures places { self.new.places ≡ self.old.places }
         ensures rooms { self.new.rooms ≡ self.old.rooms }
     {
         self.inbox.confirm(upto);
     }
+
+    /// The payloads of the message of this number were moved: the record at this gate delivers it now.
+    pub fn moved(&mut self, n: u64, gate: u64)
+        requires { n < length self.old.places }
+        ensures end { self.new.end ≡ self.old.end }
+        ensures places { (p : Spot) → slice_get self.old.places n ≡ Some p
+            → self.new.places ≡ set self.old.places n (record p { gate = gate }) }
+        ensures rooms { self.new.rooms ≡ self.old.rooms }
+    {
+        self.inbox.moved(n, gate);
+    }
+}
+
+/// The length of a record's body that delivers this message alone.
+#[tactic(auto, using(crate::proofs::LengthLemmas::measured), unfolding(crate::specs::Places::delivery_len))]
+fn body_len(delivery: &Delivery) -> u64
+    ensures { result ≡ delivery_len delivery.now.header delivery.now.payloads }
+{
+    delivery.add_len(2)
 }
 
 /// Takes a submission out of its queue, if it waits there.
@@ -162,7 +194,7 @@ fn take_out(outbox: &Outbox, channels: &mut Channels, queue: &Queue, number: u64
     ensures room { channels.new.room ≡ channels.old.room }
 {
     let _numbered = outbox.len();
-    if standing::waits(outbox, number) {
+    if waiting::waits(outbox, number) {
         if let Some(due) = outbox.due(number) {
             channels.remove(queue, due, number);
         }
@@ -177,7 +209,7 @@ fn put_back(outbox: &Outbox, channels: &mut Channels, queue: &Queue, number: u64
     ensures { channels.new.waiting ≡ with_again (sent_at number outbox.now.sent) channels.old.waiting }
 {
     let _numbered = outbox.len();
-    if standing::waits(outbox, number) {
+    if waiting::waits(outbox, number) {
         if let Some(due) = outbox.due(number) {
             channels.insert(queue, due, number);
         }

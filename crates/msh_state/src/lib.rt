@@ -5,9 +5,9 @@ mod applying;
 mod questions;
 mod queues;
 mod reserving;
-mod standing;
 mod tables;
 mod totals;
+mod waiting;
 
 pub use inbox::Held;
 pub use queues::queue_for_kept;

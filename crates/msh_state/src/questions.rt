@@ -9,8 +9,8 @@ ghost use Rattle.exchange_model.specs.Apply.{after, are_tries, as_carried, is_fi
 ghost use Rattle.exchange_model.specs.Questions.{head_of, is_known, is_pending, sent_at, sent_of, standing_of};
 ghost use Rattle.outbox.specs.Submissions.{code_of};
 
-use crate::standing;
 use crate::tables::EndTables;
+use crate::waiting;
 use as4_effects::{Carried, Effect, Mark, Queue, Submission};
 use as4_values::{Code, MAX_MOMENT, MessageId, UserHeader};
 use exchange_model::Standing;
@@ -66,7 +66,7 @@ impl EndTables {
     pub fn is_pending(&self, number: u64) -> bool
         ensures { result ≡ is_one is_pending (sent_at number self.now.end.sent) }
     {
-        standing::is_pending(&self.outbox, number)
+        waiting::is_pending(&self.outbox, number)
     }
 
     /// The number of the queue's head: of the submissions that may be sent now, the one that is due first.
@@ -97,9 +97,9 @@ impl EndTables {
         self.inbox.holds(id)
     }
 
-    /// The received message of this number, from 0.
+    /// The received message of this number, from 0: its header, and where its payloads are.
     pub fn read(&self, n: u64) -> Held<'_>
-        ensures { IsRead self.now.end n result }
+        ensures { IsRead self.now n result }
     {
         let _within = self.inbox.confirmed();
         self.inbox.read(n)
@@ -120,10 +120,10 @@ impl EndTables {
         match effect {
             Effect::Submitted(submission) => self.is_next(submission),
             Effect::Ticked(tick) => self.moment < tick.moment,
-            Effect::Tried { number } => standing::waits(&self.outbox, *number),
+            Effect::Tried { number } => waiting::waits(&self.outbox, *number),
             Effect::Delivered(delivery) => !self.inbox.holds(&delivery.header.id),
-            Effect::Receipted { number } => standing::is_pending(&self.outbox, *number),
-            Effect::Refused { number, .. } => standing::is_pending(&self.outbox, *number),
+            Effect::Receipted { number } => waiting::is_pending(&self.outbox, *number),
+            Effect::Refused { number, .. } => waiting::is_pending(&self.outbox, *number),
             Effect::Confirmed { upto } => {
                 self.inbox.confirmed() <= *upto && *upto < self.inbox.len()
             }

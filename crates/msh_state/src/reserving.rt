@@ -16,6 +16,7 @@ impl EndTables {
         requires there { IsThere self.old.end.sent effect.now }
         ensures ok { OnOk result (HasRoom self.new.rooms self.new.end.sent effect.now) }
         ensures end { self.new.end ≡ self.old.end }
+        ensures places { self.new.places ≡ self.old.places }
     {
         match effect {
             Effect::Submitted(submission) => self.reserve_submission(submission),
@@ -33,6 +34,7 @@ impl EndTables {
         ensures channels { OnOk result (self.new.rooms.channels
             ≡ Some (record { queue = queue_of submission.now.route; number = submission.now.number })) }
         ensures end { self.new.end ≡ self.old.end }
+        ensures places { self.new.places ≡ self.old.places }
     {
         let queue = queue_of(self.alloc, &submission.route)?;
         self.outbox.reserve(&submission.header.id)?;
@@ -46,6 +48,7 @@ impl EndTables {
         ensures ok { OnOk result (self.new.rooms.channels
             ≡ Some (record { queue = queue_at number self.old.end.sent; number = number })) }
         ensures end { self.new.end ≡ self.old.end }
+        ensures places { self.new.places ≡ self.old.places }
     {
         let queue = self.queue_at(number)?;
         self.channels.reserve(&queue, number)?;

@@ -2,7 +2,7 @@
 //!
 //!     outbox    each submission at the place of its number, with its state
 //!     channels  the waiting ones of these, with their queues and their due moments
-//!     inbox     each received message, by number
+//!     inbox     each received message, by number, and where its payloads are
 
 ghost use Rattle.std.specs.Prelude.{◌≡◌, ◌+◌, ◌≤◌, length};
 ghost use Rattle.msh_state.specs.Rooms.{new_tables};
@@ -21,7 +21,8 @@ pub const MAX_SIZE: u64 = 1 << 32;
 
 const _: () = prove!(MAX_SIZE == 4294967296);
 
-/// The tables of one endpoint. Contracts see a `Kept`: the endpoint, and the room that the tables have.
+/// The tables of one endpoint. Contracts see a `TablesState`: the endpoint, where the
+/// payloads of each received message are, and the room that the tables have.
 #[derive(Drop)]
 pub struct EndTables {
     pub(crate) alloc: Global,
@@ -37,13 +38,14 @@ pub struct EndTables {
 
 impl Model for EndTables {
     ghost use Rattle.std.specs.Prelude.{◌≡◌, ◌≤◌};
-    ghost use Rattle.msh_state.specs.Rooms.{Kept};
+    ghost use Rattle.msh_state.specs.Rooms.{TablesState};
     ghost use Rattle.msh_state.specs.Waiting.{waiting_in};
 
-    ghost Value = { Kept };
+    ghost Value = { TablesState };
 
     ghost view = { λ t. record {
       end = record { sent = t.outbox.sent; inbox = t.inbox.entries; confirmed = t.inbox.confirmed; moment = t.moment; size = t.size };
+      places = t.inbox.places;
       rooms = record { outbox = t.outbox.room; channels = t.channels.room; inbox = t.inbox.room };
     } };
 
@@ -95,7 +97,8 @@ impl EndTables {
 
     /// The number of received messages.
     pub fn received(&self) -> u64
-        ensures { result ≡ length self.now.end.inbox }
+        ensures value { result ≡ length self.now.end.inbox }
+        ensures placed { result ≡ length self.now.places }
     {
         self.inbox.len()
     }
@@ -113,6 +116,7 @@ impl EndTables {
         requires begun { 9 ≤ size }
         requires limited { size ≤ MAX_SIZE }
         ensures end { self.new.end ≡ resized size self.old.end }
+        ensures places { self.new.places ≡ self.old.places }
         ensures rooms { self.new.rooms ≡ self.old.rooms }
     {
         self.size = size;
@@ -122,6 +126,7 @@ impl EndTables {
     pub fn grow(&mut self, by: u64)
         requires { self.old.end.size + by ≤ MAX_SIZE }
         ensures end { self.new.end ≡ record self.old.end { size = self.old.end.size + by } }
+        ensures places { self.new.places ≡ self.old.places }
         ensures rooms { self.new.rooms ≡ self.old.rooms }
     {
         self.size += by;

@@ -14,7 +14,6 @@ use Rattle.mode_values.specs.declared.mode.Mode.{Mode}
 use Rattle.as4_values.specs.declared.payload.Load.{Load}
 use Rattle.as4_values.specs.declared.header.UserHeader.{UserHeader}
 use Rattle.as4_values.specs.declared.message.Pair.{Pair}
-use Rattle.as4_values.specs.declared.payload.Payload.{Payload}
 use Rattle.as4_values.specs.declared.message.Message.{Message}
 use Rattle.as4_values.specs.declared.message.Message.TheVariants as message
 use Rattle.as4_values.specs.declared.route.Route.{Route}
@@ -24,8 +23,9 @@ use Rattle.exchange_model.specs.End.{End}
 use Rattle.exchange_model.specs.Questions.{head_of, is_spent, sent_at, standing_of}
 use Rattle.as4_codes.specs.Signals.{IsPullOf, IsPairOf}
 use Rattle.exchange_model.specs.Submitting.{IsSubmissionOf, address_of}
-use Rattle.exchange_model.specs.Table.{AsksBy, AsksWithBy, Gives, Rests, Takes, TakesIn, Ticks, message_of, standing_reply, mark_reply}
+use Rattle.exchange_model.specs.Table.{AsksBy, AsksWithBy, AsksWithEntry, Gives, Rests, Takes, TakesIn, Ticks, entry_reply, message_of, mark_reply, read_reply, standing_reply}
 use Rattle.exchange_model.specs.declared.event.Event.{Event}
+use Rattle.exchange_model.specs.declared.inbox_entry.InboxEntry.{InboxEntry}
 use Rattle.exchange_model.specs.declared.outcome.Outcome.{Outcome}
 use Rattle.exchange_model.specs.declared.reply.Reply.{Reply}
 use Rattle.exchange_model.specs.declared.reply.Reply.TheVariants as reply
@@ -35,6 +35,7 @@ use Rattle.exchange_model.specs.declared.sent.Sent.{Sent}
 use Rattle.exchange_model.specs.declared.sent.Standing.{Standing}
 use Rattle.exchange_model.specs.declared.sent.Standing.TheVariants as standing
 use Rattle.msh_transitions.specs.Free.{IsBare}
+use Rattle.msh_transitions.specs.Given.{bare_read, bare_reply}
 
 -- a queue with a head of this number, and the submission of the number
 a_head : (P : Type 0) (Q : Sent → Type 0) (o found : Option Sent) (number : ℕ) (submission : Submission)
@@ -128,11 +129,35 @@ asks_pull mpc address copied by event signal outcome is same pull rests =
     rw is (signal, pull, rests ∙ ap (λ a. record { effects = []; reply = reply.Request a (message.Signal signal) }) same)
 
 -- AskWith
-pub asks_pair : (by : Route) (end : End) (event : Event) (n : ℕ) (mpc address : List ℕ) (header : UserHeader) (payloads : List Payload) (outcome : Outcome)
-    → by ≡ route.Pull mpc address → end.confirmed ≤ n → slice_get end.inbox n ≡ Some (record { header = header; payloads = payloads })
+asks_headed : (header : UserHeader) (mpc address : List ℕ) (event : Event) (found : Option InboxEntry) (outcome : Outcome)
+    → option_map (λ (e : InboxEntry). e.header) found ≡ Some header
+    → (pair : Pair) × IsPairOf header mpc event.stamp event.nonce pair × Rests (reply.Request address (message.Pair pair)) outcome
+    → AsksWithEntry mpc address event found outcome
+asks_headed header mpc address event None outcome headed pair = absurd cc
+asks_headed header mpc address event (Some entry) outcome headed pair =
+    let same : header ≡ entry.header = cc in
+    (pair.0, subst (λ h. IsPairOf h mpc event.stamp event.nonce pair.0) same pair.1, pair.2)
+
+pub asks_pair : (by : Route) (end : End) (event : Event) (n : ℕ) (mpc address : List ℕ) (header : UserHeader) (outcome : Outcome)
+    → by ≡ route.Pull mpc address → end.confirmed ≤ n → option_map (λ (e : InboxEntry). e.header) (slice_get end.inbox n) ≡ Some header
     → (pair : Pair) × IsPairOf header mpc event.stamp event.nonce pair × Rests (reply.Request address (message.Pair pair)) outcome
     → AsksWithBy by end event n outcome
-asks_pair by end event n mpc address header payloads outcome is later at pair = rw (is, le-ltb n end.confirmed later, at) pair
+asks_pair by end event n mpc address header outcome is later at pair =
+    rw (is, le-ltb n end.confirmed later) (asks_headed header mpc address event (slice_get end.inbox n) outcome at pair)
+
+-- Read
+bare_headed : (header : UserHeader) (found : Option InboxEntry) → option_map (λ (e : InboxEntry). e.header) found ≡ Some header
+    → reply.Entry header [] ≡ bare_reply (entry_reply found)
+unfolding bare_reply
+bare_headed header None headed = absurd cc
+bare_headed header (Some entry) headed =
+    let same : header ≡ entry.header = cc in
+    ap (λ (h : UserHeader). reply.Entry h []) same
+
+pub bare_entry : (end : End) (n : ℕ) (header : UserHeader) → end.confirmed ≤ n
+    → option_map (λ (e : InboxEntry). e.header) (slice_get end.inbox n) ≡ Some header → reply.Entry header [] ≡ bare_read end n
+unfolding read_reply
+bare_entry end n header later at = rw (le-ltb n end.confirmed later) (bare_headed header (slice_get end.inbox n) at)
 
 -- Submit
 pub takes_in : (mode : Mode) (end : End) (event : Event) (conversation : Option (List ℕ)) (loads : List Load) (s : Submission)

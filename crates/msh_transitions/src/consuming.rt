@@ -5,37 +5,38 @@ ghost use Rattle.exchange_model.specs.Table.{Confirms, Rests, read_reply, standi
 ghost use Rattle.exchange_model.specs.declared.outcome.Outcome.{Outcome as OutcomeValue};
 ghost use Rattle.msh_state.specs.Standing.{CanStand};
 ghost use Rattle.msh_transitions.specs.Free.{IsBare, IsFree};
+ghost use Rattle.msh_transitions.specs.Given.{bare_read};
 
 use crate::rows::{gives, rests, room_for_one};
 use as4_effects::Effect;
-use as4_values::{MessageId, NoMemory, PlainData, try_clone_two};
+use as4_values::{MessageId, NoMemory, PlainData, Seq};
 use exchange_model::{Outcome, Reply, Standing};
 use inbox::Held;
 use msh_state::EndTables;
 use std::alloc::Global;
 
-/// The row of `Read`.
+/// The row of `Read`, without payloads.
 pub fn read(alloc: Global, tables: &EndTables, n: u64) -> Result<Outcome, NoMemory>
-    ensures row { IfOk result (Rests (read_reply tables.now.end n)) }
+    ensures row { IfOk result (Rests (bare_read tables.now.end n)) }
     ensures stands { IfOk result (λ outcome. CanStand tables.now.end outcome.effects) }
     ensures free { (row : OutcomeValue) → Rests (read_reply tables.now.end n) row → IsFree row → IsOk result }
 {
-    Ok(rests(alloc, read_reply(alloc, tables, n)?))
+    Ok(rests(alloc, bare_read(alloc, tables, n)?))
 }
 
-/// The reply to `Read`.
-#[tactic(auto, unfolding(exchange_model::specs::Table::read_reply))]
-fn read_reply(alloc: Global, tables: &EndTables, n: u64) -> Result<Reply, NoMemory>
-    ensures reply { IfOk result (λ reply. reply ≡ read_reply tables.now.end n) }
+/// The reply to `Read`, without payloads.
+#[tactic(auto, using(crate::proofs::OwnRows::bare_entry), unfolding(exchange_model::specs::Table::read_reply, crate::specs::Given::bare_reply))]
+fn bare_read(alloc: Global, tables: &EndTables, n: u64) -> Result<Reply, NoMemory>
+    ensures reply { IfOk result (λ reply. reply ≡ bare_read tables.now.end n) }
     ensures free { IsBare (read_reply tables.now.end n) → IsOk result }
 {
     match tables.read(n) {
         Held::Gone => Ok(Reply::Gone),
         Held::NoEntry => Ok(Reply::NoEntry),
-        Held::Entry { header, payloads } => {
-            let (header, payloads) = try_clone_two(alloc, header, payloads)?;
-            Ok(Reply::Entry { header, payloads })
-        }
+        Held::Entry { header, .. } => Ok(Reply::Entry {
+            header: header.try_clone(alloc)?,
+            payloads: Seq::of(Vec::new(alloc)),
+        }),
     }
 }
 

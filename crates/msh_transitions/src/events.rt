@@ -5,6 +5,7 @@ ghost use Rattle.exchange_model.specs.Coming.{may_come};
 ghost use Rattle.exchange_model.specs.Table.{RowOf, Comes};
 ghost use Rattle.exchange_model.specs.declared.outcome.Outcome.{Outcome as OutcomeValue};
 ghost use Rattle.msh_transitions.specs.Free.{IsFree};
+ghost use Rattle.msh_transitions.specs.Given.{GivesRow};
 
 use crate::{asking, bundled, coming, consuming, submitting};
 use as4_values::{Message, NoMemory};
@@ -14,14 +15,14 @@ use pmodes::Modes;
 use std::alloc::Global;
 
 /// The row of an event at an endpoint with these modes and tables, without regard to the journal's limit. Its effects
-/// can be applied there.
+/// can be applied there. The reply to `Read` has no payloads: these are on the disk.
 pub fn row_of(
     alloc: Global,
     modes: &Modes,
     tables: &EndTables,
     event: &Event,
 ) -> Result<Outcome, NoMemory>
-    ensures row { IfOk result (RowOf modes.now tables.now.end event.now event.now.what) }
+    ensures row { IfOk result (GivesRow modes.now tables.now.end event.now event.now.what) }
     ensures stands { IfOk result (λ outcome. CanStand tables.now.end outcome.effects) }
 
     // If the row needs no memory, the result isn't out of memory.

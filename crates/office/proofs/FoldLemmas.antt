@@ -1,5 +1,5 @@
 -- What a checkpoint does.
-use Rattle.std.proofs.Common.{◌≡◌, ◌⊎◌, inl, inr, ℕ, ◌<◌, ◌^◌, List, subst, arith}
+use Rattle.std.proofs.Common.{◌≡◌, ◌⊎◌, inl, inr, ℕ, ◌<◌, ◌^◌, List, Option, Some, None, refl, subst, arith}
 use Rattle.as4_disk.specs.declared.disk.Disk.{Ghosts as DiskMeaning}
 use Rattle.as4_disk.specs.Image.{Image}
 use Rattle.as4_disk.specs.Leaving.{FirstThen, LeavesOnly}
@@ -17,6 +17,11 @@ use Rattle.msh_journal.proofs.RunLemmas.{first_all}
 -- a number below 2^64 is the size itself
 pub short_size : (size found : ℕ) → found ≡ capped size → found < 2 ^ 32 → size ≡ found
 short_size size found is short = omega (arith, is, short)
+
+-- what is never seen is none
+pub none_seen : {X : Type 0} (seen : Option X) → ((image : X) → seen ≡ Some image → ⊥) → seen ≡ None
+none_seen None never = refl
+none_seen (Some image) never = absurd (never image refl)
 
 pub folded_size_is : (end : End) (found : ℕ) → ((size : ℕ) × IsFoldedSize end size × (found ≡ capped size)) → found < 2 ^ 32 → IsFoldedSize end found
 folded_size_is end found (size, folded, is) short = subst (IsFoldedSize end) (short_size size found is short) folded

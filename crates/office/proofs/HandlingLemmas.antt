@@ -3,10 +3,11 @@ use Rattle.std.proofs.Common.{◌≡◌, ℕ, ◌+◌, ◌<◌, ◌≤◌, ◌^�
 use mathlib.Core.List.{IsPrefix}
 use Rattle.as4_disk.specs.declared.disk.Disk.{Ghosts as DiskMeaning}
 use Rattle.mode_values.specs.declared.mode.Mode.{Mode}
+use Rattle.inbox.specs.Spots.{Spot}
 use Rattle.msh_state.specs.Rooms.{Rooms}
 use Rattle.exchange_model.specs.End.{End}
 use Rattle.journal.specs.declared.journal.Journal.{Journal}
-use Rattle.office.specs.Calls.{Leads}
+use Rattle.office.specs.Calls.{LeadsWhere}
 use Rattle.office.specs.State.{IsInOrder, OfficeState}
 use Rattle.office.specs.Steps.{Enters, FindsItWorn, Keeps}
 use Rattle.office.specs.declared.call.Call.{Call}
@@ -18,13 +19,13 @@ pub not_both : {X : Type 0} (o : Option X) (x : X) → o ≡ Some x → o ≡ No
 not_both o x some none = cc
 
 -- an office by its parts
-abbrev office : {D : Type 0} → Journal D → End → List Mode → Rooms → Book → List Call → OfficeState D
-office journal end modes rooms book list = record { disk = journal.disk; end = end; modes = modes; rooms = rooms; book = book; list = list }
+abbrev pub office : {D : Type 0} → Journal D → End → List Spot → List Mode → Rooms → Book → List Call → OfficeState D
+office journal end places modes rooms book list = record { disk = journal.disk; end = end; places = places; modes = modes; rooms = rooms; book = book; list = list }
 
-pub keeps : {D : Type 0} {M : DiskMeaning D} {old : OfficeState D} {after : Journal D} {next : End} {later : List Mode} {others : Rooms} {books : Book} {halt : Option FaultCounts} {more shown : List Call} {share : ℕ} {pass passed : PassState Call}
-    → IsInOrder M after next later halt more → later ≡ old.modes → books ≡ old.book → passed ≡ record pass { list = shown; share = share }
-    → ((start : End) → Leads old.modes start old.list old.end → Leads old.modes start more next) → is_some (M.seen after.disk) ≡ is_some (M.seen old.disk) → (halt ≡ None → M.fault_count after.disk ≡ M.fault_count old.disk) → M.fault_count old.disk ≤ M.fault_count after.disk
-    → Keeps M old (office after next later others books more) pass passed
+pub keeps : {D : Type 0} {M : DiskMeaning D} {old : OfficeState D} {after : Journal D} {next : End} {places : List Spot} {later : List Mode} {others : Rooms} {books : Book} {halt : Option FaultCounts} {more shown : List Call} {share : ℕ} {pass passed : PassState Call}
+    → IsInOrder M after next places later halt more → later ≡ old.modes → books ≡ old.book → passed ≡ record pass { list = shown; share = share }
+    → ((start : End) → LeadsWhere (is_some (M.seen old.disk)) old.modes start old.list old.end → LeadsWhere (is_some (M.seen old.disk)) old.modes start more next) → is_some (M.seen after.disk) ≡ is_some (M.seen old.disk) → (halt ≡ None → M.fault_count after.disk ≡ M.fault_count old.disk) → M.fault_count old.disk ≤ M.fault_count after.disk
+    → Keeps M old (office after next places later others books more) pass passed
 keeps order modes_same book_same passes legal tells calm counted = record {
   modes = modes_same;
   book = book_same;
@@ -37,14 +38,6 @@ keeps order modes_same book_same passes legal tells calm counted = record {
   calm = λ none. calm (order.halted ∙ none);
   counted = counted;
 }
-
--- nothing but room was made
-pub keeps_roomy : {D : Type 0} {M : DiskMeaning D} {journal : Journal D} {end next : End} {modes later : List Mode} {rooms others : Rooms} {book : Book} {halt : Option FaultCounts} {list : List Call} {pass : PassState Call}
-    → IsInOrder M journal end modes halt list → next ≡ end → later ≡ modes → Keeps M (office journal end modes rooms book list) (office journal next later others book list) pass pass
-keeps_roomy {D} {M} {journal} {end} {next} {modes} {later} {rooms} {others} {book} {halt} {list} order same_end same_modes =
-    let P : End → Type 0 = λ e. IsInOrder M journal e modes halt list in
-    let Q : List Mode → Type 0 = λ m. IsInOrder M journal next m halt list in
-    keeps (subst Q (sym same_modes) (subst P (sym same_end) order)) same_modes refl refl (λ start leads. subst (λ (e : End). Leads modes start list e) (sym same_end) leads) refl (λ none. refl) (omega arith)
 
 pub finds_worn : {D : Type 0} {old : OfficeState D} {pass passed : PassState Call} → length old.list ≡ 2 ^ 63 → IsPrefix pass.list old.list → passed ≡ record pass { list = old.list } → FindsItWorn old old pass passed
 finds_worn full seen_by whole = record { full = full; seen = seen_by; list = refl; end = refl; disk = refl; pass = whole }

@@ -5,5 +5,6 @@ pub mod WritingLemmas
 pub mod SmallLemmas
 pub mod StateLemmas
 pub mod HandlingLemmas
-pub mod StepLemmas
+pub mod PreparingLemmas
+pub mod ReadingLemmas
 pub mod DrillLemmas

@@ -36,9 +36,18 @@ module _ {D : Type 0} (old new : OfficeState D) (pass_old pass_new : PassState C
     pub same : new ≡ old
     pub pass : pass_new ≡ pass_old
 
+  -- The payloads of a message weren't found, and the compaction was dropped. This never happens where the disk is
+  -- observable.
+  pub record FindsNoPayloads (M : DiskMeaning D) (size : ℕ) : Type 0 where
+    pub room : length old.list < 2 ^ 63
+    pub present : size ≡ old.end.size
+    pub shorter : CanShorten old.end
+    pub unseen : M.seen old.disk ≡ None
+    pub nothing : EntersNothing old new pass_old pass_new
+
   -- what is answered, by cases on the answer
   abbrev pub Shortening : DiskMeaning D → Result ℕ OfficeFault → Type 0
-  Shortening M (Ok size) = (stop_of old.list ≡ None) × (Shortens size ⊎ IsShortEnough size)
+  Shortening M (Ok size) = (stop_of old.list ≡ None) × (Shortens size ⊎ IsShortEnough size ⊎ FindsNoPayloads M size)
   Shortening M (Err (Disk before after)) = Stops old new pass_old pass_new M None before after
   Shortening M (Err (Stopped before after)) = StandsStill old new pass_old pass_new before after × EntersNothing old new pass_old pass_new × (length old.list < 2 ^ 63)
   Shortening M (Err Worn) = FindsItWorn old new pass_old pass_new

@@ -1,7 +1,9 @@
 pub mod Calls
 pub mod Happened
 pub mod Left
+pub mod Observed
 pub mod Openings
+pub mod Preparing
 pub mod Recording
 pub mod State
 pub mod Steps

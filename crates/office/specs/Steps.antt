@@ -1,21 +1,22 @@
 -- What a call on an office answers, and what it leaves of the office and of the caller's pass.
-use Rattle.std.specs.Prelude.{◌≡◌, ◌≤◌, ℕ, ◌+◌, ◌^◌, true, false, [], ◌∷◌, ◌++◌, Option, Some, None, Result, Ok, Err, is_some, length, ◌<◌}
+use Rattle.std.specs.Prelude.{◌≡◌, ◌⊎◌, ◌≤◌, ℕ, ◌+◌, ◌^◌, true, false, [], ◌∷◌, ◌++◌, Option, Some, None, Result, Ok, Err, is_some, length, ◌<◌}
 use mathlib.Core.List.{IsPrefix}
 use Rattle.as4_disk.specs.declared.disk.Disk.{Ghosts as DiskMeaning}
 use Rattle.as4_disk.specs.Image.{Image}
-use Rattle.as4_disk.specs.Leaving.{LeavesOnly}
+use Rattle.as4_disk.specs.Leaving.{LeavesOnly, Quiet}
 use Rattle.as4_flow.specs.Flow.{Rose, Told}
 use Rattle.msh_recovery.specs.Opens.{KeepsEnd}
 use Rattle.exchange_model.specs.Apply.{applied}
 use Rattle.exchange_model.specs.End.{End}
-use Rattle.exchange_model.specs.Table.{Step}
 use Rattle.exchange_model.specs.declared.outcome.Outcome.{Outcome}
 use Rattle.exchange_model.specs.declared.event.Event.{Event}
 use Rattle.exchange_model.specs.declared.reply.Reply.{Reply}
 use Rattle.exchange_model.specs.declared.reply.Reply.TheVariants as reply
 use Rattle.exchange_model.specs.declared.what.What.TheVariants as what
-use Rattle.office.specs.Calls.{Leads, stop_of}
+use Rattle.office.specs.Calls.{LeadsWhere, stop_of}
 use Rattle.office.specs.Left.{IsLeft, OpensBeforeOrAfter}
+use Rattle.office.specs.Observed.{StepWhere}
+use Rattle.office.specs.Preparing.{OnlyReads}
 use Rattle.office.specs.Recording.{IsRecorded}
 use Rattle.office.specs.State.{OfficeState}
 use Rattle.office.specs.declared.call.Call.{Call}
@@ -70,7 +71,8 @@ pub record Keeps {D : Type 0} (M : DiskMeaning D) (old new : OfficeState D) (pas
   pub pass_book : pass_new.book ≡ pass_old.book
   pub stake : pass_new.stake ≡ pass_old.stake
   -- the calls lead to the end, from wherever they led to it before
-  pub legal : (start : End) → Leads old.modes start old.list old.end → Leads old.modes start new.list new.end
+  pub legal : (start : End) → LeadsWhere (is_some (M.seen old.disk)) old.modes start old.list old.end
+      → LeadsWhere (is_some (M.seen old.disk)) old.modes start new.list new.end
   -- without a fault among the calls each crash leaves the end, and with one what that call may have left
   pub safe : stop_of new.list ≡ None → KeepsEnd M new.disk new.end
   pub left : Told (M.seen new.disk) (λ _. (c : Image) → M.may_leave new.disk c → IsLeft new.modes new.end new.list c)
@@ -84,19 +86,30 @@ module _ {D : Type 0} (M : DiskMeaning D) (old new : OfficeState D) (pass_old pa
   pub record Replies (event : Event) (r : Reply) : Type 0 where
     pub going : stop_of old.list ≡ None
     pub outcome : Outcome
-    pub step : Step old.modes old.end event outcome
+    pub step : StepWhere (is_some (M.seen old.disk)) old.modes old.end event outcome
     pub reply : r ≡ outcome.reply
     pub end : new.end ≡ applied outcome.effects old.end
-    pub recorded : IsRecorded M old.disk new.disk old.end outcome true
+    pub recorded : (disk : D) × OnlyReads M event old.disk disk × IsRecorded M disk new.disk old.end outcome true
     pub kept : KeepsEnd M new.disk new.end
     pub entered : Enters old new pass_old pass_new (Done event r)
 
-  -- the disk failed while the record of the event's step was put there
+  -- the record of the event's step wasn't written whole
+  pub record FailsToRecord (event : Event) : Type 0 where
+    pub outcome : Outcome
+    pub step : StepWhere (is_some (M.seen old.disk)) old.modes old.end event outcome
+    pub recorded : (disk : D) × OnlyReads M event old.disk disk × IsRecorded M disk new.disk old.end outcome false
+
+  -- the payloads of a message weren't read
+  pub record FailsToRead (event : Event) : Type 0 where
+    pub number : ℕ
+    pub asked : event.what ≡ what.Read number
+    pub quiet : Quiet M old.disk new.disk
+    pub safe : KeepsEnd M new.disk new.end
+
+  -- the disk failed
   pub record StopsAt (event : Event) (before after : ℕ) : Type 0 where
     pub stops : Stops old new pass_old pass_new M (Some event) before after
-    pub outcome : Outcome
-    pub step : Step old.modes old.end event outcome
-    pub recorded : IsRecorded M old.disk new.disk old.end outcome false
+    pub cause : FailsToRecord event ⊎ FailsToRead event
 
   -- what is answered to an event, by cases on the answer
   abbrev pub Steps : Event → Result Reply OfficeFault → Type 0
@@ -104,7 +117,7 @@ module _ {D : Type 0} (M : DiskMeaning D) (old new : OfficeState D) (pass_old pa
   Steps event (Err (Disk before after)) = StopsAt event before after
   Steps event (Err (Stopped before after)) = StandsStill old new pass_old pass_new before after × Enters old new pass_old pass_new (Done event (reply.Stopped before after))
   Steps event (Err Worn) = FindsItWorn old new pass_old pass_new
-  Steps event (Err NoMemory) = EntersNothing old new pass_old pass_new × (new.disk ≡ old.disk)
+  Steps event (Err NoMemory) = EntersNothing old new pass_old pass_new × OnlyReads M event old.disk new.disk
 
   -- What becomes of an event. While it is handled a crash leaves the end before its step, or the one behind it.
   pub record Handles (event : Event) (result : Result Reply OfficeFault) : Type 0 where

@@ -1,4 +1,4 @@
-//! The journal is folded, where that makes it shorter.
+//! Compaction of the journal.
 ghost use Rattle.std.specs.Prelude.{◌≡◌};
 ghost use Rattle.office.specs.Folds.{Checkpoints};
 
@@ -8,16 +8,16 @@ use crate::fault::OfficeFault;
 use crate::office::Office;
 use as4_disk::{Disk, FaultCounts};
 use journal::JournalFault;
-use msh_journal::fold_end;
+use msh_journal::{Compaction, fold_end};
 use pass_book::{MAX_ENTRIES, Pass};
 
 impl<'a, D: Disk> Office<'a, D> {
-    /// Folds the journal where that makes it shorter, and answers its size. Where there is no memory, the bytes of the
-    /// leaf that isn't picked may differ, and all else stays.
+    /// Compacts the journal if that makes it shorter, and returns its size in bytes. After `NoMemory` the bytes of the
+    /// leaf that isn't current may differ, and nothing else has changed. Over a disk whose content isn't observable, the
+    /// payloads of a message may not be found: then the journal stays as it is.
     pub fn checkpoint(&mut self, pass: &mut Pass<'_, Call>) -> Result<u64, OfficeFault>
         requires book { pass.old.book ≡ self.old.book }
-        ensures { Checkpoints D.Disk self.old self.new pass.old pass.new
-            result }
+        ensures { Checkpoints D.Disk self.old self.new pass.old pass.new result }
     {
         if self.keeper.len() == MAX_ENTRIES {
             self.keeper.show(pass);
@@ -33,7 +33,8 @@ impl<'a, D: Disk> Office<'a, D> {
             return Ok(present);
         }
         match fold_end(self.alloc, &mut self.journal, &mut self.core) {
-            Ok(()) => {
+            Ok(Compaction::Lost { .. }) => Ok(present),
+            Ok(Compaction::Done) => {
                 let call = enter(&mut self.keeper, pass, Call::Folded { size });
                 drop(call);
                 Ok(size)

@@ -19,8 +19,9 @@ mod fault;
 mod laws;
 mod office;
 mod opening;
+mod preparing;
 mod ready;
-mod work;
+mod step_to_make;
 
 pub use call::Call;
 pub use fault::OfficeFault;

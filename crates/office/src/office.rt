@@ -39,6 +39,7 @@ impl<'a, D: Disk> Model for Office<'a, D> {
     ghost view = { λ o. record {
       disk = o.journal.disk;
       end = o.core.end;
+      places = o.core.places;
       modes = o.core.modes;
       rooms = o.core.rooms;
       book = o.keeper.book;
@@ -46,7 +47,7 @@ impl<'a, D: Disk> Model for Office<'a, D> {
     } };
 
     ghost invariant = { λ o.
-        IsInOrder D.Disk o.journal o.core.end o.core.modes o.halt o.keeper.list × (length o.small ≡ 11) };
+        IsInOrder D.Disk o.journal o.core.end o.core.places o.core.modes o.halt o.keeper.list × (length o.small ≡ 11) };
 }
 
 impl<'a, D: Disk> Office<'a, D> {

@@ -1,5 +1,5 @@
 //! What is said to steps, what the disk has then, and what is said once the office is opened again.
-use crate::desk::after;
+use crate::desk::{NEVER, after};
 use crate::disks::{
     CLOSED, EMPTY, NEW_LEAF, OLD_TICK, PENDING, TICK_1000, TICK_2000, TWO_TICKS, Three, disk_of,
     picked,
@@ -66,26 +66,28 @@ const SEVEN_CALLS: Steps = &[
     (Step::Checkpoint, Said::Count(29)),
 ];
 
-/// What is read of a message that came, and that it comes again.
+/// The message that came is read, which reads the disk, and comes again.
 const CAME: Steps = &[
-    (Step::Stop(0), Said::Done),
     (Step::Read(0), Said::Entry),
+    (Step::Stop(0), Said::Done),
     (Step::Read(1), Said::NoEntry),
     (Step::Came, Said::Receipt),
     (Step::Inbox, Said::Count(1)),
 ];
 
-/// The message comes in four device calls, and what asks makes none.
+/// The message comes in four device calls. Then only a `Read` of it makes any.
 const COMES: Steps = &[
     (Step::Read(0), Said::NoEntry),
     (Step::Stop(5), Said::Done),
     (Step::Came, Said::Receipt),
     (Step::Inbox, Said::Count(1)),
-    (Step::Read(0), Said::Entry),
+    (Step::Came, Said::Receipt),
     (Step::Confirm(1), Said::NoEntry),
     // Its fold has the same 150 bytes: 9, and 141 of the record.
     (Step::Checkpoint, Said::Count(150)),
-    (Step::Seen, Said::Count(4)),
+    (Step::Stop(NEVER), Said::Done),
+    (Step::Read(0), Said::Entry),
+    (Step::Seen, Said::Count(5)),
 ];
 
 const TAKEN_OVER: Steps = &[
@@ -279,9 +281,25 @@ const TICK_FAILS: Steps = &[
     (Step::Seen, Said::Count(2)),
 ];
 
+/// The message came, and the disk fails while the office reads its payloads.
+const READ_FAILS: Steps = &[
+    (Step::Came, Said::Receipt),
+    (Step::Stop(0), Said::Done),
+    (Step::Read(0), FAILED),
+    (Step::Seen, Said::Count(2)),
+    (Step::Read(0), STOPPED),
+    (Step::Came, STOPPED),
+    (Step::Tick(1000), STOPPED),
+    (Step::Checkpoint, STOPPED),
+    (Step::Seen, Said::Count(5)),
+    (Step::Share, Said::Count(5)),
+    (Step::Show, Said::Done),
+    (Step::Seen, Said::Count(5)),
+];
+
 /// On an empty disk opening makes eight device calls, so those of the first step are the calls 9 to 12: the record with
 /// the gate behind it, a sync, its own gate, a sync.
-static FAULTS: [Case; 5] = [
+static FAULTS: [Case; 6] = [
     Case {
         what: "the record isn't written",
         store: EMPTY,
@@ -324,6 +342,14 @@ static FAULTS: [Case; 5] = [
         steps: TICK_FAILS,
         left: Left::Has(b"", &TICK_1000),
         again: &[(Step::Checkpoint, Said::Count(29))],
+    },
+    Case {
+        what: "payloads aren't read",
+        store: EMPTY,
+        failing: &[],
+        steps: READ_FAILS,
+        left: Left::Anything,
+        again: CAME,
     },
 ];
 

@@ -1,15 +1,12 @@
 //! An office over a disk in memory, with a pass of its history.
 ghost use Rattle.std.specs.Prelude.{◌≡◌, ◌^◌, IfOk};
 
-use crate::said::{summary, told};
-use crate::steps::{FAILED, Said, Step, Steps};
-use as4_codes::pull_request;
+use crate::events::{arrival, coming, pulling, reading, submitting};
+use crate::parcels::made;
+use crate::said::{summary, told, unpacked};
+use crate::steps::{FAILED, Parcel, Said, Step, Steps};
 use as4_disk::{MemoryDisk, Pick};
-use as4_effects::Delivery;
-use as4_values::{Message, Text};
-use exchange_model::{Event, What};
 use journal::JournalFault;
-use made_messages::delivery;
 use office::{Call, Office};
 use pass_book::Pass;
 use pmodes::Modes;
@@ -94,6 +91,12 @@ impl<'a> Desk<'a> {
         does(self.alloc, &mut self.office, &mut self.pass, step) == FAILED
     }
 
+    /// Prepares a `Read` of the first message, and enacts or abandons it. Returns the reply that it showed and the
+    /// answer.
+    pub(crate) fn reads_in_two(&mut self, is_abandoned: bool) -> Option<[Said; 2]> {
+        reads_in_two(&mut self.office, &mut self.pass, is_abandoned)
+    }
+
     pub(crate) fn into_disk(self) -> MemoryDisk {
         let Desk {
             alloc: _,
@@ -106,7 +109,7 @@ impl<'a> Desk<'a> {
 }
 
 /// No test makes so many device calls.
-const NEVER: u64 = 1 << 40;
+pub(crate) const NEVER: u64 = 1 << 40;
 
 /// Opens an office on the disk, and gives the disk back where each step is answered so. It stops no more.
 pub(crate) fn after(alloc: Global, disk: MemoryDisk, steps: Steps) -> Option<MemoryDisk> {
@@ -189,7 +192,10 @@ pub(crate) fn does(
         Step::Came => comes(alloc, office, pass),
         Step::CameInTwo => comes_in_two(alloc, office, pass),
         Step::Pulled(channel) => is_pulled(alloc, office, pass, channel),
+        Step::Brings(parcel) => brings(alloc, office, pass, parcel),
+        Step::Submits(length) => submits(alloc, office, pass, length),
         Step::Read(n) => told(office.step(pass, reading(n))),
+        Step::Unpack(n) => unpacked(alloc, office.step(pass, reading(n))),
         Step::Confirm(upto) => told(office.confirm(pass, upto)),
         Step::Checkpoint => match office.checkpoint(pass) {
             Ok(size) => Said::Count(size),
@@ -226,6 +232,38 @@ fn comes(alloc: Global, office: &mut Office<'_, MemoryDisk>, pass: &mut Pass<'_,
     ensures pass { pass.new.book ≡ pass.old.book }
 {
     match coming(alloc) {
+        Some(event) => told(office.step(pass, event)),
+        None => Said::Other,
+    }
+}
+
+fn brings(
+    alloc: Global,
+    office: &mut Office<'_, MemoryDisk>,
+    pass: &mut Pass<'_, Call>,
+    parcel: Parcel,
+) -> Said
+    requires book { pass.old.book ≡ office.old.book }
+    ensures office { office.new.book ≡ office.old.book }
+    ensures pass { pass.new.book ≡ pass.old.book }
+{
+    match made(alloc, parcel) {
+        Some(delivery) => told(office.step(pass, arrival(delivery))),
+        None => Said::Other,
+    }
+}
+
+fn submits(
+    alloc: Global,
+    office: &mut Office<'_, MemoryDisk>,
+    pass: &mut Pass<'_, Call>,
+    length: usize,
+) -> Said
+    requires book { pass.old.book ≡ office.old.book }
+    ensures office { office.new.book ≡ office.old.book }
+    ensures pass { pass.new.book ≡ pass.old.book }
+{
+    match submitting(alloc, length) {
         Some(event) => told(office.step(pass, event)),
         None => Said::Other,
     }
@@ -273,35 +311,25 @@ fn comes_in_two(
     }
 }
 
-/// The message of the mode comes.
-#[tactic(auto, unfolding(exchange_model::specs::Coming::may_come, exchange_model::specs::Coming::is_deliverable))]
-fn coming(alloc: Global) -> Option<Event> {
-    let Delivery { header, payloads } = delivery(alloc)?;
-    Some(Event {
-        stamp: 0,
-        nonce: 7,
-        what: What::Came(Message::User { header, payloads }),
-    })
-}
-
-/// A pull request for this channel comes.
-#[tactic(auto, unfolding(exchange_model::specs::Coming::may_come, exchange_model::specs::Coming::is_deliverable))]
-fn pulling(alloc: Global, channel: &[u8]) -> Option<Event> {
-    let mpc = Text::read(alloc, channel).ok()?;
-    let signal = pull_request(alloc, &mpc, 0, 1).ok()?;
-    Some(Event {
-        stamp: 0,
-        nonce: 2,
-        what: What::Came(Message::Signal(signal)),
-    })
-}
-
-/// The message of this number in the inbox is read.
-#[tactic(auto, unfolding(exchange_model::specs::Coming::may_come))]
-fn reading(n: u64) -> Event {
-    Event {
-        stamp: 0,
-        nonce: 0,
-        what: What::Read { n },
+fn reads_in_two(
+    office: &mut Office<'_, MemoryDisk>,
+    pass: &mut Pass<'_, Call>,
+    is_abandoned: bool,
+) -> Option<[Said; 2]>
+    requires book { pass.old.book ≡ office.old.book }
+    ensures office { office.new.book ≡ office.old.book }
+    ensures pass { pass.new.book ≡ pass.old.book }
+{
+    match office.prepare(reading(0)) {
+        Ok(ready) => {
+            let shown = summary(ready.reply());
+            let answered = if is_abandoned {
+                Said::Fault(office.abandon(pass, ready))
+            } else {
+                told(office.enact(pass, ready))
+            };
+            Some([shown, answered])
+        }
+        Err(_) => None,
     }
 }

@@ -42,7 +42,7 @@ fn octets(alloc: Global, bytes: &[u8]) -> Result<Octets, AllocError> {
     Ok(Octets::of(bytes.to_vec(alloc)?))
 }
 
-fn files_of(alloc: Global, three: Three) -> Option<Files> {
+fn files_of(alloc: Global, three: [&[u8]; 3]) -> Option<Files> {
     match (
         octets(alloc, three[0]),
         octets(alloc, three[1]),
@@ -63,7 +63,7 @@ fn files_of(alloc: Global, three: Three) -> Option<Files> {
 }
 
 /// A disk with these bytes, of which the calls of these numbers fail.
-pub(crate) fn disk_of(alloc: Global, three: Three, failing: &[u64]) -> Option<MemoryDisk> {
+pub(crate) fn disk_of(alloc: Global, three: [&[u8]; 3], failing: &[u64]) -> Option<MemoryDisk> {
     match (files_of(alloc, three), failing.to_vec(alloc)) {
         (Some(files), Ok(failing)) => Some(MemoryDisk::of(files, Seq::of(failing))),
         (files, failing) => {

@@ -8,7 +8,17 @@ mod desk;
 #[cfg(test)]
 mod disks;
 #[cfg(test)]
+mod events;
+#[cfg(test)]
+mod fetches;
+#[cfg(test)]
+mod old_leaf;
+#[cfg(test)]
+mod parcels;
+#[cfg(test)]
 mod passes;
+#[cfg(test)]
+mod payloads;
 #[cfg(test)]
 mod refused;
 #[cfg(test)]

@@ -2,6 +2,13 @@
 use as4_values::Severity;
 use office::OfficeFault;
 
+/// One of the two messages that have a payload.
+#[derive(Clone, Copy, PartialEq, Eq)]
+pub(crate) enum Parcel {
+    Short,
+    Long,
+}
+
 /// What is done with an office and a pass.
 #[derive(Clone, Copy)]
 pub(crate) enum Step {
@@ -12,7 +19,13 @@ pub(crate) enum Step {
     CameInTwo,
     /// A pull request for this channel comes.
     Pulled(&'static [u8]),
+    /// This message comes.
+    Brings(Parcel),
+    /// A load of this length is submitted by the mode of the one message.
+    Submits(usize),
     Read(u64),
+    /// The same, of one of the two messages that have a payload.
+    Unpack(u64),
     Confirm(u64),
     Checkpoint,
     /// The disk stops at this device call from now on.
@@ -31,10 +44,14 @@ pub(crate) enum Step {
 #[derive(Clone, Copy, PartialEq, Eq)]
 pub(crate) enum Said {
     Ticked(u64),
+    Submitted(u64),
+    TooLarge,
     Receipt,
     /// A signal of one error.
     Error(Severity),
     Entry,
+    /// The header and the payloads of this message, byte for byte.
+    Holds(Parcel),
     NoEntry,
     Gone,
     /// The messages up to this one are taken over.

@@ -29,16 +29,17 @@ fn payloads(alloc: Global) -> Option<Seq<Payload>> {
     Some(Seq::of(vec![in alloc; payload?].ok()?))
 }
 
-/// An inbox that has received this message. (The values are dropped explicitly: that is proved faster than drops at the
-/// end of their scope.)
+/// An inbox that has received this message, by a record at the gate 64 in a body of 77 bytes. (The values are dropped
+/// explicitly: that is proved faster than drops at the end of their scope.)
 #[tactic(auto, unfolding(exchange_model::specs::Questions::is_known))]
 fn filled(alloc: Global, header: UserHeader, payloads: Seq<Payload>) -> Option<Inbox>
-    ensures { IfSome result (λ inbox. (length inbox.entries ≡ 1) × (inbox.confirmed ≡ 0)) }
+    ensures { IfSome result (λ inbox. (length inbox.entries ≡ 1) × (length inbox.places ≡ 1) × (inbox.confirmed ≡ 0)) }
 {
     let mut inbox = Inbox::new(alloc);
     match inbox.reserve(&header.id) {
         Ok(()) => {
-            inbox.commit(header, payloads);
+            inbox.commit(header, &payloads, 64, 77);
+            drop(payloads);
             Some(inbox)
         }
         Err(_) => {
@@ -51,7 +52,7 @@ fn filled(alloc: Global, header: UserHeader, payloads: Seq<Payload>) -> Option<I
 }
 
 fn one_message(alloc: Global) -> Option<Inbox>
-    ensures { IfSome result (λ inbox. (length inbox.entries ≡ 1) × (inbox.confirmed ≡ 0)) }
+    ensures { IfSome result (λ inbox. (length inbox.entries ≡ 1) × (length inbox.places ≡ 1) × (inbox.confirmed ≡ 0)) }
 {
     match (header_of(alloc, b"m1"), payloads(alloc)) {
         (Some(header), Some(payloads)) => filled(alloc, header, payloads),
@@ -68,39 +69,49 @@ fn holds(alloc: Global, inbox: &Inbox, id: &[u8]) -> Option<bool> {
     Some(inbox.holds(&MessageId::read(alloc, id).ok()?))
 }
 
-/// Whether this is the message above, with its payload.
-fn is_the_message(held: Held<'_>) -> bool {
+/// Where the payloads of the message above are, if it is read.
+fn place_of(held: Held<'_>) -> Option<(u64, u64)> {
     match held {
-        Held::Entry { header, payloads } => match payloads.items() {
-            [payload] => header.id.bytes() == b"m1".as_slice()
-                && payload.cid.bytes() == b"p".as_slice(),
-            _ => false,
-        },
-        _ => false,
+        Held::Entry {
+            header,
+            gate,
+            length,
+        } if header.id.bytes() == b"m1".as_slice() => Some((gate, length)),
+        _ => None,
     }
 }
 
-/// The numbers of messages received and confirmed, and whether the first can be read, is gone, and is the last; for an
-/// inbox of one message, before and after its confirmation.
-fn told(alloc: Global) -> Option<[(u64, u64, [bool; 3]); 2]> {
+/// The numbers of messages received and confirmed, where the payloads of the first are, and whether it is gone and is
+/// the last.
+type Told = (u64, u64, Option<(u64, u64)>, [bool; 2]);
+
+/// The same for an inbox of one message: when it was received, once its payloads were moved to the gate 8, and after
+/// its confirmation.
+fn told(alloc: Global) -> Option<[Told; 3]> {
     let mut inbox = one_message(alloc)?;
     let before = told_of(&inbox);
+    inbox.moved(0, 8);
+    let moved = told_of(&inbox);
     inbox.confirm(0);
     let after = told_of(&inbox);
     drop(inbox);
-    Some([before, after])
+    Some([before, moved, after])
 }
 
-fn told_of(inbox: &Inbox) -> (u64, u64, [bool; 3]) {
-    let read = is_the_message(inbox.read(0));
+fn told_of(inbox: &Inbox) -> Told {
+    let place = place_of(inbox.read(0));
     let gone = matches!(inbox.read(0), Held::Gone);
     let last = matches!(inbox.read(1), Held::NoEntry);
-    (inbox.len(), inbox.confirmed(), [read, gone, last])
+    (inbox.len(), inbox.confirmed(), place, [gone, last])
 }
 
 #[test]
 fn a_message_is_read_until_it_is_taken_over(rt: HostRuntime) {
-    let wanted = [(1, 0, [true, false, true]), (1, 1, [false, true, true])];
+    let wanted = [
+        (1, 0, Some((64, 77)), [false, true]),
+        (1, 0, Some((8, 77)), [false, true]),
+        (1, 1, None, [true, true]),
+    ];
     assert_eq!(rt; told(rt.alloc()), Some(wanted));
 }
 

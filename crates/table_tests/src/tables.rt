@@ -2,7 +2,7 @@
 use as4_effects::{Effect, Mark, Queue, Tick};
 use as4_values::MessageId;
 use exchange_model::Standing;
-use made_messages::{act, carried, delivery, kept, pulled, submission, text};
+use made_messages::{act, act_at, carried, delivery, kept, pulled, submission, text};
 use msh_state::{EndTables, Held, Totals};
 use std::alloc::Global;
 
@@ -134,6 +134,52 @@ fn taken_over(alloc: Global) -> (Option<()>, bool, Option<bool>) {
 #[test]
 fn a_message_that_came_is_held_for_good(rt: HostRuntime) {
     assert_eq!(rt; taken_over(rt.alloc()), (Some(()), true, Some(true)));
+}
+
+/// Where the payloads of the first message are, if it can be read.
+fn place(tables: &EndTables) -> Option<(u64, u64)> {
+    match tables.read(0) {
+        Held::Entry { gate, length, .. } => Some((gate, length)),
+        _ => None,
+    }
+}
+
+/// Moves the payloads of the first message to this gate, if it was received.
+fn move_first(tables: &mut EndTables, gate: u64) {
+    if tables.received() > 0 {
+        tables.moved(0, gate);
+    }
+}
+
+/// The same for a message that the record at the gate 77 delivers, once its payloads were moved to the gate 8, and
+/// after its confirmation.
+fn places(alloc: Global) -> Option<[Option<(u64, u64)>; 3]> {
+    let mut tables = EndTables::new(alloc);
+    let came = come_at(alloc, &mut tables, 77);
+    let before = place(&tables);
+    move_first(&mut tables, 8);
+    let moved = place(&tables);
+    let taken = act(&mut tables, Effect::Confirmed { upto: 0 });
+    let after = place(&tables);
+    drop(tables);
+    came?;
+    taken?;
+    Some([before, moved, after])
+}
+
+fn come_at(alloc: Global, tables: &mut EndTables, gate: u64) -> Option<()> {
+    act_at(tables, Effect::Delivered(delivery(alloc)?), gate)
+}
+
+/// The body has its count in 2 bytes, the kind in 1, and then, each text after its length in 4: no channel, 1; the
+/// stamp, 24; the identifier, 46; no reference, 1; two sides of 15; no agreement, 1; the service, 6; the action, 7; no
+/// conversation, 1; and no properties, parts and payloads, 4 each.
+#[test]
+fn a_message_has_its_gate_and_its_length(rt: HostRuntime) {
+    assert_eq!(rt;
+        places(rt.alloc()),
+        Some([Some((77, 132)), Some((8, 132)), None])
+    );
 }
 
 /// Carries over a submission with one retry, after this number of tries.

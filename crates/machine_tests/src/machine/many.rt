@@ -11,8 +11,8 @@ use std::alloc::Global;
 pub fn exchanged(alloc: Global, count: u64) -> Option<(u64, u64)> {
     match (new_end(alloc), new_end(alloc)) {
         (Some(mut a), Some(mut b)) => {
-            drop(a.follower.take());
-            drop(b.follower.take());
+            a.keeps_nothing();
+            b.keeps_nothing();
             let done = are_submitted(&mut a, count) && are_delivered(&mut a, &mut b, count);
             let (sent, came) = (a.core.totals(), b.core.totals());
             drop(a);
@@ -53,6 +53,12 @@ fn are_delivered(a: &mut Rig, b: &mut Rig, count: u64) -> bool {
 }
 
 impl Rig {
+    /// No follower replays the effects, and no records are kept: there are too many.
+    fn keeps_nothing(&mut self) {
+        drop(self.follower.take());
+        drop(self.records.take());
+    }
+
     /// Submits a message without payloads.
     #[tactic(auto, unfolding(exchange_model::specs::Coming::may_come))]
     fn submits_nothing(&mut self) -> Option<Said> {

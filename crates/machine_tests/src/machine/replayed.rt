@@ -72,16 +72,26 @@ const RECORDS: [Record; 15] = [
     (&[Change::Kept(0), Change::Delivered], Some(1)),
 ];
 
-/// Replays the effects as one record, if there are any and the journal has room.
-#[tactic(auto, unfolding(exchange_model::specs::Apply::record_len))]
+/// Replays the effects as the next record, if there are any and the journal has room.
 pub fn replays(core: &mut Core, effects: Seq<Effect>) -> Option<Result<(), ReplayRefusal>> {
+    let gate = core.size();
+    replays_at(core, effects, gate)
+}
+
+/// The same, as the record at this gate.
+#[tactic(auto, unfolding(exchange_model::specs::Apply::record_len))]
+pub fn replays_at(
+    core: &mut Core,
+    effects: Seq<Effect>,
+    gate: u64,
+) -> Option<Result<(), ReplayRefusal>> {
     let count = effects.items().len();
     let room = MAX_JOURNAL.saturating_sub(core.size());
     if count == 0 || count > 1024 || body_len(&effects) + 9 > room {
         drop(effects);
         return None;
     }
-    Some(core.replay(effects))
+    Some(core.replay(effects, gate))
 }
 
 /// The result of a new endpoint for these effects.

@@ -5,18 +5,19 @@ ghost use Rattle.as4_codes.specs.ErrorCodes.{error_row};
 ghost use Rattle.msh_core.specs.Machine.{IsReady};
 ghost use Rattle.msh_core.specs.Small.{IsSmallReady};
 
-use super::folded::{is_folded, is_given_back};
+use super::folded::{have_same_places, is_compacted};
+use super::records::Records;
 use super::replayed::replays;
 use super::said::summary;
 use super::steps::{End, Said, Step};
 use as4_codes::{error_signal, pull_request, receipt};
 use as4_effects::{Effect, delivery_fits};
 use as4_values::{
-    Load, MAX_MOMENT, Message, MessageId, NoMemory, PlainData, Seq, Signal, SignalBody, Text,
-    UserHeader, pairs, stamp_text,
+    Load, MAX_MOMENT, Message, MessageId, NoMemory, Payload, PlainData, Seq, Signal, SignalBody,
+    Text, UserHeader, pairs, stamp_text,
 };
 use made_messages::octets;
-use msh_core::{Core, Event, Plan, Reply, SmallPlan, What};
+use msh_core::{Core, Event, Held, Plan, Reply, SmallPlan, What};
 use pmodes::Modes;
 use std::alloc::Global;
 
@@ -74,6 +75,8 @@ pub struct Rig {
     asked: Option<Message>,
     /// An endpoint that replays the same effects from their records.
     pub(super) follower: Option<Core>,
+    /// The records with the payloads of its inbox.
+    pub(super) records: Option<Records>,
 }
 
 /// The number of leading steps that two new endpoints answer right.
@@ -122,6 +125,7 @@ pub(super) fn new_end(alloc: Global) -> Option<Rig> {
             sent: None,
             asked: None,
             follower: Some(follower),
+            records: Some(Records::new(alloc)),
         }),
         (core, follower) => {
             drop(core);
@@ -152,7 +156,8 @@ impl Rig {
             Step::HearRequest => self.hears(&other.asked),
             Step::HearOfAnotherAction => self.hears_of_another_action(other),
             Step::Fill => self.fills(other),
-            Step::Read(n) => self.says(What::Read { n }),
+            Step::Read(n) => self.reads(n),
+            Step::ReadBare(n) => self.says(What::Read { n }),
             Step::Confirm(upto) => self.says(What::Confirm { upto }),
             Step::ConfirmLightly(upto) => {
                 let plan = self.core.plan_confirm(upto);
@@ -243,9 +248,13 @@ impl Rig {
 
     /// Whether the records and the fold lead to the current state, and the journal can be compacted.
     fn is_well_kept(&mut self) -> bool {
-        self.has_its_follower()
-            && is_given_back(self.alloc, &self.core)
-            && is_folded(&mut self.core)
+        if !self.has_its_follower() {
+            return false;
+        }
+        match &self.records {
+            Some(records) => is_compacted(self.alloc, &mut self.core, records),
+            None => true,
+        }
     }
 
     /// Whether the follower, if there is one, is in the same state.
@@ -255,6 +264,7 @@ impl Rig {
                 self.core.totals() == follower.totals()
                     && self.core.size() == follower.size()
                     && self.core.moment() == follower.moment()
+                    && have_same_places(&self.core, follower)
             }
             None => true,
         }
@@ -263,10 +273,73 @@ impl Rig {
     fn hands_out(&mut self, plan: Plan) -> Said
         requires { IsReady self.old.core plan }
     {
-        let reply = self.core.commit(plan);
+        let gate = self.core.size();
+        self.keeps_record(gate, plan.effects());
+        let reply = self.core.commit(plan, gate);
+        self.drops_records();
         let said = summary(&reply);
         self.keep(reply);
         said
+    }
+
+    /// Keeps the record at this gate, if it has payloads.
+    fn keeps_record(&mut self, gate: u64, effects: &Seq<Effect>)
+        ensures { self.new.core ≡ self.old.core }
+    {
+        if let Some(records) = &mut self.records {
+            records.keep(gate, effects);
+        }
+    }
+
+    /// Drops the records if the last message of the inbox was confirmed.
+    fn drops_records(&mut self) {
+        if let Some(records) = &mut self.records {
+            let received = self.core.totals().inbox;
+            if received > 0 && matches!(self.core.held(received - 1), Held::Gone) {
+                records.clear();
+            }
+        }
+    }
+
+    /// Reads the message of this number, with the payloads from its record.
+    #[tactic(auto, unfolding(exchange_model::specs::Coming::may_come))]
+    fn reads(&mut self, n: u64) -> Option<Said> {
+        let event = Event {
+            stamp: 0,
+            nonce: self.next_nonce(),
+            what: What::Read { n },
+        };
+        let prepared = self.core.prepare(&event);
+        drop(event);
+        match prepared {
+            Ok(plan) => Some(self.hands_out_filled(plan, n)),
+            Err(_) => {
+                drop(prepared);
+                None
+            }
+        }
+    }
+
+    fn hands_out_filled(&mut self, plan: Plan, n: u64) -> Said
+        requires { IsReady self.old.core plan }
+    {
+        let payloads = match self.payloads(n) {
+            Some(payloads) => payloads,
+            None => Seq::of(Vec::new(self.alloc)),
+        };
+        self.hands_out(plan.filled(payloads))
+    }
+
+    /// The payloads of the message of this number in the inbox, from its record.
+    fn payloads(&self, n: u64) -> Option<Seq<Payload>> {
+        match self.core.held(n) {
+            Held::Entry {
+                header,
+                gate,
+                length,
+            } => self.records.as_ref()?.payloads(&header.id, gate, length),
+            Held::Gone | Held::NoEntry => None,
+        }
     }
 
     /// Keeps the message or the request of the reply.

@@ -74,7 +74,10 @@ pub enum Step {
     Warning,
     /// Receives the error 0301, a failure, about it.
     Failure,
+    /// Reads the message of this number in the inbox.
     Read(u64),
+    /// The same, without the payloads.
+    ReadBare(u64),
     Confirm(u64),
     /// The same, without memory.
     ConfirmLightly(u64),

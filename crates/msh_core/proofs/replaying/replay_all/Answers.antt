@@ -1,7 +1,10 @@
-use Rattle.std.proofs.Common.{◌≡◌, ◌+◌, ◌∷◌, true, subst, sym, ◌∙◌}
+use Rattle.std.proofs.Common.{◌≡◌, ◌+◌, [], ◌∷◌, arith, true, ap, subst, sym, ◌∙◌}
+use Rattle.std.proofs.lemmas.Grind.{common_steps}
 use Rattle.std.specs.Vec.Iter.{into_iter_items}
 use Rattle.exchange_model.specs.Apply.{is_fit}
 use Rattle.exchange_model.specs.End.{End}
+use Rattle.msh_state.specs.Places.{places_after_all}
+use Rattle.msh_core.proofs.MeasuredLemmas.{places_done, places_on}
 use Rattle.msh_core.proofs.ReplayLemmas.{IsBehind, one_made}
 use Rattle.msh_core.proofs.replaying.replay_all.Goals as goal
 
@@ -15,5 +18,14 @@ loop-effect-preserved c =
     record {
       behind = subst (λ (e : End). IsBehind c.args.effects c.args.tables.now.end (here.index + 1) rest e) (sym c.in_ok-replay_one.ensures.ok)
           (one_made c.args.effects c.args.tables.now.end here.index c.in-Some.effect rest here.tables.end behind fits);
-      reached = λ reached. c.replay_one.ensures.reached (here.invariant.reached reached);
+      places = places_on c.in-Some.effect rest c.args.gate _ _ c.in_ok-replay_one.ensures.places
+          ∙ ap (λ effects. places_after_all effects c.args.gate here.tables.places) (sym c.in-Some.ensures.steps.0)
+          ∙ here.invariant.places;
+      consistent = λ consistent. c.replay_one.ensures.consistent (here.invariant.consistent consistent);
     }
+
+pub returns-clause-places : goal.returns-clause-places
+returns-clause-places c =
+    let rest = into_iter_items c.loop-effect.effect-iterator in
+    let none : rest ≡ [] = grind (arith, common_steps) in
+    places_done rest c.args.gate c.loop-effect.tables.places none ∙ c.loop-effect.invariant.places

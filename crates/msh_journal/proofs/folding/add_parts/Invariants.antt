@@ -10,7 +10,7 @@ use Rattle.msh_journal.proofs.folding.add_parts.Given as goal
 -- the parts before this one were added
 abbrev pub invariant-parts : goal.invariant-parts
 invariant-parts g l = record {
-  added : (effects : List Effect) × IsFolded l.core.end effects × HasAdded g.D.Disk l.fn.journal l.journal (take l.part effects);
+  added : (effects : List Effect) × IsFolded l.core.end effects × HasAdded g.D.Disk l.fn.journal l.journal (take l.part effects) l.gates.items;
   few : l.part < 2 ^ 32;
   run : (bodies : List (List ℕ)) → HasFold g.D.Disk l.fn.journal bodies [] → LeavesOnly g.D.Disk l.fn.journal.disk l.journal.disk (InVersion l.fn.journal.version (OpensSettled bodies));
   tells : is_some (g.D.Disk.seen l.journal.disk) ≡ is_some (g.D.Disk.seen l.fn.journal.disk);

@@ -69,11 +69,12 @@ returns-in-Err-bring_up-clause-not_journal g c at is b told =
 pub returns-in-Err-bring_up-clause-untouched : goal.returns-in-Err-bring_up-clause-untouched
 returns-in-Err-bring_up-clause-untouched g c at is b told =
     let wrong = returns-in-Err-bring_up-clause-not_journal g c at is b told in
+    let read = (c.in-Ok.ensures.read b told).0 in
     let P : g.row.D.Denot → Type 0 = λ last. Quiet g.D.Disk c.args.disk last in
     subst P (sym c.into_disk.ensures)
     (quiet_then g.D.Disk c.args.disk c.in-Ok.journal.disk c.bring_up.new.journal.disk
     (c.in-Ok.ensures.quiet b told (λ new. omega (arith, new, wrong.0)))
-    (c.in-Err-bring_up.ensures.untouched at is))
+    (c.in-Err-bring_up.ensures.untouched at is read.settled.image read.settled.told))
 
 pub returns-in-Err-bring_up-clause-cause : goal.returns-in-Err-bring_up-clause-cause
 returns-in-Err-bring_up-clause-cause g c =

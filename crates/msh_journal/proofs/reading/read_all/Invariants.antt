@@ -9,7 +9,7 @@ use Rattle.msh_journal.proofs.reading.read_all.Given as goal
 -- what was read so far
 abbrev pub invariant-records : goal.invariant-records
 invariant-records g l = record {
-  replayed : (bodies : List (List ℕ)) × HasReplayed g.D.Disk l.fn.journal l.journal l.core.end bodies;
+  replayed : (bodies : List (List ℕ)) × HasReplayed g.D.Disk l.fn.journal l.journal l.core.end l.core.places bodies;
   modes : l.core.modes ≡ l.fn.core.modes;
   run : HasRead g.D.Disk l.fn.journal [] → Told (g.D.Disk.seen l.fn.journal.disk) (λ b. LeavesOnly g.D.Disk l.fn.journal.disk l.journal.disk (Reopens b));
   quiet : Quiet g.D.Disk l.fn.journal.disk l.journal.disk;

@@ -16,7 +16,7 @@ returns-then-upto-received-clause-step c event is =
     let confirmed : c.confirmed.result ≡ c.args.self.now.end.confirmed =
     c.confirmed.ensures.value ∙ ap (λ (m : Machine). m.end.confirmed) c.self.view_is in
     let received : c.received.result ≡ length c.args.self.now.end.inbox =
-    c.received.ensures ∙ ap (λ (m : Machine). length m.end.inbox) c.self.view_is in
+    c.received.ensures.value ∙ ap (λ (m : Machine). length m.end.inbox) c.self.view_is in
     let left : c.args.self.now.end.confirmed ≤ c.args.upto = omega (arith, confirmed, c.if-upto-confirmed.false) in
     let none : length c.args.self.now.end.inbox ≤ c.args.upto = omega (arith, received, c.if-upto-received.true) in
     confirm_none c.args.self.now event c.args.upto is left none
@@ -26,7 +26,7 @@ returns-then-not-has_small_room-clause-step c event is =
     let confirmed : c.confirmed.result ≡ c.args.self.now.end.confirmed =
     c.confirmed.ensures.value ∙ ap (λ (m : Machine). m.end.confirmed) c.self.view_is in
     let received : c.received.result ≡ length c.args.self.now.end.inbox =
-    c.received.ensures ∙ ap (λ (m : Machine). length m.end.inbox) c.self.view_is in
+    c.received.ensures.value ∙ ap (λ (m : Machine). length m.end.inbox) c.self.view_is in
     let left : c.args.self.now.end.confirmed ≤ c.args.upto = omega (arith, confirmed, c.if-upto-confirmed.false) in
     let within : c.args.upto < length c.args.self.now.end.inbox = omega (arith, received, c.if-upto-received.false) in
     rw c.small_full.ensures
@@ -37,7 +37,7 @@ returns-clause-step c event is =
     let confirmed : c.confirmed.result ≡ c.args.self.now.end.confirmed =
     c.confirmed.ensures.value ∙ ap (λ (m : Machine). m.end.confirmed) c.self.view_is in
     let received : c.received.result ≡ length c.args.self.now.end.inbox =
-    c.received.ensures ∙ ap (λ (m : Machine). length m.end.inbox) c.self.view_is in
+    c.received.ensures.value ∙ ap (λ (m : Machine). length m.end.inbox) c.self.view_is in
     let left : c.args.self.now.end.confirmed ≤ c.args.upto = omega (arith, confirmed, c.if-upto-confirmed.false) in
     let within : c.args.upto < length c.args.self.now.end.inbox = omega (arith, received, c.if-upto-received.false) in
     confirm_made c.args.self.now event c.args.upto is left within (sym c.has_small_room.ensures ∙ c.if-not-has_small_room.false)
@@ -59,7 +59,7 @@ returns-clause-ready c =
     let confirmed : c.confirmed.result ≡ c.args.self.now.end.confirmed =
     c.confirmed.ensures.value ∙ ap (λ (m : Machine). m.end.confirmed) c.self.view_is in
     let received : c.received.result ≡ length c.args.self.now.end.inbox =
-    c.received.ensures ∙ ap (λ (m : Machine). length m.end.inbox) c.self.view_is in
+    c.received.ensures.value ∙ ap (λ (m : Machine). length m.end.inbox) c.self.view_is in
     let left : c.args.self.now.end.confirmed ≤ c.args.upto = omega (arith, confirmed, c.if-upto-confirmed.false) in
     let within : c.args.upto < length c.args.self.now.end.inbox = omega (arith, received, c.if-upto-received.false) in
     let room : c.args.self.now.end.size + 20 ≤ 4294967296 =

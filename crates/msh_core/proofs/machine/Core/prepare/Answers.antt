@@ -1,7 +1,8 @@
 use Rattle.std.proofs.Common.{◌≡◌, ◌==◌, length, true, false, ap, refl, sym, ◌∙◌}
-use Rattle.exchange_model.specs.Table.{Step}
 use Rattle.exchange_model.specs.declared.outcome.Outcome.{Outcome}
-use Rattle.msh_core.proofs.PreparedLemmas.{free_row, limited_step, not_free, nothing_ready}
+use Rattle.msh_core.specs.Machine.{IsGiven}
+use Rattle.msh_core.proofs.GivenLemmas.{given_step, limited_given}
+use Rattle.msh_core.proofs.PreparedLemmas.{free_row, not_free, nothing_ready}
 use Rattle.msh_core.proofs.machine.Core.prepare.Goals.{in-Ok, in-Err}
 use Rattle.msh_core.proofs.machine.Core.prepare.Goals as goal
 
@@ -11,36 +12,31 @@ returns-in_err-row-clause-free c outcome step free =
     rw c.in_err-row.was at (c.row_of.ensures.free outcome (free_row _ _ _ outcome (rw (sym c.self.view_is) at step) free) free) in
     absurd cc
 
-pub returns-then-is_empty-clause-step : goal.returns-then-is_empty-clause-step
-returns-then-is_empty-clause-step c = rw (c.of-then-is_empty.ensures, ← c.self.view_is)
-    (limited_step _ _ c.args.event.now _ _ c.in_ok-row.ensures.row c.limited-outcome.ensures.limited)
+pub returns-then-is_empty-clause-given : goal.returns-then-is_empty-clause-given
+returns-then-is_empty-clause-given c = rw (c.of-then-is_empty.ensures, ← c.self.view_is)
+    (limited_given _ _ c.args.event.now _ _ c.in_ok-row.ensures.row c.limited-outcome.ensures.limited)
 
 pub returns-then-is_empty-clause-ready : goal.returns-then-is_empty-clause-ready
 returns-then-is_empty-clause-ready c =
     let none : (length c.limited-outcome.result.effects == 0) ≡ true =
     rw (sym c.items.ensures) (sym c.is_empty.ensures ∙ c.if-is_empty.true) in
-    let step : Step c.self.inside.modes c.self.inside.tables.end c.args.event.now c.limited-outcome.result =
-    limited_step _ _ c.args.event.now _ _ c.in_ok-row.ensures.row c.limited-outcome.ensures.limited in
     rw (c.of-then-is_empty.ensures, ← c.self.view_is)
-    (nothing_ready _ c.args.event.now _ _ _ none (c.of.ensures ∙ c.new.ensures.items) step
+    (nothing_ready _ _ _ _ none (c.of.ensures ∙ c.new.ensures.items)
     c.limited-outcome.ensures.stands c.limited-outcome.ensures.room)
 
-pub returns-clause-step : goal.returns-clause-step
-returns-clause-step c =
-    let step : Step c.self.inside.modes c.self.inside.tables.end c.args.event.now c.limited-outcome.result =
-    limited_step _ _ c.args.event.now _ _ c.in_ok-row.ensures.row c.limited-outcome.ensures.limited in
+pub returns-clause-given : goal.returns-clause-given
+returns-clause-given c =
+    let given : IsGiven c.self.inside.modes c.self.inside.tables.end c.args.event.now c.limited-outcome.result =
+    limited_given _ _ c.args.event.now _ _ c.in_ok-row.ensures.row c.limited-outcome.ensures.limited in
     elim c.match-room_for.branch [
-      | in-Ok w ↦ rw (w.result-is, w.of-in-Ok.ensures, ← c.self.view_is) step
+      | in-Ok w ↦ rw (w.result-is, w.of-in-Ok.ensures, ← c.self.view_is) given
       | in-Err w ↦ rw w.result-is tt
     ]
 
 pub returns-clause-ready : goal.returns-clause-ready
 returns-clause-ready c =
-    let step : Step c.self.inside.modes c.self.inside.tables.end c.args.event.now c.limited-outcome.result =
-    limited_step _ _ c.args.event.now _ _ c.in_ok-row.ensures.row c.limited-outcome.ensures.limited in
     elim c.match-room_for.branch [
       | in-Ok w ↦ rw (w.result-is, w.of-in-Ok.ensures) record {
-        step = (c.args.event.now, rw c.room_for.ensures.end step);
         stands = rw c.room_for.ensures.end c.limited-outcome.ensures.stands;
         queues = rw w.in-Ok.is at c.room_for.ensures.queues;
         room = rw w.in-Ok.is at c.room_for.ensures.room;
@@ -51,15 +47,16 @@ returns-clause-ready c =
 
 pub returns-clause-free : goal.returns-clause-free
 returns-clause-free c outcome step free =
-    let planned : Step c.self.inside.modes c.self.inside.tables.end c.args.event.now c.limited-outcome.result =
-    limited_step _ _ c.args.event.now _ _ c.in_ok-row.ensures.row c.limited-outcome.ensures.limited in
+    let planned : IsGiven c.self.inside.modes c.self.inside.tables.end c.args.event.now c.limited-outcome.result =
+    limited_given _ _ c.args.event.now _ _ c.in_ok-row.ensures.row c.limited-outcome.ensures.limited in
     let some : (length c.limited-outcome.result.effects == 0) ≡ false =
     rw (sym c.items.ensures) (sym c.is_empty.ensures ∙ c.if-is_empty.false) in
     elim c.match-room_for.branch [
       | in-Ok w ↦ rw w.result-is refl
       | in-Err w ↦ absurd (
           let same : outcome ≡ c.limited-outcome.result =
-          w.an_event_has_one_outcome.ensures _ _ _ outcome c.limited-outcome.result (rw (sym c.self.view_is) at step) planned in
+          w.an_event_has_one_outcome.ensures _ _ _ outcome c.limited-outcome.result (rw (sym c.self.view_is) at step)
+          (given_step _ _ _ _ (not_free _ some) planned) in
           not_free _ some (ap (λ (o : Outcome). o.effects) (sym same) ∙ free.rests)
           )
     ]

@@ -1,9 +1,8 @@
-use Rattle.std.proofs.Common.{◌≡◌, ap, sym, subst, ◌∙◌}
+use Rattle.std.proofs.Common.{◌≡◌, ap, ◌∙◌}
 use Rattle.exchange_model.specs.Fold.{resized}
-use Rattle.fold_laws.specs.Reached.{IsReached}
-use Rattle.fold_laws.proofs.ReachedLemmas.{reached_resized}
 use Rattle.msh_core.specs.Machine.{Machine}
 use Rattle.msh_core.proofs.FoldSizeLemmas.{size_is, size_within}
+use Rattle.msh_core.proofs.MeasuredLemmas.{consistent_resized, consistent_same}
 use Rattle.msh_core.proofs.machine.Core.set_folded.Goals as goal
 
 pub resize-requires-clause-begun : goal.resize-requires-clause-begun
@@ -14,7 +13,8 @@ resize-requires-clause-limited c = (size_within c.args.self.now.end c.folded_siz
 
 pub invariant_of-self : goal.invariant_of-self
 invariant_of-self c =
-    subst IsReached (sym c.resize.ensures.end) (reached_resized c.self.inside.tables.end c.folded_size-size.result c.self.invariant)
+    consistent_same _ _ _ _ c.resize.ensures.end c.resize.ensures.places
+    (consistent_resized c.self.inside.tables.end c.self.inside.tables.places c.folded_size-size.result c.self.invariant)
 
 pub returns-clause-end : goal.returns-clause-end
 returns-clause-end c size is =

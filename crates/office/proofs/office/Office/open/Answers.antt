@@ -16,7 +16,7 @@ invariant_of-office g c =
       record {
         halted = sym going;
         kept = λ same. kept;
-        left = λ image told left may. left_going core.modes core.end list left going (kept_opens g.D.Disk core.end journal kept image told left may);
+        left = λ image told left may. left_going core.modes core.end list left going (kept_opens g.D.Disk core.end journal kept.is image told left may);
         counted = tt;
       },
       ap length c.in-Ok-of.ensures,
@@ -24,7 +24,7 @@ invariant_of-office g c =
 
 pub returns-in-Ok-open_end-clause-safe : goal.returns-in-Ok-open_end-clause-safe
 returns-in-Ok-open_end-clause-safe g c =
-    kept_opens g.D.Disk c.in-Ok-open_end.core.end c.in-Ok-open_end.journal c.in-Ok-open_end.ensures.kept
+    kept_opens g.D.Disk c.in-Ok-open_end.core.end c.in-Ok-open_end.journal c.in-Ok-open_end.ensures.kept.is
 
 pub returns-in-Err-open_end-clause-whole : goal.returns-in-Err-open_end-clause-whole
 returns-in-Err-open_end-clause-whole g c at is image told end reads =

@@ -1,4 +1,4 @@
-use Rattle.std.proofs.Common.{◌≡◌, ◌∙◌, ◌<◌, ◌^◌, inl, inr, length, refl, sym, subst, arith}
+use Rattle.std.proofs.Common.{◌≡◌, ◌∙◌, ◌<◌, ◌^◌, inl, inr, is_some, length, refl, sym, subst, arith}
 use Rattle.std.proofs.Math.Nat.{eq-or-lt_of_le}
 use Rattle.exchange_model.specs.declared.reply.Reply.TheVariants as reply
 use Rattle.office.specs.State.{TakesEvents, OfficeState}
@@ -30,7 +30,7 @@ returns-in-Some-clause-handles g c =
       );
       any_moment = λ going. absurd (not_both o.halt halt c.in-Some.is (order.halted ∙ going));
       keeps = keeps now refl c.enter_refused.ensures.book c.enter_refused.ensures.pass
-          (refused_leads o.core.modes o.keeper.list more c.args.event halt o.core.end (sym order.halted ∙ c.in-Some.is) c.enter_refused.ensures.list) refl (λ none. refl) (omega arith);
+          (refused_leads (is_some (g.D.Disk.seen o.journal.disk)) o.core.modes o.keeper.list more c.args.event halt o.core.end (sym order.halted ∙ c.in-Some.is) c.enter_refused.ensures.list) refl (λ none. refl) (omega arith);
     })
 
 -- nothing is done, since the history is full
@@ -48,6 +48,6 @@ returns-in_default-clause-handles g c =
     ] in
     rw (← c.self.view_is, c.show.ensures.same) (record {
       answer = finds_worn full c.show.ensures.begins c.show.ensures.whole;
-      any_moment = λ going image told. still_run g.met.D.Disk.only_now (order.kept (order.halted ∙ going)) o.core.modes c.args.event image told;
+      any_moment = λ going image told. still_run g.met.D.Disk.only_now (order.kept (order.halted ∙ going)).is o.core.modes c.args.event image told;
       keeps = keeps order refl refl c.show.ensures.whole (λ start leads. leads) refl (λ none. refl) (omega arith);
     })
