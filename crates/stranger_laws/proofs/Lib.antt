@@ -1,3 +1,4 @@
+mod BelongingLemmas
 mod BroughtLemmas
 mod ClockLemmas
 mod ConfirmLemmas

@@ -32,11 +32,11 @@ abbrev pub NamesOne : Signal → End → Type 0
 NamesOne receipt end = (id : List ℕ) × (receipt.ref_to ≡ Some id) × Has (ids end.inbox) id
 
 sent_suits : (w : What) (r : Reply) → Suits w r → (m : Message) → Has (sends r) m → HasReference m
-sent_suits w (reply.Push address one) suits m (inl e) = subst HasReference e suits
+sent_suits w (reply.Push address one) suits m (inl e) = subst HasReference e suits.0
 sent_suits w (reply.Push address one) suits m (inr none) = absurd none
-sent_suits w (reply.Request address one) suits m (inl e) = subst HasReference e suits
+sent_suits w (reply.Request address one) suits m (inl e) = subst HasReference e suits.0
 sent_suits w (reply.Request address one) suits m (inr none) = absurd none
-sent_suits w (reply.Answer one) suits m (inl e) = subst HasReference e suits
+sent_suits w (reply.Answer one) suits m (inl e) = subst HasReference e suits.0
 sent_suits w (reply.Answer one) suits m (inr none) = absurd none
 sent_suits w (reply.Submitted number id) suits m h = absurd h
 sent_suits w reply.NoMode suits m h = absurd h

@@ -33,6 +33,7 @@ use Rattle.exchange_model.specs.declared.what.What.{What}
 use Rattle.exchange_model.specs.declared.what.What.TheVariants as what
 use Rattle.exchange_laws.proofs.EndSteps.{by_option, by_bool}
 use Rattle.exchange_laws.proofs.PairRows.{pair_cases}
+use Rattle.stranger_laws.specs.Belonging.{AsksToPull, BelongsTo, IsReceived}
 
 -- a receipt has a reference
 abbrev pub RefersIf : Option (List ℕ) → SignalBody → Type 0
@@ -47,9 +48,9 @@ HasReference (message.Pair pair) = RefersIf pair.receipt.ref_to pair.receipt.bod
 
 -- a reply to such an event
 abbrev pub Suits : What → Reply → Type 0
-Suits w (reply.Push address m) = HasReference m
-Suits w (reply.Request address m) = HasReference m
-Suits w (reply.Answer m) = HasReference m
+Suits w (reply.Push address m) = HasReference m × (w ≡ what.Take)
+Suits w (reply.Request address m) = HasReference m × AsksToPull w
+Suits w (reply.Answer m) = HasReference m × IsReceived w
 Suits w (reply.Ticked failed) = w ≡ what.Tick
 Suits w (reply.Full size need) = ⊥
 Suits w other = Unit {0}
@@ -83,96 +84,97 @@ ticks end event outcome h =
     suits_by what.Tick (reply.Ticked _) _ outcome refl t.2)
 
 -- Take
-takes : (end : End) (outcome : Outcome) (w : What) → Takes end outcome → Suits w outcome.reply
+takes : (end : End) (outcome : Outcome) → Takes end outcome → Suits what.Take outcome.reply
 unfolding Takes
-takes end outcome w h =
-    by_option _ _ _ (head_of queue.Push end) h (suits_by w reply.Nothing _ outcome tt) (λ s _. suits_by w (reply.Push _ _) _ outcome tt)
+takes end outcome h =
+    by_option _ _ _ (head_of queue.Push end) h (suits_by what.Take reply.Nothing _ outcome tt)
+    (λ s _. suits_by what.Take (reply.Push _ _) _ outcome (tt, refl))
 
 -- Ask
-asks : (modes : List Mode) (event : Event) (name : List ℕ) (outcome : Outcome) (w : What) → Asks modes event name outcome → Suits w outcome.reply
+asks : (modes : List Mode) (event : Event) (name : List ℕ) (outcome : Outcome) → Asks modes event name outcome → Suits (what.Ask name) outcome.reply
 unfolding Asks
-asks modes event name outcome w h =
-    by_option _ _ _ (mode_named modes name) h (suits_by w reply.NoMode _ outcome tt) (λ mode _ k. asked mode.route k)
+asks modes event name outcome h =
+    by_option _ _ _ (mode_named modes name) h (suits_by (what.Ask name) reply.NoMode _ outcome tt) (λ mode _ k. asked mode.route k)
   where
-    asked : (r : Route) → AsksBy r event outcome → Suits w outcome.reply
-    asked (route.Push address) k = suits_by w reply.NoMode _ outcome tt k
+    asked : (r : Route) → AsksBy r event outcome → Suits (what.Ask name) outcome.reply
+    asked (route.Push address) k = suits_by (what.Ask name) reply.NoMode _ outcome tt k
     asked (route.Pull mpc address) k =
-        suits_by w (reply.Request address (message.Signal k.0)) _ outcome (subst (RefersIf k.0.ref_to) (sym k.1.asks) tt) k.2
+        suits_by (what.Ask name) (reply.Request address (message.Signal k.0)) _ outcome (subst (RefersIf k.0.ref_to) (sym k.1.asks) tt, tt) k.2
 
 -- AskWith
-asks_with : (modes : List Mode) (end : End) (event : Event) (name : List ℕ) (n : ℕ) (outcome : Outcome) (w : What)
-    → AsksWith modes end event name n outcome → Suits w outcome.reply
+asks_with : (modes : List Mode) (end : End) (event : Event) (name : List ℕ) (n : ℕ) (outcome : Outcome)
+    → AsksWith modes end event name n outcome → Suits (what.AskWith name n) outcome.reply
 unfolding AsksWith
-asks_with modes end event name n outcome w h =
-    by_option _ _ _ (mode_named modes name) h (suits_by w reply.NoMode _ outcome tt) (λ mode _ k. asked mode.route k)
+asks_with modes end event name n outcome h =
+    by_option _ _ _ (mode_named modes name) h (suits_by (what.AskWith name n) reply.NoMode _ outcome tt) (λ mode _ k. asked mode.route k)
   where
-    paired : (mpc address : List ℕ) (o : Option InboxEntry) → AsksWithEntry mpc address event o outcome → Suits w outcome.reply
-    paired mpc address None k = suits_by w reply.NoEntry _ outcome tt k
+    paired : (mpc address : List ℕ) (o : Option InboxEntry) → AsksWithEntry mpc address event o outcome → Suits (what.AskWith name n) outcome.reply
+    paired mpc address None k = suits_by (what.AskWith name n) reply.NoEntry _ outcome tt k
     paired mpc address (Some entry) k =
-        suits_by w (reply.Request address (message.Pair k.0)) _ outcome
-        (refers_any entry.header.id k.0.receipt.ref_to k.0.receipt.body k.1.receipt.refers) k.2
+        suits_by (what.AskWith name n) (reply.Request address (message.Pair k.0)) _ outcome
+        (refers_any entry.header.id k.0.receipt.ref_to k.0.receipt.body k.1.receipt.refers, tt) k.2
 
-    asked : (r : Route) → AsksWithBy r end event n outcome → Suits w outcome.reply
-    asked (route.Push address) k = suits_by w reply.NoMode _ outcome tt k
+    asked : (r : Route) → AsksWithBy r end event n outcome → Suits (what.AskWith name n) outcome.reply
+    asked (route.Push address) k = suits_by (what.AskWith name n) reply.NoMode _ outcome tt k
     asked (route.Pull mpc address) k =
-        by_bool _ _ _ (nat_lt n end.confirmed) k (λ _. suits_by w reply.Gone _ outcome tt) (λ _. paired mpc address (slice_get end.inbox n))
+        by_bool _ _ _ (nat_lt n end.confirmed) k (λ _. suits_by (what.AskWith name n) reply.Gone _ outcome tt) (λ _. paired mpc address (slice_get end.inbox n))
 
 -- Came
-errs : (code : ℕ) (about : List ℕ) (event : Event) (outcome : Outcome) (w : What) → Errs code about event outcome → Suits w outcome.reply
-errs code about event outcome w h =
-    suits_by w (reply.Answer (message.Signal h.0)) _ outcome (refers_any about h.0.ref_to h.0.body h.1.refers) h.2
+errs : (code : ℕ) (about : List ℕ) (event : Event) (outcome : Outcome) (m : Message) → Errs code about event outcome → Suits (what.Came m) outcome.reply
+errs code about event outcome m h =
+    suits_by (what.Came m) (reply.Answer (message.Signal h.0)) _ outcome (refers_any about h.0.ref_to h.0.body h.1.refers, tt) h.2
 
-receipts : (header : UserHeader) (effects : List Effect) (event : Event) (outcome : Outcome) (w : What) → Receipts header effects event outcome
-    → Suits w outcome.reply
-receipts header effects event outcome w h =
-    suits_by w (reply.Answer (message.Signal h.0)) effects outcome (refers_any header.id h.0.ref_to h.0.body h.1.refers) h.2
+receipts : (header : UserHeader) (effects : List Effect) (event : Event) (outcome : Outcome) (m : Message) → Receipts header effects event outcome
+    → Suits (what.Came m) outcome.reply
+receipts header effects event outcome m h =
+    suits_by (what.Came m) (reply.Answer (message.Signal h.0)) effects outcome (refers_any header.id h.0.ref_to h.0.body h.1.refers, tt) h.2
 
-user_comes : (modes : List Mode) (end : End) (event : Event) (header : UserHeader) (payloads : List Payload) (outcome : Outcome) (w : What)
-    → UserComes modes end event header payloads outcome → Suits w outcome.reply
+user_comes : (modes : List Mode) (end : End) (event : Event) (header : UserHeader) (payloads : List Payload) (outcome : Outcome) (m : Message)
+    → UserComes modes end event header payloads outcome → Suits (what.Came m) outcome.reply
 unfolding UserComes
-user_comes modes end event header payloads outcome w h =
-    by_option _ _ _ (mode_of modes header) h (errs 10 header.id event outcome w) (λ mode _ k.
-    by_bool _ _ _ (is_known header.id end.inbox) k (λ _. receipts header [] event outcome w) (λ _ d.
-    receipts header _ event outcome w d.3))
+user_comes modes end event header payloads outcome m h =
+    by_option _ _ _ (mode_of modes header) h (errs 10 header.id event outcome m) (λ mode _ k.
+    by_bool _ _ _ (is_known header.id end.inbox) k (λ _. receipts header [] event outcome m) (λ _ d.
+    receipts header _ event outcome m d.3))
 
-pull_comes : (modes : List Mode) (end : End) (event : Event) (id mpc : List ℕ) (outcome : Outcome) (w : What)
-    → PullComes modes end event id mpc outcome → Suits w outcome.reply
+pull_comes : (modes : List Mode) (end : End) (event : Event) (id mpc : List ℕ) (outcome : Outcome) (m : Message)
+    → PullComes modes end event id mpc outcome → Suits (what.Came m) outcome.reply
 unfolding PullComes
-pull_comes modes end event id mpc outcome w h =
-    by_option _ _ _ (channel_mode modes mpc) h (errs 1 id event outcome w) (λ mode _ k.
-    by_option _ _ _ (head_of (queue.Channel mpc) end) k (errs 6 id event outcome w) (λ s _. suits_by w (reply.Answer _) _ outcome tt))
+pull_comes modes end event id mpc outcome m h =
+    by_option _ _ _ (channel_mode modes mpc) h (errs 1 id event outcome m) (λ mode _ k.
+    by_option _ _ _ (head_of (queue.Channel mpc) end) k (errs 6 id event outcome m) (λ s _. suits_by (what.Came m) (reply.Answer _) _ outcome (tt, tt)))
 
-receipt_comes : (end : End) (event : Event) (id : List ℕ) (ref_to : Option (List ℕ)) (copy : Option UserHeader) (outcome : Outcome) (w : What)
-    → ReceiptComes end event id ref_to copy outcome → Suits w outcome.reply
+receipt_comes : (end : End) (event : Event) (id : List ℕ) (ref_to : Option (List ℕ)) (copy : Option UserHeader) (outcome : Outcome) (m : Message)
+    → ReceiptComes end event id ref_to copy outcome → Suits (what.Came m) outcome.reply
 unfolding ReceiptComes
-receipt_comes end event id ref_to copy outcome w h =
-    by_option _ _ _ (option_and_then (λ ref. sent_of ref end.sent) ref_to) h (errs 3 id event outcome w) (λ s _ k.
-    elim k [ inl other ↦ errs 302 id event outcome w other.1 | inr own ↦ settles s own.1 ])
+receipt_comes end event id ref_to copy outcome m h =
+    by_option _ _ _ (option_and_then (λ ref. sent_of ref end.sent) ref_to) h (errs 3 id event outcome m) (λ s _ k.
+    elim k [ inl other ↦ errs 302 id event outcome m other.1 | inr own ↦ settles s own.1 ])
   where
-    settles : (s : Sent) → Settles s outcome → Suits w outcome.reply
-    settles s k = by_bool _ _ _ (is_pending s) k (λ _. suits_by w reply.Quiet _ outcome tt) (λ _. suits_by w reply.Quiet _ outcome tt)
+    settles : (s : Sent) → Settles s outcome → Suits (what.Came m) outcome.reply
+    settles s k = by_bool _ _ _ (is_pending s) k (λ _. suits_by (what.Came m) reply.Quiet _ outcome tt) (λ _. suits_by (what.Came m) reply.Quiet _ outcome tt)
 
 signal_comes : (modes : List Mode) (end : End) (event : Event) (id : List ℕ) (ref_to : Option (List ℕ)) (b : SignalBody) (outcome : Outcome)
-    (w : What) → SignalComes modes end event id ref_to b outcome → Suits w outcome.reply
-signal_comes modes end event id ref_to (body.Pull mpc) outcome w h = pull_comes modes end event id mpc outcome w h
-signal_comes modes end event id ref_to (body.Receipt copy) outcome w h = receipt_comes end event id ref_to copy outcome w h
-signal_comes modes end event id ref_to (body.Errors items) outcome w h = suits_by w reply.Quiet _ outcome tt h
+    (m : Message) → SignalComes modes end event id ref_to b outcome → Suits (what.Came m) outcome.reply
+signal_comes modes end event id ref_to (body.Pull mpc) outcome m h = pull_comes modes end event id mpc outcome m h
+signal_comes modes end event id ref_to (body.Receipt copy) outcome m h = receipt_comes end event id ref_to copy outcome m h
+signal_comes modes end event id ref_to (body.Errors items) outcome m h = suits_by (what.Came m) reply.Quiet _ outcome tt h
 
-pair_comes : (modes : List Mode) (end : End) (event : Event) (pair : Pair) (outcome : Outcome) (w : What)
-    → PairComes modes end event pair.receipt pair.pull outcome → Suits w outcome.reply
-pair_comes modes end event pair outcome w h = elim (pair_cases modes end event pair outcome h) [
-  | inl r ↦ errs r.code r.about event outcome w r.errs
+pair_comes : (modes : List Mode) (end : End) (event : Event) (pair : Pair) (outcome : Outcome) (m : Message)
+    → PairComes modes end event pair.receipt pair.pull outcome → Suits (what.Came m) outcome.reply
+pair_comes modes end event pair outcome m h = elim (pair_cases modes end event pair outcome h) [
+  | inl r ↦ errs r.code r.about event outcome m r.errs
   | inr s ↦ elim s.row [
-    | inl a ↦ pull_comes modes end event pair.pull.id s.mpc outcome w a.row
-    | inr b ↦ subst (λ (o : Outcome). Suits w o.reply) (sym b.is) (pull_comes modes _ event pair.pull.id s.mpc b.pulled w b.row)
+    | inl a ↦ pull_comes modes end event pair.pull.id s.mpc outcome m a.row
+    | inr b ↦ subst (λ (o : Outcome). Suits (what.Came m) o.reply) (sym b.is) (pull_comes modes _ event pair.pull.id s.mpc b.pulled m b.row)
   ]
 ]
 
-comes : (modes : List Mode) (end : End) (event : Event) (m : Message) (outcome : Outcome) (w : What) → Comes modes end event m outcome
-    → Suits w outcome.reply
-comes modes end event (message.User header payloads) outcome w h = user_comes modes end event header payloads outcome w h
-comes modes end event (message.Signal signal) outcome w h = signal_comes modes end event signal.id signal.ref_to signal.body outcome w h
-comes modes end event (message.Pair pair) outcome w h = pair_comes modes end event pair outcome w h
+comes : (modes : List Mode) (end : End) (event : Event) (m : Message) (outcome : Outcome) → Comes modes end event m outcome
+    → Suits (what.Came m) outcome.reply
+comes modes end event (message.User header payloads) outcome h = user_comes modes end event header payloads outcome (message.User header payloads) h
+comes modes end event (message.Signal signal) outcome h = signal_comes modes end event signal.id signal.ref_to signal.body outcome (message.Signal signal) h
+comes modes end event (message.Pair pair) outcome h = pair_comes modes end event pair outcome (message.Pair pair) h
 
 -- Read
 reads : (end : End) (n : ℕ) (w : What) → Suits w (read_reply end n)
@@ -211,11 +213,35 @@ pub row_suits : (modes : List Mode) (end : End) (event : Event) (w : What) (outc
     → Suits w outcome.reply
 row_suits modes end event (what.Submit mode conversation loads) outcome h = submits modes end event mode conversation loads outcome _ h
 row_suits modes end event what.Tick outcome h = ticks end event outcome h
-row_suits modes end event what.Take outcome h = takes end outcome _ h
-row_suits modes end event (what.Ask mode) outcome h = asks modes event mode outcome _ h
-row_suits modes end event (what.AskWith mode n) outcome h = asks_with modes end event mode n outcome _ h
-row_suits modes end event (what.Came m) outcome h = comes modes end event m outcome _ h
+row_suits modes end event what.Take outcome h = takes end outcome h
+row_suits modes end event (what.Ask mode) outcome h = asks modes event mode outcome h
+row_suits modes end event (what.AskWith mode n) outcome h = asks_with modes end event mode n outcome h
+row_suits modes end event (what.Came m) outcome h = comes modes end event m outcome h
 row_suits modes end event (what.Read n) outcome h = suits_by _ (read_reply end n) _ outcome (reads end n _) h
 row_suits modes end event (what.Confirm upto) outcome h = confirms end upto outcome _ h
 row_suits modes end event (what.Status id) outcome h =
     suits_by _ (standing_reply (sent_of id end.sent)) _ outcome (stands (sent_of id end.sent) _) h
+
+-- a reply that suits its event belongs to it
+pub belongs : (w : What) (r : Reply) → Suits w r → BelongsTo w r
+belongs w (reply.Push address m) suits = suits.1
+belongs w (reply.Request address m) suits = suits.1
+belongs w (reply.Answer m) suits = suits.1
+belongs w (reply.Ticked failed) suits = tt
+belongs w (reply.Full size need) suits = tt
+belongs w reply.Quiet suits = tt
+belongs w (reply.Submitted number id) suits = tt
+belongs w reply.NoMode suits = tt
+belongs w reply.OutboxFull suits = tt
+belongs w reply.TooLarge suits = tt
+belongs w (reply.Entry header payloads) suits = tt
+belongs w reply.NoEntry suits = tt
+belongs w reply.Gone suits = tt
+belongs w (reply.Confirmed upto) suits = tt
+belongs w (reply.Pending tries) suits = tt
+belongs w reply.Receipted suits = tt
+belongs w reply.Failed suits = tt
+belongs w (reply.RefusedWith code) suits = tt
+belongs w reply.Unknown suits = tt
+belongs w (reply.Stopped before after) suits = tt
+belongs w reply.Nothing suits = tt

@@ -1,5 +1,6 @@
 -- The specs of stranger_laws.
 pub mod AtSite
+pub mod Belonging
 pub mod Brought
 pub mod Delivery
 pub mod Heads

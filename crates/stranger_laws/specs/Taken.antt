@@ -1,5 +1,6 @@
 -- How an endpoint takes a user message that it has a mode for (AS4 Profile, section 3.2, on receipts and duplicates).
 use Rattle.std.specs.Prelude.{◌≡◌, List, [], ◌∷◌, ◌++◌, Some, true, false}
+use Rattle.as4_codes.specs.Signals.{IsErrorSignalOf}
 use Rattle.as4_values.specs.declared.header.UserHeader.{UserHeader}
 use Rattle.as4_values.specs.declared.message.Message.TheVariants as message
 use Rattle.as4_values.specs.declared.payload.Payload.{Payload}
@@ -8,7 +9,10 @@ use Rattle.as4_values.specs.declared.signal_body.SignalBody.TheVariants as body
 use Rattle.exchange_model.specs.End.{End}
 use Rattle.exchange_model.specs.Questions.{is_known}
 use Rattle.exchange_model.specs.World.{sends}
+use Rattle.exchange_model.specs.declared.event.Event.{Event}
+use Rattle.exchange_model.specs.declared.outcome.Outcome.{Outcome}
 use Rattle.exchange_model.specs.declared.reply.Reply.{Reply}
+use Rattle.exchange_model.specs.declared.reply.Reply.TheVariants as reply
 
 -- from before the message to after it, with the reply to its sender
 pub record IsTaken (header : UserHeader) (payloads : List Payload) (r : Reply) (old new : End) : Type 0 where
@@ -23,3 +27,10 @@ pub record IsTaken (header : UserHeader) (payloads : List Payload) (r : Reply) (
   pub sent : sends r ≡ message.Signal signal ∷ []
   pub refers : signal.ref_to ≡ Some header.id
   pub copies : signal.body ≡ body.Receipt (Some header)
+
+-- the outcome where no mode of the endpoint is for the message: an error signal that refers to it, and nothing changes
+pub record IsRefusedFor (header : UserHeader) (event : Event) (outcome : Outcome) : Type 0 where
+  pub unchanged : outcome.effects ≡ []
+  pub signal : Signal
+  pub says : IsErrorSignalOf 10 (Some header.id) event.stamp event.nonce signal
+  pub sent : outcome.reply ≡ reply.Answer (message.Signal signal)

@@ -4,7 +4,9 @@
 //!     one endpoint, from the empty one     an_end_is_timely, what_came_was_brought, a_receipt_names_what_came,
 //!                                          what_is_confirmed_is_kept, a_failure_refuses
 //!     one endpoint, from any one           what_came_stays_from, what_is_settled_stays_from
-//!     one step, at any endpoint            what_comes_is_taken, full_is_told_for_cause, a_head_is_handed_out,
+//!     one step, at any endpoint            what_comes_is_taken, what_no_mode_takes_is_refused,
+//!                                          full_is_told_for_cause, a_head_is_handed_out,
+//!                                          what_is_sent_belongs_to_its_event,
 //!                                          a_confirmation_is_kept, an_unknown_identifier_is_told, a_tick_sets_the_clock,
 //!                                          a_step_uses_the_clock
 //!     two endpoints                        a_site_is_an_end_alone, an_end_alone_is_part_of_a_world,
@@ -43,12 +45,13 @@ ghost use Rattle.exchange_model.specs.declared.reply.Reply.TheVariants as reply;
 ghost use Rattle.exchange_model.specs.declared.sent.Sent.{Sent};
 ghost use Rattle.exchange_model.specs.declared.what.What.TheVariants as what;
 ghost use Rattle.stranger_laws.specs.AtSite.{AreHeardAt, happenings_at};
+ghost use Rattle.stranger_laws.specs.Belonging.{BelongsTo};
 ghost use Rattle.stranger_laws.specs.Brought.{IsInboxBrought};
 ghost use Rattle.stranger_laws.specs.Delivery.{Delivers};
 ghost use Rattle.stranger_laws.specs.Heads.{AsksForHead, AnswersWithHead};
 ghost use Rattle.stranger_laws.specs.NoRoom.{IsOutOfRoom};
 ghost use Rattle.stranger_laws.specs.Receipting.{SendsReceipt, NamesKnown};
-ghost use Rattle.stranger_laws.specs.Taken.{IsTaken};
+ghost use Rattle.stranger_laws.specs.Taken.{IsRefusedFor, IsTaken};
 ghost use Rattle.stranger_laws.specs.Timely.{IsTimely, UsesClock};
 
 /// The clock shows the stamp of a tick. A pending submission is due at most one period after the clock's moment, so an
@@ -83,6 +86,14 @@ pub fn what_comes_is_taken()
         → ¬ IsFull outcome.reply → IsTaken header payloads outcome.reply end (applied outcome.effects end) }
 {}
 
+/// An endpoint without a mode for a user message refuses it: the reply is the error signal EBMS:0010, which refers to the
+/// message, and nothing changes.
+pub fn what_no_mode_takes_is_refused()
+    ensures { (modes : List Mode) (end : End) (event : Event) (outcome : Outcome) (header : UserHeader) (payloads : List Payload)
+        → Step modes end event outcome → event.what ≡ what.Came (message.User header payloads) → mode_of modes header ≡ None
+        → IsRefusedFor header event outcome }
+{}
+
 /// An endpoint says that its journal is full only where it is: it reports the journal's size and a record that the
 /// limit has no room for, and there isn't room for a record of the largest effect. Nothing changes.
 pub fn full_is_told_for_cause()
@@ -94,6 +105,13 @@ pub fn full_is_told_for_cause()
 pub fn a_head_is_handed_out()
     ensures { (modes : List Mode) (end : End) (event : Event) (outcome : Outcome) (q : Queue) → Step modes end event outcome
         → AsksForHead q modes event.what → AnswersWithHead q end outcome.reply }
+{}
+
+/// What is sent belongs to its event: a message is pushed only where one was asked for, a pull request goes out only where one
+/// was asked for, and an answer goes back only to the sender of a message.
+pub fn what_is_sent_belongs_to_its_event()
+    ensures { (modes : List Mode) (end : End) (event : Event) (outcome : Outcome) → Step modes end event outcome
+        → BelongsTo event.what outcome.reply }
 {}
 
 /// A confirmation of an entry that isn't confirmed yet confirms the entry and those before it.

@@ -1,0 +1,13 @@
+mod AskingLemmas
+mod CallLemmas
+mod FollowingLemmas
+mod HoldingLemmas
+mod InsideLemmas
+mod KeepingLemmas
+mod OpeningLemmas
+mod ReadingLemmas
+mod ShowingLemmas
+mod SizeLemmas
+mod TurnLemmas
+mod TwoLemmas
+mod UnseenLemmas

@@ -1,0 +1,7 @@
+-- The specs of history_laws.
+pub mod Agreeing
+pub mod Asking
+pub mod Following
+pub mod Holding
+pub mod Inside
+pub mod TwoOffices
