@@ -1,0 +1,230 @@
+//! Links and doors over loopback, each in a thread.
+use as4_flow::{Got, Sink, Source, send_all};
+use as4_host::{Arrival, Door, Host, Link, LinkRefusal};
+use host_adapters::{HostCounts, SystemHost, TcpDoor, TcpLink};
+use std::alloc::AllocError;
+use std::test::Fail;
+use std::thread;
+use std::thread::Threads;
+use std::time::Duration;
+
+/// What a link or a door has counted where nothing failed.
+pub const NONE: HostCounts = HostCounts {
+    faults: 0,
+    reads: 0,
+    writes: 0,
+};
+
+/// A host whose clocks rest for a millisecond.
+pub fn host(rt: &HostRuntime) -> SystemHost<HostRuntime> {
+    SystemHost::of(rt.alloc(), *rt, Duration::from_millis(1))
+}
+
+/// A door at a port of loopback that the system picks.
+pub fn door(rt: &HostRuntime) -> Option<TcpDoor<HostRuntime>> {
+    let mut host = host(rt);
+    let door = host.open_door("http://127.0.0.1:0/").ok();
+    drop(host);
+    door
+}
+
+/// The address of a door at loopback.
+pub fn address(rt: &HostRuntime, door: &TcpDoor<HostRuntime>) -> Option<String> {
+    let port = door.local_addr().ok()?.port();
+    format!(in rt.alloc(); "http://127.0.0.1:{port}/").ok()
+}
+
+/// Whether exactly these bytes come next, in any number of pieces.
+fn reads<S: Source>(source: &mut S, bytes: &[u8]) -> bool {
+    let mut room = [0; 1];
+    for byte in bytes {
+        if source.read(&mut room) != Got::Gave(1) || room[0] != *byte {
+            return false;
+        }
+    }
+    true
+}
+
+/// Takes a guest, reads its bytes and answers. Whether all went well.
+pub fn answers<D: Door>(door: &mut D, request: &[u8], response: &[u8]) -> bool {
+    match door.next() {
+        Arrival::Open(source, sink) => {
+            let (mut source, mut sink) = (source, sink);
+            let is_so = reads(&mut source, request) && send_all(&mut sink, response).is_ok();
+            door.settle(source, sink);
+            is_so
+        }
+        Arrival::Closed | Arrival::Failed | Arrival::NoMemory => false,
+    }
+}
+
+/// Sends bytes to an address and reads the answer to its end. Whether all went well.
+pub fn asks<L: Link>(link: &mut L, address: &str, request: &[u8], response: &[u8]) -> bool {
+    match link.open(address) {
+        Ok((source, sink)) => {
+            let (mut source, mut sink) = (source, sink);
+            let is_so = send_all(&mut sink, request).is_ok()
+                && reads(&mut source, response)
+                && source.read(&mut [0; 1]) == Got::End;
+            link.settle(source, sink);
+            is_so
+        }
+        Err(_) => false,
+    }
+}
+
+/// A door and a link in two threads, with all that a server asks to send between its threads.
+fn meet<D: Door + Send, L: Link + Send>(
+    threads: &impl Threads,
+    door: &mut D,
+    link: &mut L,
+    address: &str,
+) -> (bool, bool)
+where
+    D::In: Send,
+    D::Out: Send,
+    L::In: Send,
+    L::Out: Send,
+{
+    thread::join(
+        threads,
+        || answers(door, b"question", b"answer"),
+        || asks(link, address, b"question", b"answer"),
+    )
+}
+
+/// A request and its answer. Whether both sides saw what they should, and counted nothing.
+fn talk(rt: &HostRuntime, threads: &impl Threads) -> Option<(bool, bool, HostCounts, HostCounts)> {
+    let mut door = door(rt)?;
+    let address = address(rt, &door)?;
+    let mut link = TcpLink::of(rt.alloc(), *rt);
+    let (answered, asked) = meet(threads, &mut door, &mut link, &address);
+    let counts = (door.counts(), link.counts());
+    drop(door);
+    drop(link);
+    drop(address);
+    Some((answered, asked, counts.0, counts.1))
+}
+
+#[test]
+fn a_link_reaches_a_door(rt: HostRuntime) {
+    assert_eq!(rt; talk(&rt, &rt), Some((true, true, NONE, NONE)));
+}
+
+/// Two doors that share a listener: each takes one of two guests.
+fn share(rt: &HostRuntime, threads: &impl Threads) -> Option<(bool, bool, bool, bool, HostCounts)> {
+    let mut first = door(rt)?;
+    let mut second = first.share().ok()?;
+    let address = address(rt, &first)?;
+    let mut link = TcpLink::of(rt.alloc(), *rt);
+    let (one, asked) = thread::join(
+        threads,
+        || answers(&mut second, b"1", b"a"),
+        || asks(&mut link, &address, b"1", b"a"),
+    );
+    drop(second);
+    let (two, again) = thread::join(
+        threads,
+        || answers(&mut first, b"2", b"b"),
+        || asks(&mut link, &address, b"2", b"b"),
+    );
+    let counts = first.counts();
+    drop(first);
+    drop(link);
+    drop(address);
+    Some((one, asked, two, again, counts))
+}
+
+#[test]
+fn shared_doors_accept_from_one_listener(rt: HostRuntime) {
+    assert_eq!(rt; share(&rt, &rt), Some((true, true, true, true, NONE)));
+}
+
+/// A guest that goes without reading what it was sent, which resets the connection.
+fn goes<L: Link>(link: &mut L, address: &str) -> bool {
+    match link.open(address) {
+        Ok((source, sink)) => {
+            let (mut source, sink) = (source, sink);
+            let is_so = reads(&mut source, b"a");
+            link.settle(source, sink);
+            is_so
+        }
+        Err(_) => false,
+    }
+}
+
+/// Sends to a guest until that fails, or reads from it until that fails. Whether both failed.
+fn sends_until_it_fails<D: Door>(door: &mut D, bytes: &[u8]) -> bool {
+    match door.next() {
+        Arrival::Open(source, sink) => {
+            let (mut source, mut sink) = (source, sink);
+            let mut failed = false;
+            for _ in 0..10_000 {
+                if !failed {
+                    failed = send_all(&mut sink, bytes).is_err();
+                }
+            }
+            let is_so = failed && source.read(&mut [0; 1]) != Got::Gave(1);
+            door.settle(source, sink);
+            is_so
+        }
+        Arrival::Closed | Arrival::Failed | Arrival::NoMemory => false,
+    }
+}
+
+/// A guest that goes away, and then another. What the door has counted.
+fn reset(rt: &HostRuntime, threads: &impl Threads) -> Option<(bool, bool, bool, bool, u64, u64)> {
+    let mut door = door(rt)?;
+    let address = address(rt, &door)?;
+    let mut link = TcpLink::of(rt.alloc(), *rt);
+    let bytes = [b'a'; 4096];
+    let (failed, left) = thread::join(
+        threads,
+        || sends_until_it_fails(&mut door, &bytes),
+        || goes(&mut link, &address),
+    );
+    let (answered, asked) = thread::join(
+        threads,
+        || answers(&mut door, b"question", b"answer"),
+        || asks(&mut link, &address, b"question", b"answer"),
+    );
+    let counts = door.counts();
+    drop(door);
+    drop(link);
+    drop(address);
+    Some((failed, left, answered, asked, counts.faults, counts.writes))
+}
+
+#[test]
+fn a_guest_that_resets_is_a_fault_and_no_end(rt: HostRuntime) {
+    assert_eq!(rt; reset(&rt, &rt), Some((true, true, true, true, 0, 1)));
+}
+
+/// Whether each address is refused, and how many faults the link has counted.
+fn refused(rt: &HostRuntime, addresses: &[&str]) -> (bool, u64) {
+    let mut link = TcpLink::of(rt.alloc(), *rt);
+    let mut are_so = true;
+    for address in addresses {
+        match link.open(address) {
+            Ok((source, sink)) => {
+                are_so = false;
+                link.settle(source, sink);
+            }
+            Err(refusal) => are_so = are_so && refusal == LinkRefusal::LinkFailed,
+        }
+    }
+    let faults = link.counts().faults;
+    drop(link);
+    (are_so, faults)
+}
+
+#[test]
+fn an_address_that_nobody_serves_is_a_fault(rt: HostRuntime) -> Result<(), Fail> {
+    let closed = door(&rt).ok_or(AllocError)?;
+    let address = address(&rt, &closed).ok_or(AllocError)?;
+    drop(closed);
+    let refused = refused(&rt, &[&address, "http://127.0.0.1:x/", "http://[::1"]);
+    drop(address);
+    assert_eq!(rt; refused, (true, 3));
+    Ok(())
+}

@@ -1,0 +1,138 @@
+//! The system with a resolver and a clock that a test sets.
+use crate::connections::{NONE, address, answers, asks, door};
+use as4_flow::{Got, Source};
+use as4_host::{Link, LinkRefusal};
+use host_adapters::{HostCounts, TcpLink};
+use std::io::ErrorKind;
+use std::net::{Ipv4Addr, Ipv6Addr, Net, SocketAddr, TcpListener, TcpStream};
+use std::sync::atomic::{AtomicU64, Ordering};
+use std::thread::Threads;
+use std::time::{Clock, Duration};
+use std::{io, thread};
+
+/// The name `two` has an IPv6 and an IPv4 address, and no other name has any. The clock goes on by `step` seconds each time
+/// that it is read.
+#[derive(Drop)]
+struct Staged {
+    system: HostRuntime,
+    seconds: AtomicU64,
+    step: u64,
+}
+
+impl Net for Staged {
+    type Stream = TcpStream;
+
+    type Listener = TcpListener;
+
+    fn bind(&self, addr: SocketAddr) -> io::Result<TcpListener> {
+        self.system.bind(addr)
+    }
+
+    fn connect(&self, addr: SocketAddr) -> io::Result<TcpStream> {
+        self.system.connect(addr)
+    }
+
+    fn connect_timeout(&self, addr: SocketAddr, timeout: Duration) -> io::Result<TcpStream> {
+        self.system.connect_timeout(addr, timeout)
+    }
+
+    fn lookup_host(&self, host: &str, port: u16, found: &mut [SocketAddr]) -> io::Result<usize> {
+        match found {
+            [first, second, ..] if host == "two" => {
+                *first = SocketAddr::from((Ipv6Addr::LOCALHOST, port));
+                *second = SocketAddr::from((Ipv4Addr::LOCALHOST, port));
+                Ok(2)
+            }
+            _ => Err(ErrorKind::NotFound.into()),
+        }
+    }
+}
+
+impl Clock for Staged {
+    fn monotonic(&self) -> io::Result<Duration> {
+        Ok(Duration::from_secs(self.seconds.fetch_add(self.step, Ordering::SeqCst)))
+    }
+
+    fn since_1970(&self) -> io::Result<Duration> {
+        self.system.since_1970()
+    }
+}
+
+fn staging(rt: &HostRuntime, step: u64) -> Staged {
+    Staged {
+        system: *rt,
+        seconds: AtomicU64::new(0),
+        step,
+    }
+}
+
+/// A door at IPv4's loopback, asked at a name with two addresses, and a name with none.
+fn names(rt: &HostRuntime, threads: &impl Threads) -> Option<(bool, bool, bool, HostCounts)> {
+    let system = staging(rt, 0);
+    let mut door = door(rt)?;
+    let port = door.local_addr().ok()?.port();
+    let two = format!(in rt.alloc(); "http://two:{port}/").ok()?;
+    let mut link = TcpLink::of(rt.alloc(), &system);
+    let (answered, asked) = thread::join(
+        threads,
+        || answers(&mut door, b"question", b"answer"),
+        || asks(&mut link, &two, b"question", b"answer"),
+    );
+    let is_refused = match link.open("http://three/") {
+        Ok((source, sink)) => {
+            link.settle(source, sink);
+            false
+        }
+        Err(refusal) => refusal == LinkRefusal::LinkFailed,
+    };
+    let counts = link.counts();
+    drop(link);
+    drop(door);
+    drop(two);
+    drop(system);
+    Some((answered, asked, is_refused, counts))
+}
+
+#[test]
+fn each_address_of_a_name_is_tried(rt: HostRuntime) {
+    let one = HostCounts { faults: 1, ..NONE };
+    assert_eq!(rt; names(&rt, &rt), Some((true, true, true, one)));
+}
+
+/// Reads of one byte each.
+fn three_reads<L: Link>(link: &mut L, address: &str) -> Option<[Got; 3]> {
+    let (source, sink) = link.open(address).ok()?;
+    let mut source = source;
+    let mut room = [0; 1];
+    let first = source.read(&mut room);
+    let second = source.read(&mut room);
+    let third = source.read(&mut room);
+    link.settle(source, sink);
+    Some([first, second, third])
+}
+
+/// An answer of three bytes, which is read after 0, 30 and 60 s.
+fn late(rt: &HostRuntime, threads: &impl Threads) -> Option<(bool, Option<[Got; 3]>, HostCounts)> {
+    let system = staging(rt, 30);
+    let mut door = door(rt)?;
+    let address = address(rt, &door)?;
+    let mut link = TcpLink::of(rt.alloc(), &system);
+    let (answered, read) = thread::join(
+        threads,
+        || answers(&mut door, b"", b"abc"),
+        || three_reads(&mut link, &address),
+    );
+    let counts = link.counts();
+    drop(link);
+    drop(door);
+    drop(address);
+    drop(system);
+    Some((answered, read, counts))
+}
+
+#[test]
+fn a_source_fails_when_its_time_is_spent(rt: HostRuntime) {
+    let one = HostCounts { reads: 1, ..NONE };
+    let reads = [Got::Gave(1), Got::Gave(1), Got::Failed];
+    assert_eq!(rt; late(&rt, &rt), Some((true, Some(reads), one)));
+}
