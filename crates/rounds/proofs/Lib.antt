@@ -1,0 +1,3 @@
+-- The lemmas of rounds.
+mod ExchangeLemmas
+mod RoundLemmas
