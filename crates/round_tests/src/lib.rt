@@ -2,8 +2,8 @@
 #![tactic(auto)]
 
 #[cfg(test)]
-mod rig;
+mod cases;
 #[cfg(test)]
-mod rounds;
+mod rig;
 #[cfg(test)]
 mod samples;

@@ -1,5 +1,5 @@
 use Rattle.std.proofs.Common.{true}
-use Rattle.round_tests.proofs.rounds.is_right.Given as goal
+use Rattle.round_tests.proofs.cases.is_right.Given as goal
 
 -- the opening that was just made
 abbrev pub ghosts-after : goal.ghosts-after
