@@ -6,7 +6,6 @@ use std::alloc::AllocError;
 use std::test::Fail;
 use std::thread;
 use std::thread::Threads;
-use std::time::Duration;
 
 /// What a link or a door has counted where nothing failed.
 pub const NONE: HostCounts = HostCounts {
@@ -17,7 +16,7 @@ pub const NONE: HostCounts = HostCounts {
 
 /// A host whose clocks rest for a millisecond.
 pub fn host(rt: &HostRuntime) -> SystemHost<HostRuntime> {
-    SystemHost::of(rt.alloc(), *rt, Duration::from_millis(1))
+    SystemHost::of(rt.alloc(), *rt)
 }
 
 /// A door at a port of loopback that the system picks.

@@ -8,6 +8,7 @@ use host_adapters::SystemHost;
 use std::alloc::Global;
 use std::fs;
 use std::test::Fail;
+use std::time::Duration;
 
 const FOLDER: &str = "adapter_tests_files";
 
@@ -163,7 +164,7 @@ fn made(host: &mut SystemHost<HostRuntime>) -> (u64, u64, bool) {
     }
     let before = host.faults();
     host.settle_dialer(dialer);
-    let mut time = host.time();
+    let mut time = host.time(Duration::from_millis(1));
     let mut dice = host.dice();
     time.rest();
     let is_so = time.now() > 0 && dice.next() != dice.next();

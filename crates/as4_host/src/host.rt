@@ -12,6 +12,7 @@ use crate::{Door, Link};
 use as4_disk::{Disk, Paths};
 use as4_flow::{Clock, Nonces};
 use as4_values::Octets;
+use std::time::Duration;
 
 /// Why a host didn't do what it was asked for.
 #[derive(Clone, Copy, Debug, PartialEq, Eq)]
@@ -182,8 +183,8 @@ pub trait Host {
         ensures guests { (a : List ℕ) → guests self.new a ≡ guests self.old a }
         ensures others { (names self.new ≡ names self.old) × (answers self.new ≡ answers self.old) };
 
-    /// A new clock. It takes no memory.
-    fn time(&mut self) -> Self::Time
+    /// A new clock, each rest of which lasts so long. No clause speaks of that length. It takes no memory.
+    fn time(&mut self, rest: Duration) -> Self::Time
         ensures last { Self.Time.last result ≡ 0 }
         ensures files { (p : List ℕ) → file self.new p ≡ file self.old p }
         ensures guests { (a : List ℕ) → guests self.new a ≡ guests self.old a }

@@ -21,6 +21,7 @@ use as4_values::{NoMemory, Octets, PlainData, Seq};
 use std::alloc::Global;
 use std::marker::Model;
 use std::mem;
+use std::time::Duration;
 
 /// How far the first numbers of two sources of nonces are apart.
 const NONCES: u128 = 1 << 64;
@@ -445,7 +446,7 @@ impl Host for MemoryHost {
         self.sent = sent;
     }
 
-    fn time(&mut self) -> ListClock {
+    fn time(&mut self, _rest: Duration) -> ListClock {
         let moments = mem::replace(&mut self.moments, Vec::new(self.alloc));
         ListClock::of(moments)
     }

@@ -28,7 +28,6 @@ pub struct SystemHost<
 > {
     alloc: Global,
     system: R,
-    rest: Duration,
     counts: HostCounts,
 }
 
@@ -42,14 +41,12 @@ impl<
 > SystemHost<R> {
     ghost use Rattle.host_adapters.specs.Adapters.{host_counts, no_faults};
 
-    /// `rest` is how long its clocks wait in each call of `Clock::rest`.
-    pub fn of(alloc: Global, system: R, rest: Duration) -> SystemHost<R>
+    pub fn of(alloc: Global, system: R) -> SystemHost<R>
         ensures { host_counts result ≡ no_faults }
     {
         SystemHost {
             alloc,
             system,
-            rest,
             counts: HostCounts::none(),
         }
     }
@@ -165,8 +162,8 @@ impl<
         drop(dialer);
     }
 
-    fn time(&mut self) -> SystemClock<R> {
-        SystemClock::of(self.system, self.rest)
+    fn time(&mut self, rest: Duration) -> SystemClock<R> {
+        SystemClock::of(self.system, rest)
     }
 
     fn dice(&mut self) -> SystemNonces<R> {

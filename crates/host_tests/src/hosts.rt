@@ -5,6 +5,7 @@ use as4_disk::{Disk, MemoryDisk, Part, Paths};
 use as4_flow::{Clock, Nonces};
 use as4_host::{Arrival, Door, FileGot, Host, HostRefusal, Link, MemoryHost, Stack};
 use std::alloc::Global;
+use std::time::Duration;
 
 const STORE: Paths<'static> = Paths {
     selector: "s",
@@ -191,7 +192,8 @@ fn the_first_dialer_has_the_answers(rt: HostRuntime) {
 fn draws(alloc: Global) -> Option<([u64; 2], [u128; 2])> {
     let mut host = MemoryHost::of(alloc, Stack::new(), vec![in alloc; 7].ok()?);
     host.count_from(5);
-    let (mut clock, mut other_clock) = (host.time(), host.time());
+    let rest = Duration::from_millis(1);
+    let (mut clock, mut other_clock) = (host.time(rest), host.time(rest));
     let (mut nonces, mut other_nonces) = (host.dice(), host.dice());
     let moments = [clock.now(), other_clock.now()];
     let numbers = [nonces.next(), other_nonces.next()];

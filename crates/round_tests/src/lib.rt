@@ -1,9 +1,15 @@
-//! Tests of `rounds`, by what it makes public.
+//! Tests of `rounds` and `workers`, by what they make public.
 #![tactic(auto)]
 
 #[cfg(test)]
 mod cases;
 #[cfg(test)]
+mod hired;
+#[cfg(test)]
 mod rig;
 #[cfg(test)]
 mod samples;
+#[cfg(test)]
+mod together;
+#[cfg(test)]
+mod turns;

@@ -108,23 +108,24 @@ pub(crate) fn opened<'a>(alloc: Global) -> Result<Opened<'a>, AllocError>
     }
 }
 
-fn link_of(alloc: Global, case: Case<'_>) -> Result<MemoryLink, AllocError> {
+/// A link that gives these answers, of which the open, the read and the write with these numbers fail.
+pub(crate) fn link_of(alloc: Global, given: &[&[u8]], failing: &[u64; 3]) -> Result<MemoryLink, AllocError> {
     let mut answers = Vec::new(alloc);
-    for answer in case.answers {
+    for answer in given {
         answers.push(Octets::of(answer.to_vec(alloc)?))?;
     }
     let Ok(answers) = Stack::of(alloc, Seq::of(answers)) else {
         return Err(AllocError);
     };
     let mut plan = StreamPlan::plain(alloc);
-    plan.failing_reads = case.failing[1..2].to_vec(alloc)?;
-    plan.failing_writes = case.failing[2..].to_vec(alloc)?;
-    Ok(MemoryLink::of(alloc, answers, case.failing[..1].to_vec(alloc)?, plan))
+    plan.failing_reads = failing[1..2].to_vec(alloc)?;
+    plan.failing_writes = failing[2..].to_vec(alloc)?;
+    Ok(MemoryLink::of(alloc, answers, failing[..1].to_vec(alloc)?, plan))
 }
 
 /// Submits a message of the mode that pushes, without loads.
 #[tactic(auto, unfolding(exchange_model::specs::Coming::may_come))]
-fn submits<R: Wait, J: Opening>(
+pub(crate) fn submits<R: Wait, J: Opening>(
     rt: &R,
     alloc: Global,
     office: &Mutex<SharedOffice<'_, MemoryDisk, J>>,
@@ -160,7 +161,7 @@ pub(crate) fn after<R: Wait, J: Opening>(
     requires opened { IsOpened memory_meaning J.Opening office }
     requires book { pass.book ≡ J.book }
 {
-    let mut link = link_of(alloc, case)?;
+    let mut link = link_of(alloc, case.answers, &case.failing)?;
     let mut clock = ListClock::of(Vec::new(alloc));
     let mut nonces = CountNonces::of(1);
     let shared: Mutex<SharedOffice<'_, MemoryDisk, J>> = Mutex::new(SharedOffice::new(office));

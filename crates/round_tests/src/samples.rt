@@ -45,3 +45,10 @@ pub(crate) const ACCEPTED: &[u8] = b"HTTP/1.1 202 Accepted\r\nContent-Length: 0\
 /// The same, of a service that is unavailable.
 pub(crate) const UNAVAILABLE: &[u8] =
     b"HTTP/1.1 503 Service Unavailable\r\nContent-Length: 0\r\n\r\n";
+
+/// A request with that user message.
+pub(crate) const PACKAGE: &[u8] =
+    b"POST /as4 HTTP/1.1\r\nContent-Type: application/soap+xml\r\nContent-Length: 708\r\n\r\n<S:Envelope xmlns:S=\"http://www.w3.org/2003/05/soap-envelope\" xmlns:eb=\"http://docs.oasis-open.org/ebxml-msg/ebms/v3.0/ns/core/200704/\"><S:Header><eb:Messaging S:mustUnderstand=\"true\"><eb:UserMessage><eb:MessageInfo><eb:Timestamp>2025-01-02T03:04:05.006Z</eb:Timestamp><eb:MessageId>m1@a</eb:MessageId></eb:MessageInfo><eb:PartyInfo><eb:From><eb:PartyId>acme</eb:PartyId><eb:Role>seller</eb:Role></eb:From><eb:To><eb:PartyId>bolt</eb:PartyId><eb:Role>buyer</eb:Role></eb:To></eb:PartyInfo><eb:CollaborationInfo><eb:Service>orders</eb:Service><eb:Action>pulled</eb:Action><eb:ConversationId>c1</eb:ConversationId></eb:CollaborationInfo></eb:UserMessage></eb:Messaging></S:Header><S:Body></S:Body></S:Envelope>";
+
+/// A request for the first received message.
+pub(crate) const GET_0: &[u8] = b"GET /inbox/0 HTTP/1.1\r\nHost: h\r\n\r\n";

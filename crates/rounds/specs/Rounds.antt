@@ -1,5 +1,5 @@
 -- What rounds do.
-use Rattle.std.specs.Prelude.{◌≡◌, ◌⊎◌, ℕ, List, Option, Some, None, Result, Ok, Err}
+use Rattle.std.specs.Prelude.{◌≡◌, ◌⊎◌, ℕ, Bool, false, List, Option, Some, None, Result, Ok, Err, is_some}
 use Rattle.as4_disk.specs.declared.disk.Disk.{Ghosts as DiskMeaning}
 use Rattle.as4_flow.specs.Draws.{Draws}
 use Rattle.as4_flow.specs.declared.clock.Clock.{Ghosts as ClockMeaning}
@@ -23,6 +23,7 @@ use Rattle.rounds.specs.Endings.{end_by, end_halted, end_lost}
 use Rattle.rounds.specs.Exchanges.{Exchanges}
 use Rattle.rounds.specs.Receiving.{Brings}
 use Rattle.rounds.specs.declared.exchange.Lost.{Lost}
+use Rattle.rounds.specs.declared.pulling.Pulled.{Pulled}
 
 -- what a round uses, at one moment: the caller's pass, the link, the clock and the source of nonces
 pub record Using (L C N : Type 0) : Type 0 where
@@ -33,6 +34,20 @@ pub record Using (L C N : Type 0) : Type 0 where
 
 abbrev pub using : {L C N : Type 0} → PassState Call → L → C → N → Using L C N
 using pass link clock nonces = record { pass = pass; link = link; clock = clock; nonces = nonces }
+
+-- where a message that is pushed goes
+abbrev pub push_address : Reply → Option (List ℕ)
+push_address (reply.Push address message) = Some address
+push_address other = None
+
+-- where a pull request goes
+abbrev pub pull_address : Reply → Option (List ℕ)
+pull_address (reply.Request address message) = Some address
+pull_address other = None
+
+-- how a round that pulls ended, and whether it received a message
+abbrev pub pulled : RoundEnd → Bool → Pulled
+pulled end received = record { end = end; received = received }
 
 -- a reply with its request, or how the round ends without it
 abbrev pub Follows : Result Sending OfficeFault → Result Sending RoundEnd → Type 0
@@ -92,13 +107,13 @@ module _ {D J L In Out C N : Type 0} (M : DiskMeaning D) (O : OpeningMeaning J) 
       (result : Result Sending RoundEnd) × Delivers address request None old new result × EndsAs result end
   Sends address None without old new end = (end ≡ without) × (new ≡ old)
 
-  -- the message that was taken is sent
-  abbrev pub SendsOut : Reply → Option (List ℕ) → Using L C N → Using L C N → RoundEnd → Type 0
-  SendsOut (reply.Push address message) request old new end = Sends address request round.Done old new end
-  SendsOut r request old new end = (end ≡ end_by r) × (new ≡ old)
+  -- the message that was taken is sent to its address
+  abbrev pub SendsOut : Option (List ℕ) → Sending → Using L C N → Using L C N → RoundEnd → Type 0
+  SendsOut (Some address) sending old new end = Sends address sending.request round.Done old new end
+  SendsOut None sending old new end = (end ≡ end_by sending.reply) × (new ≡ old)
 
   abbrev pub PushesOn : Result Sending OfficeFault → Using L C N → Using L C N → RoundEnd → Type 0
-  PushesOn (Ok sending) old new end = SendsOut sending.reply sending.request old new end
+  PushesOn (Ok sending) old new end = SendsOut (push_address sending.reply) sending old new end
   PushesOn (Err fault) old new end = (end ≡ end_halted fault) × (new ≡ old)
 
   -- a round that pushes
@@ -109,37 +124,38 @@ module _ {D J L In Out C N : Type 0} (M : DiskMeaning D) (O : OpeningMeaning J) 
     pub goes_on : PushesOn sending middle new end
 
   -- the answer to what a pull request brought is sent to the same address
-  abbrev pub Answers : List ℕ → Result Sending RoundEnd → Using L C N → Using L C N → RoundEnd → Type 0
-  Answers address (Ok sending) old new end = Sends address sending.request (end_by sending.reply) old new end
-  Answers address (Err other) old new end = (end ≡ other) × (new ≡ old)
+  abbrev pub Answers : List ℕ → Result Sending RoundEnd → Using L C N → Using L C N → Pulled → Type 0
+  Answers address (Ok sending) old new by =
+      Sends address sending.request (end_by sending.reply) old new by.end × (by.received ≡ is_some sending.request)
+  Answers address (Err other) old new by = (by ≡ pulled other false) × (new ≡ old)
 
   -- the pull request was sent, and then the answer to what it brought
-  pub record Pulls (address request : List ℕ) (old new : Using L C N) (end : RoundEnd) : Type 0 where
+  pub record Pulls (address request : List ℕ) (old new : Using L C N) (by : Pulled) : Type 0 where
     pub middle : Using L C N
     pub first : Result Sending RoundEnd
     pub delivers : Delivers address request (Some address) old middle first
-    pub answers : Answers address first middle new end
+    pub answers : Answers address first middle new by
 
-  abbrev pub PullsWith : List ℕ → Option (List ℕ) → Using L C N → Using L C N → RoundEnd → Type 0
-  PullsWith address (Some request) old new end = Pulls address request old new end
-  PullsWith address None old new end = (end ≡ round.Done) × (new ≡ old)
+  abbrev pub PullsWith : List ℕ → Option (List ℕ) → Using L C N → Using L C N → Pulled → Type 0
+  PullsWith address (Some request) old new by = Pulls address request old new by
+  PullsWith address None old new by = (by ≡ pulled round.Done false) × (new ≡ old)
 
-  -- the pull request is sent
-  abbrev pub AsksOut : Reply → Option (List ℕ) → Using L C N → Using L C N → RoundEnd → Type 0
-  AsksOut (reply.Request address message) request old new end = PullsWith address request old new end
-  AsksOut r request old new end = (end ≡ end_by r) × (new ≡ old)
+  -- the pull request is sent to its address
+  abbrev pub AsksOut : Option (List ℕ) → Sending → Using L C N → Using L C N → Pulled → Type 0
+  AsksOut (Some address) sending old new by = PullsWith address sending.request old new by
+  AsksOut None sending old new by = (by ≡ pulled (end_by sending.reply) false) × (new ≡ old)
 
-  abbrev pub PullsOn : Result Sending OfficeFault → Using L C N → Using L C N → RoundEnd → Type 0
-  PullsOn (Ok sending) old new end = AsksOut sending.reply sending.request old new end
-  PullsOn (Err fault) old new end = (end ≡ end_halted fault) × (new ≡ old)
+  abbrev pub PullsOn : Result Sending OfficeFault → Using L C N → Using L C N → Pulled → Type 0
+  PullsOn (Ok sending) old new by = AsksOut (pull_address sending.reply) sending old new by
+  PullsOn (Err fault) old new by = (by ≡ pulled (end_halted fault) false) × (new ≡ old)
 
   -- a round that pulls by the mode of this name
-  pub record AsksFirst (mode : List ℕ) (old new : Using L C N) (end : RoundEnd) : Type 0 where
+  pub record AsksFirst (mode : List ℕ) (old new : Using L C N) (by : Pulled) : Type 0 where
     pub middle : Using L C N
     pub sending : Result Sending OfficeFault
     pub asks : Steps (what.Ask mode) None old middle sending
-    pub goes_on : PullsOn sending middle new end
+    pub goes_on : PullsOn sending middle new by
 
   -- without memory for the name nothing is done
-  abbrev pub PullsBy : List ℕ → Using L C N → Using L C N → RoundEnd → Type 0
-  PullsBy mode old new end = AsksFirst mode old new end ⊎ ((end ≡ round.NoMemory) × (new ≡ old))
+  abbrev pub PullsBy : List ℕ → Using L C N → Using L C N → Pulled → Type 0
+  PullsBy mode old new by = AsksFirst mode old new by ⊎ ((by ≡ pulled round.NoMemory false) × (new ≡ old))

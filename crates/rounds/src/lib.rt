@@ -2,6 +2,7 @@
 //!
 //!     push_round   takes the next message, sends it, and handles the response
 //!     pull_round   sends a pull request, handles the response, and sends the answer that this gets
+//!     pull_one     the same, and says whether a message was received
 #![tactic(auto)]
 
 mod delivering;
@@ -11,6 +12,6 @@ mod pulling;
 mod pushing;
 mod receiving;
 
-pub use pulling::pull_round;
+pub use pulling::{Pulled, pull_one, pull_round};
 pub use pushing::push_round;
 pub use sessions::RoundEnd;

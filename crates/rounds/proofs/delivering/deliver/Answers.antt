@@ -1,5 +1,6 @@
 use Rattle.std.proofs.Common.{ℕ, List, Ok, Err, refl, inl, subst}
 use Rattle.rounds.specs.Exchanges.{Exchanges}
+use Rattle.rounds.proofs.RoundLemmas.{stepped}
 use Rattle.rounds.proofs.delivering.deliver.Goals as goal
 
 pub returns-in-Ok-send_under-clause-delivers : goal.returns-in-Ok-send_under-clause-delivers
@@ -11,14 +12,8 @@ returns-in-Ok-send_under-clause-delivers g c = record {
     kind = c.in-Ok-brought.what;
     brought = c.in-Ok-brought.ensures.brings;
     sending = Ok c.in-Ok-send_under.sending;
-    steps = record {
-      event = c.drawn-event.result;
-      asked = c.drawn-event.ensures.what;
-      moment = c.drawn-event.ensures.moment;
-      nonce = c.drawn-event.ensures.nonce;
-      link = refl;
-      sends = c.in-Ok-send_under.ensures.sends;
-    };
+    steps = stepped g.D.Disk g.J.Opening g.L.Link g.C.Clock g.N.Nonces c.in-Ok-brought.what _ _ _ _ _ _ _ _ c.drawn-event.result (Ok c.in-Ok-send_under.sending)
+        c.drawn-event.ensures.what c.drawn-event.ensures.moment c.drawn-event.ensures.nonce c.in-Ok-send_under.ensures.sends;
     follows = refl;
   });
 }
@@ -32,14 +27,8 @@ returns-in-Err-send_under-clause-delivers g c = record {
     kind = c.in-Ok-brought.what;
     brought = c.in-Ok-brought.ensures.brings;
     sending = Err c.in-Err-send_under.fault;
-    steps = record {
-      event = c.drawn-event.result;
-      asked = c.drawn-event.ensures.what;
-      moment = c.drawn-event.ensures.moment;
-      nonce = c.drawn-event.ensures.nonce;
-      link = refl;
-      sends = c.in-Err-send_under.ensures.sends;
-    };
+    steps = stepped g.D.Disk g.J.Opening g.L.Link g.C.Clock g.N.Nonces c.in-Ok-brought.what _ _ _ _ _ _ _ _ c.drawn-event.result (Err c.in-Err-send_under.fault)
+        c.drawn-event.ensures.what c.drawn-event.ensures.moment c.drawn-event.ensures.nonce c.in-Err-send_under.ensures.sends;
     follows = c.halted.ensures;
   });
 }

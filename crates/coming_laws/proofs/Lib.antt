@@ -1,0 +1,11 @@
+mod ChoiceLemmas
+mod ComingLemmas
+mod ElementSizes
+mod ItemSizes
+mod PackageSizes
+mod PartSizes
+mod SumLemmas
+mod TextSizes
+mod TreeSizes
+mod UnitSizes
+mod UserSizes

@@ -1,0 +1,2 @@
+-- How large a tree is.
+pub mod Sizes

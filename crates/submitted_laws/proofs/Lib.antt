@@ -1,0 +1,9 @@
+pub mod MarkupLengths
+pub mod ModeLengths
+pub mod HeaderLengths
+pub mod ErrorLengths
+pub mod SubmittedLengths
+pub mod LongLemmas
+pub mod Cases
+pub mod AnswerLemmas
+pub mod DoorLemmas

@@ -1,0 +1,7 @@
+-- The lemmas of workers.
+mod GrowthLemmas
+mod GuestLemmas
+mod RoundLemmas
+mod ServedLemmas
+mod SumLemmas
+mod TurnLemmas

@@ -1,0 +1,13 @@
+use Rattle.std.proofs.Common.{◌≡◌, ◌≤◌}
+use Rattle.sessions.specs.Answering.{IsSamePass}
+use Rattle.sessions.specs.Shared.{IsLegal}
+use Rattle.workers.specs.Turns.{TakesTurns}
+use Rattle.workers.proofs.serving.work.Given as goal
+
+-- it has made as many turns as were counted, and no more of them are counted for want of memory
+abbrev pub invariant-loop : goal.invariant-loop
+invariant-loop g l =
+    TakesTurns g.D.Disk g.J.Opening g.W.Door g.L.Link g.C.Clock g.N.Nonces l.counter l.fn.worker l.worker
+    × (l.worker.starved ≤ l.counter)
+    × (IsLegal g.J.Opening l.fn.worker.pass.list → IsLegal g.J.Opening l.worker.pass.list)
+    × IsSamePass l.fn.worker.pass l.worker.pass
