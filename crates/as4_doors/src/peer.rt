@@ -1,18 +1,17 @@
 //! The requests of the peer's door: messages of the other endpoint.
 
-ghost use Rattle.std.specs.Prelude.{◌≡◌, [], Err, IfErr, IfOk, IsSome, IsTrue, unwrap_or};
+ghost use Rattle.std.specs.Prelude.{◌≡◌, [], Err, IfOk, IsSome, IsTrue, unwrap_or};
 ghost use Rattle.as4_codes.specs.ErrorCodes.{error_row};
-ghost use Rattle.as4_message.specs.Meaning.{ArePaired, Means};
+ghost use Rattle.as4_message.specs.Meaning.{Means};
 ghost use Rattle.as4_message.specs.declared.received.Refusal.{Refusal as RefusalValue};
 ghost use Rattle.exchange_model.specs.Coming.{may_come};
 ghost use Rattle.as4_doors.specs.Asking.{Asks, MeansWhat};
 ghost use Rattle.as4_doors.specs.declared.door.DoorKind.TheVariants.{Peer};
 
 use crate::door::DoorRefusal;
-use as4_effects::delivery_fits;
-use as4_http::{Method, Request};
+use as4_http::{MAX_BODY, Method, Request};
 use as4_message::{MessageRefusal, read_message};
-use as4_values::Message;
+use coming_laws::a_read_message_may_come;
 use exchange_model::What;
 use std::alloc::Global;
 
@@ -38,41 +37,20 @@ fn media_of(request: &Request) -> &[u8]
     }
 }
 
-// What a message with this media text and this body asks for.
+// What a message with this media text and this body asks for. No reader of HTTP gives a longer body.
 fn posted(alloc: Global, media: &[u8], body: &[u8]) -> Result<What, DoorRefusal>
     ensures means { MeansWhat (Means media.now body.now) result }
     ensures known { (refusal : RefusalValue) → result ≡ Err (DoorRefusal.Refused refusal) → IsSome (error_row refusal.code) }
     ensures comes { IfOk result (λ what. IsTrue (may_come what)) }
 {
+    if body.len() > MAX_BODY {
+        return Err(DoorRefusal::NoMemory);
+    }
+    // Laws: a message that is read from such a body may come.
+    a_read_message_may_come();
     match read_message(alloc, media, body) {
-        Ok(message) => coming(message),
+        Ok(message) => Ok(What::Came(message)),
         Err(MessageRefusal::Refused(refusal)) => Err(DoorRefusal::Refused(refusal)),
         Err(MessageRefusal::NoMemory) => Err(DoorRefusal::NoMemory),
-    }
-}
-
-// A message that comes, if a record has room for it.
-fn coming(message: Message) -> Result<What, DoorRefusal>
-    requires { ArePaired message }
-    ensures came { IfOk result (λ what. what ≡ What.Came message) }
-    ensures comes { IfOk result (λ what. IsTrue (may_come what)) }
-    ensures memory { IfErr result (λ refusal. refusal ≡ DoorRefusal.NoMemory) }
-{
-    if fits(&message) {
-        return Ok(What::Came(message));
-    }
-    drop(message);
-    Err(DoorRefusal::NoMemory)
-}
-
-// Whether a record has room for a message.
-#[tactic(auto, unfolding(exchange_model::specs::Coming::may_come, exchange_model::specs::Coming::is_deliverable))]
-fn fits(message: &Message) -> bool
-    requires { ArePaired message.now }
-    ensures { result ≡ may_come (What.Came message.now) }
-{
-    match message {
-        Message::User { header, payloads } => delivery_fits(header, payloads),
-        Message::Signal(_) | Message::Pair(_) => true,
     }
 }
