@@ -1,9 +1,11 @@
 mod AskingLemmas
 mod CallLemmas
 mod FollowingLemmas
+mod GateLemmas
 mod HoldingLemmas
 mod InsideLemmas
 mod KeepingLemmas
+mod MemoryGateLemmas
 mod OpeningLemmas
 mod ReadingLemmas
 mod ShowingLemmas

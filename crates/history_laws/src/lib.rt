@@ -2,9 +2,11 @@
 //! failures at any moment.
 #![tactic(auto)]
 
+mod gates;
 mod inside;
 mod laws;
 
+pub use gates::{a_step_in_memory_waits_for_its_gate, a_step_stands_by_its_gate};
 pub use inside::a_call_leaves_what_its_stop_would;
 pub use laws::{
     a_cut_off_call_leaves_the_same, a_history_goes_on_with_a_run, a_history_is_turns,

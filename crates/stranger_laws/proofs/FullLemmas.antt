@@ -221,7 +221,7 @@ comes_fits modes end event (message.Signal signal) row codes room h = by_body si
     by_body (body.Receipt copy) codes k = inl (receipt_small end event signal.id signal.ref_to copy row k)
     by_body (body.Errors items) codes k = inr (errors_fit end signal.ref_to items row codes room k)
 
-row_fits : (modes : List Mode) (end : End) (event : Event) (w : What) (row : Outcome) → HasCodes w → HasRoomForOne end
+pub row_fits : (modes : List Mode) (end : End) (event : Event) (w : What) (row : Outcome) → HasCodes w → HasRoomForOne end
     → RowOf modes end event w row → HasRoomFor end row
 row_fits modes end event (what.Submit mode conversation loads) row codes room h = inl (submits_small modes end event mode conversation loads row h)
 row_fits modes end event what.Tick row codes room h = inl (ticks_small end event row h)

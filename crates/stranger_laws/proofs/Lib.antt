@@ -5,6 +5,7 @@ mod ConfirmLemmas
 mod DeliveryLemmas
 mod FullLemmas
 mod HeadLemmas
+mod NeedLemmas
 mod OneStep
 mod ReceiptLemmas
 mod RefusalLemmas

@@ -1,5 +1,5 @@
 -- Why an endpoint says that its journal is full: this handler's own limit.
-use Rattle.std.specs.Prelude.{◌≡◌, ℕ, ◌+◌, ◌<◌, []}
+use Rattle.std.specs.Prelude.{◌≡◌, ◌≢◌, ℕ, ◌+◌, ◌<◌, List, []}
 use Rattle.std.specs.List.{Contains}
 use Rattle.as4_values.specs.Word.{IsWord}
 use Rattle.as4_values.specs.declared.message.Message.TheVariants as message
@@ -7,9 +7,14 @@ use Rattle.as4_values.specs.declared.signal_body.ErrorItem.{ErrorItem}
 use Rattle.as4_values.specs.declared.signal_body.SignalBody.{SignalBody}
 use Rattle.as4_values.specs.declared.signal_body.SignalBody.TheVariants as body
 use Rattle.as4_values.specs.declared.word.Word.TheVariants.{ErrorCode}
-use Rattle.exchange_model.specs.End.{End}
+use Rattle.mode_values.specs.declared.mode.Mode.{Mode}
+use Rattle.exchange_model.specs.Apply.{record_len}
+use Rattle.exchange_model.specs.End.{End, empty_end}
+use Rattle.exchange_model.specs.Fold.{resized}
+use Rattle.exchange_model.specs.LosslessRound.{IsFull}
 use Rattle.exchange_model.specs.Room.{HasRoomForOne}
-use Rattle.exchange_model.specs.Table.{journal_limit}
+use Rattle.exchange_model.specs.Table.{Step, journal_limit}
+use Rattle.exchange_model.specs.declared.event.Event.{Event}
 use Rattle.exchange_model.specs.declared.outcome.Outcome.{Outcome}
 use Rattle.exchange_model.specs.declared.what.What.{What}
 use Rattle.exchange_model.specs.declared.what.What.TheVariants.{Came}
@@ -30,3 +35,12 @@ pub record IsOutOfRoom (end : End) (w : What) (outcome : Outcome) (reported need
   pub unchanged : outcome.effects ≡ []
   -- there isn't room for any effect, whatever `need` is
   pub no_room : HasCodes w → ¬ HasRoomForOne end
+
+-- the same endpoint with an empty journal takes the event: it doesn't say "full", and it has effects, whose record takes
+-- `need` bytes
+pub record NeedsRecord (modes : List Mode) (end : End) (event : Event) (need : ℕ) : Type 0 where
+  pub outcome : Outcome
+  pub step : Step modes (resized empty_end.size end) event outcome
+  pub taken : ¬ IsFull outcome.reply
+  pub some : outcome.effects ≢ []
+  pub len : record_len outcome.effects ≡ need

@@ -5,7 +5,7 @@
 //!                                          what_is_confirmed_is_kept, a_failure_refuses
 //!     one endpoint, from any one           what_came_stays_from, what_is_settled_stays_from
 //!     one step, at any endpoint            what_comes_is_taken, what_no_mode_takes_is_refused,
-//!                                          full_is_told_for_cause, a_head_is_handed_out,
+//!                                          full_is_told_for_cause, full_needs_its_record, a_head_is_handed_out,
 //!                                          what_is_sent_belongs_to_its_event,
 //!                                          a_confirmation_is_kept, an_unknown_identifier_is_told, a_tick_sets_the_clock,
 //!                                          a_step_uses_the_clock
@@ -49,7 +49,7 @@ ghost use Rattle.stranger_laws.specs.Belonging.{BelongsTo};
 ghost use Rattle.stranger_laws.specs.Brought.{IsInboxBrought};
 ghost use Rattle.stranger_laws.specs.Delivery.{Delivers};
 ghost use Rattle.stranger_laws.specs.Heads.{AsksForHead, AnswersWithHead};
-ghost use Rattle.stranger_laws.specs.NoRoom.{IsOutOfRoom};
+ghost use Rattle.stranger_laws.specs.NoRoom.{HasCodes, IsOutOfRoom, NeedsRecord};
 ghost use Rattle.stranger_laws.specs.Receipting.{SendsReceipt, NamesKnown};
 ghost use Rattle.stranger_laws.specs.Taken.{IsRefusedFor, IsTaken};
 ghost use Rattle.stranger_laws.specs.Timely.{IsTimely, UsesClock};
@@ -99,6 +99,13 @@ pub fn what_no_mode_takes_is_refused()
 pub fn full_is_told_for_cause()
     ensures { (modes : List Mode) (end : End) (event : Event) (outcome : Outcome) (size need : ℕ) → Step modes end event outcome
         → outcome.reply ≡ reply.Full size need → IsOutOfRoom end event.what outcome size need }
+{}
+
+/// And the bytes that "full" reports as needed are those of the event's own record: the same endpoint with an empty
+/// journal takes the event, and writes a record of that length. The codes of an error signal are error codes.
+pub fn full_needs_its_record()
+    ensures { (modes : List Mode) (end : End) (event : Event) (outcome : Outcome) (size need : ℕ) → Step modes end event outcome
+        → outcome.reply ≡ reply.Full size need → HasCodes event.what → NeedsRecord modes end event need }
 {}
 
 /// An endpoint that is asked for the head of a queue sends its message. Without a head it sends no user message.

@@ -82,7 +82,7 @@ pub stands_node : (names : List ElementName) (local text : List ℕ) (attributes
 unfolding may_stand
 stands_node names local text attributes children = rw out-roll-Element refl
 
-view_node : (space local text : List ℕ) (attributes : List Attribute) (within : List Element)
+pub view_node : (space local text : List ℕ) (attributes : List Attribute) (within : List Element)
     → out-Element (node space local attributes text within) ≡ record { space = space; local = local; attributes = attributes; text = text; children = within }
 view_node space local text attributes within = out-roll-Element (record { space = space; local = local; attributes = attributes; text = text; children = within })
 
@@ -90,7 +90,7 @@ pub within_node : (space local text : List ℕ) (attributes : List Attribute) (w
 within_node space local text attributes within =
     let kids : Element-F Element → List Element = λ v. v.children in ap kids (view_node space local text attributes within)
 
-text_node : (space local text : List ℕ) (attributes : List Attribute) (within : List Element) → text_in (node space local attributes text within) ≡ text
+pub text_node : (space local text : List ℕ) (attributes : List Attribute) (within : List Element) → text_in (node space local attributes text within) ≡ text
 text_node space local text attributes within =
     let words : Element-F Element → List ℕ = λ v. v.text in ap words (view_node space local text attributes within)
 

@@ -1,8 +1,15 @@
 pub mod AgainLemmas
+pub mod AlikeLemmas
+pub mod EnvelopeAlike
 pub mod KeptLemmas
+pub mod MemoryLemmas
+pub mod NameAlike
+pub mod PairLemmas
 pub mod ReadAgain
+pub mod ShownAlike
 pub mod SignalAgain
 pub mod SignalKept
+pub mod UnitAlike
 pub mod UserAgain
 pub mod UserKept
 pub mod XmlLemmas

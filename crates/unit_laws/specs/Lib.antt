@@ -1,4 +1,6 @@
--- Values and trees that are read back from their text.
+-- Values and trees that are read back from their text, and trees that are read alike.
 pub mod Again
+pub mod Alike
 pub mod Kept
+pub mod Pairs
 pub mod ReadAgain
