@@ -9,8 +9,8 @@ returns-in-Err-clause-pulls g c =
     let n = c.deliver-first.new in
     let middle = using n.pass n.link n.clock n.nonces in
     pulls_with g.D.Disk g.J.Opening g.L.Link g.C.Clock g.N.Nonces c.args.address.now c.in-Some.request c.args.request
-    (using c.args.pass.now c.args.link.now c.args.clock.now c.args.nonces.now) middle middle (Err c.in-Err.end) c.unanswered.result
-    c.in-Some.is c.in-Err.ensures.delivers (c.unanswered.ensures, refl)
+    (using c.args.pass.now c.args.link.now c.args.clock.now c.args.nonces.now) middle middle (Err c.in-Err.end) c.unanswered-in-Err.result
+    c.in-Some.is c.in-Err.ensures.delivers (c.unanswered-in-Err.ensures, refl)
 
 pub returns-clause-pulls : goal.returns-clause-pulls
 returns-clause-pulls g c =

@@ -11,7 +11,7 @@ returns-in-Err-clause-pulls g c = inl (record {
   sending = Err c.in-Err.fault;
   asks = stepped g.D.Disk g.J.Opening g.L.Link g.C.Clock g.N.Nonces (what.Ask c.args.mode.now) _ _ _ _ _ _ _ _ c.drawn-event.result (Err c.in-Err.fault)
       (c.drawn-event.ensures.what ∙ ap what.Ask c.in-Ok.ensures) c.drawn-event.ensures.moment c.drawn-event.ensures.nonce c.in-Err.ensures.sends;
-  goes_on = (c.unanswered.ensures ∙ ap (λ (end : RoundEnd). pulled end false) c.halted.ensures, refl);
+  goes_on = (c.unanswered-in-Err.ensures ∙ ap (λ (end : RoundEnd). pulled end false) c.halted.ensures, refl);
 })
 
 pub returns-in-Request-clause-pulls : goal.returns-in-Request-clause-pulls
@@ -36,9 +36,9 @@ returns-in_default-reply g c =
         asks = stepped g.D.Disk g.J.Opening g.L.Link g.C.Clock g.N.Nonces (what.Ask c.args.mode.now) _ _ _ _ _ _ _ _ c.drawn-event.result (Ok c.in-Ok-send_under.sending)
             (c.drawn-event.ensures.what ∙ ap what.Ask c.in-Ok.ensures) c.drawn-event.ensures.moment c.drawn-event.ensures.nonce c.in-Ok-send_under.ensures.sends;
         goes_on = subst (λ (to : Option (List ℕ)). AsksOut g.D.Disk g.J.Opening g.L.Link g.C.Clock g.N.Nonces to c.in-Ok-send_under.sending
-            middle middle c.unanswered.result)
+            middle middle c.unanswered-in_default-reply.result)
             (sym (no_request c.in-Ok-send_under.sending.reply c.in_default-reply.not-Request))
-            (c.unanswered.ensures ∙ ap (λ (end : RoundEnd). pulled end false) c.ended_by.ensures, refl);
+            (c.unanswered-in_default-reply.ensures ∙ ap (λ (end : RoundEnd). pulled end false) c.ended_by.ensures, refl);
       });
       legal = c.in-Ok-send_under.ensures.legal;
       pass = c.in-Ok-send_under.ensures.pass;
