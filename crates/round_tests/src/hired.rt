@@ -82,7 +82,11 @@ fn job_of(alloc: Global, task: Task) -> Result<Job, AllocError> {
 }
 
 /// A worker with a pass of its own.
-fn hired<'a>(alloc: Global, pass: &mut Pass<'a, Call>, shift: Shift) -> Result<Hired<'a>, AllocError>
+fn hired<'a>(
+    alloc: Global,
+    pass: &mut Pass<'a, Call>,
+    shift: Shift,
+) -> Result<Hired<'a>, AllocError>
     requires stake { 1 < pass.old.stake }
     ensures worker { IfOk result (λ w. (w.pass.book ≡ pass.old.book) × (w.starved ≡ 0)) }
 {

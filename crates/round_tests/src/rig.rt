@@ -109,7 +109,11 @@ pub(crate) fn opened<'a>(alloc: Global) -> Result<Opened<'a>, AllocError>
 }
 
 /// A link that gives these answers, of which the open, the read and the write with these numbers fail.
-pub(crate) fn link_of(alloc: Global, given: &[&[u8]], failing: &[u64; 3]) -> Result<MemoryLink, AllocError> {
+pub(crate) fn link_of(
+    alloc: Global,
+    given: &[&[u8]],
+    failing: &[u64; 3],
+) -> Result<MemoryLink, AllocError> {
     let mut answers = Vec::new(alloc);
     for answer in given {
         answers.push(Octets::of(answer.to_vec(alloc)?))?;

@@ -102,7 +102,7 @@ module _ {D J W In Out C N : Type 0} (M : DiskMeaning D) (O : OpeningMeaning J) 
   guest_asks kind door later old new end request serves quiet is =
       let same = ends_so is.would is.bytes end serves.streams is.writes serves.no_writes (quiet_writes kind door later old new end serves quiet) in
       let done = was_handled (DrawsBoth T R old.clock new.clock old.nonces new.nonces) kind request old.pass new.pass serves.streams is.would is.bytes is.handled
-          serves.no_reads (quiet_reads kind door later old new end serves quiet) in
+      serves.no_reads (quiet_reads kind door later old new end serves quiet) in
       made same done
     where
       made : end ≡ is.would

@@ -139,7 +139,7 @@ module _ {W In Out L C N : Type 0} (G : DoorMeaning W In Out) where
               let apart = quiet_parts G door between later first.counted second.counted quiet in
               all_both kind new.pass.list a.taken b.taken
               (all_later kind middle.pass.list new.pass.list a.taken two.list
-                (a.entered apart.0 (room_before n middle new two room) (omega (arith, same, one.starved, two.starved))))
+              (a.entered apart.0 (room_before n middle new two room) (omega (arith, same, one.starved, two.starved))))
               (b.entered apart.1 room (omega (arith, same, one.starved, two.starved)));
         };
         counted = record {
@@ -157,9 +157,9 @@ some_guest (first ∷ others) P some goal = goal first others
 
 module _ {D J W In Out L From To C N : Type 0} (M : DiskMeaning D) (O : OpeningMeaning J) (G : DoorMeaning W In Out) (K : LinkMeaning L From To) (T : ClockMeaning C) (R : NoncesMeaning N)
     (handles : (pass later : PassState Call) (clock clock_later : C) (nonces nonces_later : N) (kind : DoorKind) (streams : Streams) (end : Ended) (stream rest : List ℕ) (request : Request) (what : What)
-        → Ends (AnswersUnder M O pass later) (later ≡ pass) (DrawsBoth T R clock clock_later nonces nonces_later) ((clock_later ≡ clock) × (nonces_later ≡ nonces)) kind streams end
-        → is_some streams.rest ≡ is_some streams.left → streams.left ≡ Some stream → BeginsRequest stream request rest → AsksFor kind request what
-        → IsHandled (AnswersUnder M O pass later) (DrawsBoth T R clock clock_later nonces nonces_later) kind request streams end) where
+    → Ends (AnswersUnder M O pass later) (later ≡ pass) (DrawsBoth T R clock clock_later nonces nonces_later) ((clock_later ≡ clock) × (nonces_later ≡ nonces)) kind streams end
+    → is_some streams.rest ≡ is_some streams.left → streams.left ≡ Some stream → BeginsRequest stream request rest → AsksFor kind request what
+    → IsHandled (AnswersUnder M O pass later) (DrawsBoth T R clock clock_later nonces nonces_later) kind request streams end) where
   module _ (kind : DoorKind) (door later : W) (old middle new : Worker W L C N) (s : ℕ) (pass : new.pass ≡ middle.pass) (starved : new.starved ≡ old.starved + s) (here : new.door ≡ Some later) where
     -- the guest who came was served
     serves_guest : (all : List (List ℕ)) (end : Ended) → G.guests door ≡ Some all → ServesGuest M O G T R kind door later (caller_of old) (caller_of middle) end
@@ -172,9 +172,9 @@ module _ {D J W In Out L From To C N : Type 0} (M : DiskMeaning D) (O : OpeningM
             let left : serves.streams.left ≡ Some first = serves.left ∙ ap first_of told in
             let list : new.pass.list ≡ middle.pass.list = ap (λ (p : PassState Call). p.list) pass in
             let asked : IsQuiet G door later → (request : Request) (rest : List ℕ) (what : What) → BeginsRequest first request rest → AsksFor kind request what
-                → (Moves 1 old.pass middle.pass × HasEventOf kind request middle.pass.list) ⊎ IsFull middle.pass ⊎ (end ≡ ended.NoMemory)
-                = λ quiet request rest what begins asks. guest_asks M O G T R kind door later (caller_of old) (caller_of middle) end request serves quiet
-                    (handles old.pass middle.pass old.clock middle.clock old.nonces middle.nonces kind serves.streams end first rest request what serves.ends serves.tells left begins asks) in
+            → (Moves 1 old.pass middle.pass × HasEventOf kind request middle.pass.list) ⊎ IsFull middle.pass ⊎ (end ≡ ended.NoMemory)
+            = λ quiet request rest what begins asks. guest_asks M O G T R kind door later (caller_of old) (caller_of middle) end request serves quiet
+            (handles old.pass middle.pass old.clock middle.clock old.nonces middle.nonces kind serves.streams end first rest request what serves.ends serves.tells left begins asks) in
             record {
               took = record {
                 taken = first ∷ [];

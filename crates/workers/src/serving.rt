@@ -55,7 +55,15 @@ where
 }
 
 // Makes the turns of one worker.
-fn work<R: Wait, D: Disk, J: Opening, W: Door + Drop, L: Link + Drop, C: Clock + Drop, N: Nonces + Drop>(
+fn work<
+    R: Wait,
+    D: Disk,
+    J: Opening,
+    W: Door + Drop,
+    L: Link + Drop,
+    C: Clock + Drop,
+    N: Nonces + Drop,
+>(
     rt: &R,
     alloc: Global,
     office: &Mutex<SharedOffice<'_, D, J>>,
@@ -72,7 +80,15 @@ fn work<R: Wait, D: Disk, J: Opening, W: Door + Drop, L: Link + Drop, C: Clock +
 }
 
 /// Makes one turn of a worker. Returns false if its door was closed.
-pub fn worker_turn<R: Wait, D: Disk, J: Opening, W: Door + Drop, L: Link + Drop, C: Clock + Drop, N: Nonces + Drop>(
+pub fn worker_turn<
+    R: Wait,
+    D: Disk,
+    J: Opening,
+    W: Door + Drop,
+    L: Link + Drop,
+    C: Clock + Drop,
+    N: Nonces + Drop,
+>(
     rt: &R,
     alloc: Global,
     office: &Mutex<SharedOffice<'_, D, J>>,
@@ -100,7 +116,15 @@ pub fn worker_turn<R: Wait, D: Disk, J: Opening, W: Door + Drop, L: Link + Drop,
 }
 
 // Does once what the worker does in each turn.
-fn made<R: Wait, D: Disk, J: Opening, W: Door + Drop, L: Link + Drop, C: Clock + Drop, N: Nonces + Drop>(
+fn made<
+    R: Wait,
+    D: Disk,
+    J: Opening,
+    W: Door + Drop,
+    L: Link + Drop,
+    C: Clock + Drop,
+    N: Nonces + Drop,
+>(
     rt: &R,
     alloc: Global,
     office: &Mutex<SharedOffice<'_, D, J>>,
@@ -123,7 +147,16 @@ fn made<R: Wait, D: Disk, J: Opening, W: Door + Drop, L: Link + Drop, C: Clock +
     } = worker;
     match job {
         Job::Peer => door_turn(rt, alloc, office, pass, DoorKind::Peer, door, clock, nonces),
-        Job::Local => door_turn(rt, alloc, office, pass, DoorKind::Local, door, clock, nonces),
+        Job::Local => door_turn(
+            rt,
+            alloc,
+            office,
+            pass,
+            DoorKind::Local,
+            door,
+            clock,
+            nonces,
+        ),
         Job::Push => after_push(push_round(rt, alloc, office, pass, link, clock, nonces)),
         Job::Pull { mode } => {
             after_pull(pull_one(rt, alloc, office, pass, mode, link, clock, nonces))

@@ -20,6 +20,8 @@ returns-clause-pulls g c =
     let new = using s.pass s.link s.clock s.nonces in
     pulls_with g.D.Disk g.J.Opening g.L.Link g.C.Clock g.N.Nonces c.args.address.now c.in-Some.request c.args.request
     (using c.args.pass.now c.args.link.now c.args.clock.now c.args.nonces.now) middle new
-    (Ok c.in-Ok.sending) _ c.in-Some.is c.in-Ok.ensures.delivers
-    (subst (λ (without : RoundEnd). Sends g.D.Disk g.J.Opening g.L.Link g.C.Clock g.N.Nonces c.args.address.now c.in-Ok.sending.request without middle new c.send_out-end.result)
-    c.ended_by-without.ensures c.send_out-end.ensures.sends, c.is_some-received.ensures)
+    (Ok c.in-Ok.sending) _ c.in-Some.is c.in-Ok.ensures.delivers (
+      subst (λ (without : RoundEnd). Sends g.D.Disk g.J.Opening g.L.Link g.C.Clock g.N.Nonces c.args.address.now c.in-Ok.sending.request without middle new c.send_out-end.result)
+          c.ended_by-without.ensures c.send_out-end.ensures.sends,
+      c.is_some-received.ensures,
+    )

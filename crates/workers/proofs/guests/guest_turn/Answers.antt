@@ -11,8 +11,8 @@ returns-in-Open-clause-meets g c =
     let s = c.session-ended in
     let t = c.settle.ensures in
     let streams = between
-        (flow (g.W.In.Source.left c.in-Open.source) (g.W.Out.Sink.taken c.in-Open.sink) (g.W.In.Source.faults c.in-Open.source) (g.W.Out.Sink.faults c.in-Open.sink))
-        (flow (g.W.In.Source.left s.new.source) (g.W.Out.Sink.taken s.new.sink) (g.W.In.Source.faults s.new.source) (g.W.Out.Sink.faults s.new.sink)) in
+    (flow (g.W.In.Source.left c.in-Open.source) (g.W.Out.Sink.taken c.in-Open.sink) (g.W.In.Source.faults c.in-Open.source) (g.W.Out.Sink.faults c.in-Open.sink))
+    (flow (g.W.In.Source.left s.new.source) (g.W.Out.Sink.taken s.new.sink) (g.W.In.Source.faults s.new.source) (g.W.Out.Sink.faults s.new.sink)) in
     meets g.D.Disk g.J.Opening g.W.Door g.C.Clock g.N.Nonces c.args.kind c.args.door.now c.settle.new.self
     (caller c.args.pass.now c.args.clock.now c.args.nonces.now) (caller s.new.pass s.new.clock s.new.nonces) s.result c.after_session.result
     (record {

@@ -18,7 +18,7 @@ loop-preserved g c =
     let grows = turn_grows g.D.Disk g.J.Opening g.W.Door g.L.Link g.C.Clock g.N.Nonces c.loop.worker c.worker_turn.new.worker _ c.worker_turn.ensures.turn in
     let next : suc c.loop.counter ≡ c.loop.counter + 1 = omega arith in (
       subst (λ (n : ℕ). TakesTurns g.D.Disk g.J.Opening g.W.Door g.L.Link g.C.Clock g.N.Nonces n c.args.worker.now c.worker_turn.new.worker) next
-      (c.loop.worker, c.loop.invariant.0, e.turn),
+          (c.loop.worker, c.loop.invariant.0, e.turn),
       omega (arith, grows.grows.starved_most, c.loop.invariant.1),
       λ legal. e.legal (c.loop.invariant.2 legal),
       (e.pass.0 ∙ c.loop.invariant.3.0, e.pass.1 ∙ c.loop.invariant.3.1),
