@@ -3,7 +3,7 @@ ghost use Rattle.std.specs.Prelude.{◌≡◌, ℕ, ◌≤◌};
 ghost use Rattle.as4_host.specs.Counts.{raised, HasNotRisen};
 
 /// A count of faults after a stream with these faults was settled.
-pub(crate) fn raised(faults: u64, count: u64) -> u64
+pub fn raised(faults: u64, count: u64) -> u64
     ensures value { result ≡ raised faults count }
     ensures counted { count ≤ result }
 {

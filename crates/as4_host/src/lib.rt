@@ -13,7 +13,7 @@ mod plan;
 mod stack;
 mod table;
 
-pub use counts::a_settled_fault_is_counted;
+pub use counts::{a_settled_fault_is_counted, raised};
 pub use door::{Arrival, Door};
 pub use host::{FileGot, Host, HostRefusal};
 pub use link::{Link, LinkRefusal};

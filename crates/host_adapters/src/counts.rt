@@ -3,6 +3,8 @@ ghost use Rattle.std.specs.Prelude.{◌≡◌, ◌≤◌};
 ghost use Rattle.as4_disk.specs.Faults.{Rises};
 ghost use Rattle.as4_host.specs.Counts.{raised};
 
+use as4_host::raised;
+
 /// The counts of failed calls, of settled sources and of settled sinks, each up to the last value of a `u64`.
 #[derive(Clone, Copy, Debug, PartialEq, Eq)]
 pub struct HostCounts {
@@ -41,17 +43,5 @@ impl HostCounts {
         self.faults = raised(settled.faults, self.faults);
         self.reads = raised(settled.reads, self.reads);
         self.writes = raised(settled.writes, self.writes);
-    }
-}
-
-// A count after something with these faults was settled.
-fn raised(faults: u64, count: u64) -> u64
-    ensures value { result ≡ raised faults count }
-    ensures counted { count ≤ result }
-{
-    if faults == 0 {
-        count
-    } else {
-        count.saturating_add(1)
     }
 }
