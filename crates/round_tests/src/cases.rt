@@ -9,25 +9,25 @@ use std::test::Fail;
 
 /// The number of submitted messages; the mode by which the round pulls, or an empty text for a round that pushes; the
 /// answers; the numbers of the open, the read and the write that fail, 0 for none; and how the round ends, with the numbers
-/// of connections, of calls, of received messages and of receipted ones.
+/// of connections, of calls, of received messages, of receipted ones, and of the tries of a pending submission.
 type Row = (
     u64,
     &'static str,
     &'static [&'static [u8]],
     [u64; 3],
     EndKind,
-    [u64; 4],
+    [u64; 5],
 );
 
 const ROWS: [Row; 15] = [
-    (0, "", &[], [0, 0, 0], EndKind::Nothing, [0, 1, 0, 0]),
+    (0, "", &[], [0, 0, 0], EndKind::Nothing, [0, 1, 0, 0, 0]),
     (
         1,
         "",
         &[RECEIPT],
         [1, 0, 0],
         EndKind::LinkFault,
-        [1, 2, 0, 0],
+        [1, 2, 0, 0, 1],
     ),
     (
         1,
@@ -35,7 +35,7 @@ const ROWS: [Row; 15] = [
         &[RECEIPT],
         [0, 1, 0],
         EndKind::ReadFault,
-        [1, 2, 0, 0],
+        [1, 2, 0, 0, 1],
     ),
     (
         1,
@@ -43,17 +43,24 @@ const ROWS: [Row; 15] = [
         &[RECEIPT],
         [0, 0, 1],
         EndKind::WriteFault,
-        [1, 2, 0, 0],
+        [1, 2, 0, 0, 1],
     ),
-    (1, "", &[RECEIPT], [0, 0, 0], EndKind::Done, [1, 3, 0, 1]),
-    (1, "", &[ACCEPTED], [0, 0, 0], EndKind::Done, [1, 2, 0, 0]),
+    (1, "", &[RECEIPT], [0, 0, 0], EndKind::Done, [1, 3, 0, 1, 0]),
+    (
+        1,
+        "",
+        &[ACCEPTED],
+        [0, 0, 0],
+        EndKind::Done,
+        [1, 2, 0, 0, 1],
+    ),
     (
         1,
         "",
         &[UNAVAILABLE],
         [0, 0, 0],
         EndKind::Status(503),
-        [1, 2, 0, 0],
+        [1, 2, 0, 0, 1],
     ),
     (
         1,
@@ -61,27 +68,34 @@ const ROWS: [Row; 15] = [
         &[NO_MESSAGE],
         [0, 0, 0],
         EndKind::Odd(7),
-        [1, 2, 0, 0],
+        [1, 2, 0, 0, 1],
     ),
-    (1, "", &[], [0, 0, 0], EndKind::Cut, [1, 2, 0, 0]),
-    (0, "none", &[], [0, 0, 0], EndKind::NoMode, [0, 1, 0, 0]),
-    (0, "invoice", &[], [0, 0, 0], EndKind::NoMode, [0, 1, 0, 0]),
+    (1, "", &[], [0, 0, 0], EndKind::Cut, [1, 2, 0, 0, 1]),
+    (0, "none", &[], [0, 0, 0], EndKind::NoMode, [0, 1, 0, 0, 0]),
+    (
+        0,
+        "invoice",
+        &[],
+        [0, 0, 0],
+        EndKind::NoMode,
+        [0, 1, 0, 0, 0],
+    ),
     (
         0,
         "drawer",
         &[EMPTY],
         [0, 0, 0],
         EndKind::Done,
-        [1, 2, 0, 0],
+        [1, 2, 0, 0, 0],
     ),
-    (0, "drawer", &[], [0, 0, 0], EndKind::Cut, [1, 1, 0, 0]),
+    (0, "drawer", &[], [0, 0, 0], EndKind::Cut, [1, 1, 0, 0, 0]),
     (
         0,
         "drawer",
         &[USER, ACCEPTED],
         [0, 0, 0],
         EndKind::Done,
-        [2, 2, 1, 0],
+        [2, 2, 1, 0, 0],
     ),
     (
         0,
@@ -89,7 +103,7 @@ const ROWS: [Row; 15] = [
         &[USER, UNAVAILABLE],
         [0, 0, 0],
         EndKind::Status(503),
-        [2, 2, 1, 0],
+        [2, 2, 1, 0, 0],
     ),
 ];
 
@@ -104,15 +118,16 @@ fn is_right<R: Wait>(rt: &R, alloc: Global, row: &Row) -> Result<bool, AllocErro
         answers: row.2,
         failing: row.3,
     };
-    let [asked, calls, inbox, receipted] = row.5;
+    let [asked, calls, inbox, receipted, tries] = row.5;
     let left = Left {
         end: row.4,
         asked,
         calls,
         inbox,
         receipted,
+        tries: tries as u32,
     };
-    let (office, pass) = opened(alloc)?;
+    let (office, pass) = opened(alloc, &[])?;
     Ok(after::<_, Brand>(rt, alloc, office, pass, case)? == left)
 }
 

@@ -4,6 +4,8 @@
 #[cfg(test)]
 mod cases;
 #[cfg(test)]
+mod halts;
+#[cfg(test)]
 mod hired;
 #[cfg(test)]
 mod rig;

@@ -3,17 +3,17 @@ ghost use Rattle.std.specs.Prelude.{◌≡◌, IfOk, []};
 ghost use Rattle.as4_disk.specs.MemoryMeaning.{memory_meaning};
 ghost use Rattle.sessions.specs.Shared.{IsOpened};
 
-use crate::samples::MODES;
+use crate::samples::{FIRST, MODES};
 use as4_disk::{Files, MemoryDisk};
 use as4_flow::{CountNonces, ListClock};
 use as4_host::{MemoryLink, Stack, StreamPlan};
-use as4_values::{Octets, Seq, Text};
-use exchange_model::{Event, What};
+use as4_values::{MessageId, Octets, Seq, Text};
+use exchange_model::{Event, Reply, What};
 use office::{Call, Office};
 use pass_book::Pass;
 use pmodes::Modes;
 use rounds::{RoundEnd, pull_round, push_round};
-use sessions::{Opening, SharedOffice};
+use sessions::{Opening, Sending, SharedOffice};
 use std::alloc::{AllocError, Global};
 use std::sync::{Mutex, Wait};
 
@@ -30,10 +30,11 @@ pub(crate) enum EndKind {
     ReadFault,
     WriteFault,
     DiskFault,
+    Stopped,
     Other,
 }
 
-fn kind_of(end: RoundEnd) -> EndKind {
+pub(crate) fn kind_of(end: RoundEnd) -> EndKind {
     match end {
         RoundEnd::Nothing => EndKind::Nothing,
         RoundEnd::Done => EndKind::Done,
@@ -49,6 +50,7 @@ fn kind_of(end: RoundEnd) -> EndKind {
         RoundEnd::ReadFault => EndKind::ReadFault,
         RoundEnd::WriteFault => EndKind::WriteFault,
         RoundEnd::DiskFault { .. } => EndKind::DiskFault,
+        RoundEnd::Stopped { .. } => EndKind::Stopped,
         other => {
             drop(other);
             EndKind::Other
@@ -69,8 +71,8 @@ pub(crate) struct Case<'a> {
     pub(crate) failing: [u64; 3],
 }
 
-/// What is left of a round: how it ended, how many connections were asked for, how many calls the office had, and how many
-/// messages are received and receipted.
+/// What is left of a round: how it ended, how many connections were asked for, how many calls the office had, how many
+/// messages are received and receipted, and how often the first submission was tried, where it is pending.
 #[derive(Clone, Copy, Debug, PartialEq, Eq)]
 pub(crate) struct Left {
     pub(crate) end: EndKind,
@@ -78,12 +80,13 @@ pub(crate) struct Left {
     pub(crate) calls: u64,
     pub(crate) inbox: u64,
     pub(crate) receipted: u64,
+    pub(crate) tries: u32,
 }
 
 pub(crate) type Opened<'a> = (Office<'a, MemoryDisk>, Pass<'a, Call>);
 
-/// An office on an empty disk.
-pub(crate) fn opened<'a>(alloc: Global) -> Result<Opened<'a>, AllocError>
+/// An office on an empty disk, of which the device calls with these numbers fail, the first being 1.
+pub(crate) fn opened<'a>(alloc: Global, failing: &[u64]) -> Result<Opened<'a>, AllocError>
     ensures first { IfOk result (λ o. o.0.list ≡ []) }
     ensures book { IfOk result (λ o. o.1.book ≡ o.0.book) }
 {
@@ -97,7 +100,7 @@ pub(crate) fn opened<'a>(alloc: Global) -> Result<Opened<'a>, AllocError>
     };
     match Office::open(
         alloc,
-        MemoryDisk::of(files, Seq::of(Vec::new(alloc))),
+        MemoryDisk::of(files, Seq::of(failing.to_vec(alloc)?)),
         modes,
     ) {
         Ok(opened) => Ok(opened),
@@ -193,15 +196,18 @@ pub(crate) fn after<R: Wait, J: Opening>(
             &mut nonces,
         ),
     };
+    let calls = pass.share();
+    let tries = tries(rt, alloc, &shared, &mut pass);
     let office = shared.into_inner().into_office();
     let totals = office.totals();
     drop(office);
     let left = Left {
         end: kind_of(end),
         asked: link.addresses().len() as u64,
-        calls: pass.share(),
+        calls,
         inbox: totals.inbox,
         receipted: totals.receipted,
+        tries,
     };
     drop(clock);
     drop(link);
@@ -228,5 +234,36 @@ fn pulls<R: Wait, J: Opening>(
             end
         }
         Err(_) => RoundEnd::NoMemory,
+    }
+}
+
+/// How often the first submission was tried, if it is pending, and else 0.
+#[tactic(auto, unfolding(exchange_model::specs::Coming::may_come))]
+fn tries<R: Wait, J: Opening>(
+    rt: &R,
+    alloc: Global,
+    office: &Mutex<SharedOffice<'_, MemoryDisk, J>>,
+    pass: &mut Pass<'_, Call>,
+) -> u32
+    requires book { pass.old.book ≡ J.book }
+{
+    let Ok(id) = MessageId::read(alloc, FIRST) else {
+        return 0;
+    };
+    let event = Event {
+        stamp: 0,
+        nonce: 0,
+        what: What::Status { id },
+    };
+    let Ok(Sending { reply, request }) = office.lock(rt).send(alloc, pass, event, None) else {
+        return 0;
+    };
+    drop(request);
+    match reply {
+        Reply::Pending { tries } => tries,
+        other => {
+            drop(other);
+            0
+        }
     }
 }

@@ -52,3 +52,6 @@ pub(crate) const PACKAGE: &[u8] =
 
 /// A request for the first received message.
 pub(crate) const GET_0: &[u8] = b"GET /inbox/0 HTTP/1.1\r\nHost: h\r\n\r\n";
+
+/// The identifier of the first submission, by the nonce 1.
+pub(crate) const FIRST: &[u8] = b"0.00000000-0000-0000-0000-000000000001@as4";

@@ -217,7 +217,7 @@ fn shares<J: Opening + Send + Sync, R: Threads + Wait + Sync>(
 
 #[test]
 fn two_sessions_run_at_once(rt: HostRuntime) -> Result<(), Fail> {
-    let (office, pass) = opened(rt.alloc())?;
+    let (office, pass) = opened(rt.alloc(), &[])?;
     assert_eq!(rt; shares::<Brand, _>(&rt, rt.alloc(), office, pass), Ok(2));
     Ok(())
 }

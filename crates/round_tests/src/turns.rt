@@ -149,7 +149,7 @@ fn is_right<R: Threads + Wait + Sync>(
         inbox,
         receipted,
     };
-    let (office, pass) = opened(alloc)?;
+    let (office, pass) = opened(alloc, &[])?;
     Ok(after_turns::<_, Brand>(rt, alloc, office, pass, shift)? == done)
 }
 
