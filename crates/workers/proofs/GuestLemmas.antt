@@ -36,7 +36,7 @@ use Rattle.workers.proofs.RoundLemmas.{MakesUpTo, makes_none}
 not_rose : (later : ℕ) (faults : ℕ) → faults ≡ 0 → later ≡ 0 → Rose faults later → ⊥
 not_rose later faults none quiet rose = absurd (omega (arith, none, quiet, rose))
 
--- how a session ends whose call got no reply for want of memory
+-- how a session ends whose call got no reply since memory ran out
 no_reply : (kept : Bool) (result : Result Reply OfficeFault) (would : Ended) (bytes : List ℕ) → Tells kept result would bytes
     → result ≡ Err fault.NoMemory → would ≡ ended.NoMemory
 no_reply kept result would bytes tells is =

@@ -91,14 +91,14 @@ module _ {D J W In Out L From To C N : Type 0} (M : DiskMeaning D) (O : OpeningM
   turns_grow zero old new takes = grows_none old new takes
   turns_grow (suc n) old new (middle, first, last) = grows_then n old middle new (turns_grow n old middle first) (turn_grows middle new true last)
 
-  -- the share and the turns that are counted for want of memory are within bounds
+  -- the share and the turns that are counted as starved are within bounds
   pub worked_grows : (old new : Worker W L C N) → MakesItsTurns M O G K T R old new → Grows old.turns old new
   worked_grows old new (inl all) = (turns_grow old.turns old new all).grows
   worked_grows old new (inr (n, middle, fewer, first, last)) =
       grows_within (suc n) old.turns old new (omega (arith, fewer))
       (grows_then n old middle new (turns_grow n old middle first) (turn_grows middle new false last)).grows
 
-  -- a turn away from a door makes a call, or is counted for want of memory
+  -- a turn away from a door makes a call, or is counted as starved
   turn_makes : (old new : Worker W L C N) (goes : Bool) → TakesTurn M O G K T R old new goes → door_of old.job ≡ None → length new.pass.list < 2 ^ 63
       → (1 + old.pass.share + old.starved ≤ new.pass.share + new.starved) × (goes ≡ true)
   turn_makes old new goes takes none room =
@@ -131,7 +131,7 @@ module _ {D J W In Out L From To C N : Type 0} (M : DiskMeaning D) (O : OpeningM
       let then = turn_makes middle new true last (ap door_of there.job ∙ none) room in
       omega (arith, before, then.0)
 
-  -- a worker away from a door makes a call in each of its turns, but for those that are counted for want of memory
+  -- a worker away from a door makes a call in each of its turns, but for those that are counted as starved
   pub worked_makes : (old new : Worker W L C N) → MakesItsTurns M O G K T R old new → door_of old.job ≡ None → length new.pass.list < 2 ^ 63
       → old.turns + old.pass.share + old.starved ≤ new.pass.share + new.starved
   worked_makes old new (inl all) none room = turns_make old.turns old new all none room

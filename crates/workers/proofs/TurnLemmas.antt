@@ -42,7 +42,7 @@ use Rattle.workers.proofs.GrowthLemmas.{IsFull, MakesOne, Moves, handled}
 use Rattle.workers.proofs.GuestLemmas.{guest_asks, guest_makes}
 use Rattle.workers.proofs.RoundLemmas.{MakesSome, MakesUpTo, makes_none, pulls_some, pushes_some}
 
--- how many turns are counted for want of memory
+-- how many turns are counted as starved
 abbrev pub starves_of : Turn → ℕ
 starves_of turn.Worked = 0
 starves_of turn.Idle = 0

@@ -35,7 +35,7 @@ most_calls job.Tick = 1
 
 module _ {W L C N : Type 0} where
   -- The calls that the pass has seen go on, its share rises by as many calls as the turns may make at most, and no more
-  -- turns are counted for want of memory than were made.
+  -- turns are counted as starved than were made.
   pub record Grows (turns : ℕ) (old new : Worker W L C N) : Type 0 where
     pub list : IsPrefix old.pass.list new.pass.list
     pub share : old.pass.share ≤ new.pass.share

@@ -4,7 +4,7 @@ use Rattle.sessions.specs.Shared.{IsLegal}
 use Rattle.workers.specs.Turns.{TakesTurns}
 use Rattle.workers.proofs.serving.work.Given as goal
 
--- it has made as many turns as were counted, and no more of them are counted for want of memory
+-- it has made as many turns as were counted, and no more of them are counted as starved
 abbrev pub invariant-loop : goal.invariant-loop
 invariant-loop g l =
     TakesTurns g.D.Disk g.J.Opening g.W.Door g.L.Link g.C.Clock g.N.Nonces l.counter l.fn.worker l.worker
