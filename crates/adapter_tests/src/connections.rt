@@ -2,7 +2,7 @@
 use as4_flow::{Got, Sink, Source, send_all};
 use as4_host::{Arrival, Door, Host, Link, LinkRefusal};
 use host_adapters::{HostCounts, SystemHost, TcpDoor, TcpLink};
-use std::alloc::AllocError;
+use std::alloc::{AllocError, Global};
 use std::test::Fail;
 use std::thread;
 use std::thread::Threads;
@@ -14,7 +14,16 @@ pub const NONE: HostCounts = HostCounts {
     writes: 0,
 };
 
-/// A host whose clocks rest for a millisecond.
+/// A question with many bytes after it.
+fn long_question(alloc: Global) -> Result<Vec<u8>, AllocError> {
+    let mut bytes = Vec::from_slice(alloc, b"question")?;
+    for _ in 0..65_536_u64 {
+        bytes.push(b'.')?;
+    }
+    Ok(bytes)
+}
+
+/// The machine.
 pub fn host(rt: &HostRuntime) -> SystemHost<HostRuntime> {
     SystemHost::of(rt.alloc(), *rt)
 }
@@ -108,6 +117,30 @@ fn talk(rt: &HostRuntime, threads: &impl Threads) -> Option<(bool, bool, HostCou
 #[test]
 fn a_link_reaches_a_door(rt: HostRuntime) {
     assert_eq!(rt; talk(&rt, &rt), Some((true, true, NONE, NONE)));
+}
+
+/// A request of which the door reads eight bytes alone. Whether the guest who sent it all gets the answer whole.
+fn talk_past(rt: &HostRuntime, threads: &impl Threads) -> Option<(bool, bool, HostCounts)> {
+    let mut door = door(rt)?;
+    let address = address(rt, &door)?;
+    let mut link = TcpLink::of(rt.alloc(), *rt);
+    let question = long_question(rt.alloc()).ok()?;
+    let (answered, asked) = thread::join(
+        threads,
+        || answers(&mut door, b"question", b"answer"),
+        || asks(&mut link, &address, &question, b"answer"),
+    );
+    let counts = link.counts();
+    drop(question);
+    drop(door);
+    drop(link);
+    drop(address);
+    Some((answered, asked, counts))
+}
+
+#[test]
+fn an_answer_to_a_request_that_was_not_read_arrives(rt: HostRuntime) {
+    assert_eq!(rt; talk_past(&rt, &rt), Some((true, true, NONE)));
 }
 
 /// Two doors that share a listener: each takes one of two guests.

@@ -8,13 +8,16 @@ use as4_flow::{ReaderSource, WriterSink};
 use as4_host::{Arrival, Door};
 use as4_values::NoMemory;
 use std::alloc::Global;
-use std::io::ErrorKind;
-use std::net::{SocketAddr, TcpListener, TcpStream};
-use std::time::{Clock, Duration};
+use std::io::{ErrorKind, Read};
+use std::net::{Shutdown, SocketAddr, TcpListener, TcpStream};
+use std::time::{Clock, Duration, Instant};
 use std::{io, thread};
 
 /// How long a door waits where the process or the system is out of descriptors, in milliseconds.
 const REST: u64 = 100;
+
+/// How long a door reads on after a response, in seconds.
+const LINGER: u64 = 1;
 
 /// The system's numbers for these.
 const ENFILE: i32 = 23;
@@ -27,6 +30,8 @@ pub struct TcpDoor<R: Clock + Copy + Drop> {
     alloc: Global,
     system: R,
     listener: Shared<TcpListener>,
+    // The connection of the guest who came last, which is closed gently when it is settled.
+    last: Option<Shared<TcpStream>>,
     counts: HostCounts,
 }
 
@@ -40,6 +45,7 @@ impl<R: Clock + Copy + Drop> TcpDoor<R> {
             alloc,
             system,
             listener,
+            last: None,
             counts: HostCounts::none(),
         }
     }
@@ -78,6 +84,29 @@ impl<R: Clock + Copy + Drop> TcpDoor<R> {
     }
 }
 
+// Says that no more bytes will come, and reads on until the peer closes, for a second at most. A connection that is closed
+// with unread bytes is reset, and the peer might lose a response to a request that wasn't read to its end.
+fn linger<R: Clock>(system: &R, stream: &Shared<TcpStream>) -> io::Result<()> {
+    let mut stream = stream.get()?;
+    stream.shutdown(Shutdown::Write)?;
+    let mut room = [0; 4096];
+    let start = Instant::now(system)?;
+    for _ in 0..u32::MAX {
+        let spent = Instant::now(system)?.duration_since(start);
+        let Some(left) = Duration::from_secs(LINGER).checked_sub(spent) else {
+            break;
+        };
+        if left.is_zero() {
+            break;
+        }
+        stream.set_read_timeout(Some(left))?;
+        if stream.read(&mut room)? == 0 {
+            break;
+        }
+    }
+    Ok(())
+}
+
 fn is_shortage(error: &io::Error) -> bool {
     matches!(error.raw_os_error(), Some(EMFILE | ENFILE))
 }
@@ -102,7 +131,7 @@ impl<R: Clock + Copy + Drop> Door for TcpDoor<R> {
         match self.accept() {
             Ok(stream) => {
                 room.put(stream);
-                drop(room);
+                drop(self.last.replace(room));
                 Arrival::Open(source, sink)
             }
             Err(_) => {
@@ -123,6 +152,11 @@ impl<R: Clock + Copy + Drop> Door for TcpDoor<R> {
         });
         drop(source);
         drop(sink);
+        if let Some(stream) = self.last.take() {
+            // Where it fails, the peer is gone.
+            let _ = linger(&self.system, &stream);
+            drop(stream);
+        }
     }
 
     fn share(&self) -> Result<Self, NoMemory> {
