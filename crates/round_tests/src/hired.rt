@@ -1,11 +1,11 @@
 //! Workers over a shared office, with doors and links in memory.
-ghost use Rattle.std.specs.Prelude.{◌≡◌, ◌<◌, ◌-◌, ◌^◌, IfOk};
+ghost use Rattle.std.specs.Prelude.{◌≡◌, ◌<◌, ◌-◌, ◌^◌, None, IfOk};
 ghost use Rattle.as4_disk.specs.MemoryMeaning.{memory_meaning};
 ghost use Rattle.sessions.specs.Shared.{IsOpened};
 
 use crate::rig::{link_of, submits};
 use as4_disk::MemoryDisk;
-use as4_flow::{CountNonces, ListClock};
+use as4_flow::{Clock, CountNonces};
 use as4_host::{MemoryDoor, MemoryLink, Stack, StreamPlan};
 use as4_values::{Octets, Seq, Text};
 use office::{Call, Office};
@@ -16,7 +16,27 @@ use std::sync::{Mutex, Wait};
 use std::thread::Threads;
 use workers::{Job, Worker, serve};
 
-pub(crate) type Hired<'a> = Worker<'a, MemoryDoor, MemoryLink, ListClock, CountNonces>;
+pub(crate) type Hired<'a> = Worker<'a, MemoryDoor, MemoryLink, StillClock, CountNonces>;
+
+/// A clock that stands still, and counts its rests.
+#[derive(Drop)]
+pub(crate) struct StillClock {
+    rests: u64,
+}
+
+impl Clock for StillClock {
+    ghost last = { λ _. 0 };
+
+    ghost to_come = { λ _ _. None };
+
+    fn now(&mut self) -> u64 {
+        0
+    }
+
+    fn rest(&mut self) {
+        self.rests = self.rests.saturating_add(1);
+    }
+}
 
 /// What a worker does.
 #[derive(Clone, Copy)]
@@ -44,7 +64,7 @@ pub(crate) struct Shift {
 }
 
 /// What is left after its turns: its share, how many turns memory ran out for, how many guests weren't taken, how many
-/// connections were asked for, and how many messages are received and receipted.
+/// connections were asked for, how many messages are received and receipted, and how often it rested.
 #[derive(Clone, Copy, Debug, PartialEq, Eq)]
 pub(crate) struct Done {
     pub(crate) share: u64,
@@ -53,6 +73,7 @@ pub(crate) struct Done {
     pub(crate) asked: u64,
     pub(crate) inbox: u64,
     pub(crate) receipted: u64,
+    pub(crate) rests: u64,
 }
 
 /// A door whose guests send these bytes.
@@ -99,7 +120,7 @@ fn hired<'a>(
         pass: pass.split(1),
         door: Some(door),
         link,
-        clock: ListClock::of(Vec::new(alloc)),
+        clock: StillClock { rests: 0 },
         nonces: CountNonces::of(1),
         turns: shift.turns,
         starved: 0,
@@ -134,6 +155,7 @@ pub(crate) fn after_turns<R: Threads + Wait + Sync, J: Opening + Send + Sync>(
         asked: 0,
         inbox: totals.inbox,
         receipted: totals.receipted,
+        rests: 0,
     };
     for worker in workers {
         done.leave(worker);
@@ -155,6 +177,7 @@ impl Done {
             starved,
         } = worker;
         drop(job);
+        self.rests = self.rests.saturating_add(clock.rests);
         drop(clock);
         self.asked = self.asked.saturating_add(link.addresses().len() as u64);
         drop(link);

@@ -11,14 +11,14 @@ use std::thread::Threads;
 
 /// A worker's task; the numbers of submitted messages and of its turns; its guests and its answers; the numbers of the
 /// calls that fail; and what is left: its share, the turns for which memory ran out, the guests that weren't taken, the
-/// connections, the received messages and the receipted ones.
+/// connections, the received messages and the receipted ones, and how often it rested.
 type Row = (
     Task,
     [u64; 2],
     &'static [&'static [u8]],
     &'static [&'static [u8]],
     [u64; 4],
-    [u64; 6],
+    [u64; 7],
 );
 
 const FAULTLESS: [u64; 4] = [0, 0, 0, 0];
@@ -31,16 +31,23 @@ const ROWS: [Row; 14] = [
         &[],
         &[RECEIPT],
         FAULTLESS,
-        [3, 0, 0, 1, 0, 1],
+        [3, 0, 0, 1, 0, 1, 1],
     ),
-    (Task::Push, [0, 2], &[], &[], FAULTLESS, [2, 0, 0, 0, 0, 0]),
+    (
+        Task::Push,
+        [0, 2],
+        &[],
+        &[],
+        FAULTLESS,
+        [2, 0, 0, 0, 0, 0, 2],
+    ),
     (
         Task::Push,
         [1, 1],
         &[],
         &[RECEIPT],
         [0, 1, 0, 0],
-        [1, 0, 0, 1, 0, 0],
+        [1, 0, 0, 1, 0, 0, 0],
     ),
     (
         Task::Push,
@@ -48,7 +55,7 @@ const ROWS: [Row; 14] = [
         &[],
         &[RECEIPT, UNAVAILABLE],
         FAULTLESS,
-        [3, 0, 0, 2, 0, 1],
+        [3, 0, 0, 2, 0, 1, 0],
     ),
     (
         Task::Pull(b"drawer"),
@@ -56,7 +63,7 @@ const ROWS: [Row; 14] = [
         &[],
         &[EMPTY],
         FAULTLESS,
-        [2, 0, 0, 1, 0, 0],
+        [2, 0, 0, 1, 0, 0, 1],
     ),
     (
         Task::Pull(b"drawer"),
@@ -64,7 +71,7 @@ const ROWS: [Row; 14] = [
         &[],
         &[USER, RECEIPT, EMPTY],
         FAULTLESS,
-        [5, 0, 0, 3, 1, 0],
+        [5, 0, 0, 3, 1, 0, 1],
     ),
     (
         Task::Pull(b"none"),
@@ -72,16 +79,23 @@ const ROWS: [Row; 14] = [
         &[],
         &[],
         FAULTLESS,
-        [2, 0, 0, 0, 0, 0],
+        [2, 0, 0, 0, 0, 0, 2],
     ),
-    (Task::Tick, [0, 3], &[], &[], FAULTLESS, [3, 0, 0, 0, 0, 0]),
+    (
+        Task::Tick,
+        [0, 3],
+        &[],
+        &[],
+        FAULTLESS,
+        [3, 0, 0, 0, 0, 0, 3],
+    ),
     (
         Task::Local,
         [0, 1],
         &[GET_0],
         &[],
         FAULTLESS,
-        [1, 0, 0, 0, 0, 0],
+        [1, 0, 0, 0, 0, 0, 0],
     ),
     (
         Task::Local,
@@ -89,7 +103,7 @@ const ROWS: [Row; 14] = [
         &[GET_0, b"x", GET_0, GET_0],
         &[],
         FAULTLESS,
-        [2, 0, 1, 0, 0, 0],
+        [2, 0, 1, 0, 0, 0, 0],
     ),
     (
         Task::Peer,
@@ -97,7 +111,7 @@ const ROWS: [Row; 14] = [
         &[PACKAGE, PACKAGE, PACKAGE],
         &[],
         FAULTLESS,
-        [2, 0, 1, 0, 1, 0],
+        [2, 0, 1, 0, 1, 0, 0],
     ),
     // the door is closed before the third turn
     (
@@ -106,7 +120,7 @@ const ROWS: [Row; 14] = [
         &[PACKAGE, PACKAGE],
         &[],
         FAULTLESS,
-        [2, 0, 0, 0, 1, 0],
+        [2, 0, 0, 0, 1, 0, 0],
     ),
     (
         Task::Peer,
@@ -114,7 +128,7 @@ const ROWS: [Row; 14] = [
         &[PACKAGE],
         &[],
         [1, 0, 0, 0],
-        [1, 0, 0, 0, 1, 0],
+        [1, 0, 0, 0, 1, 0, 1],
     ),
     (
         Task::Peer,
@@ -122,7 +136,7 @@ const ROWS: [Row; 14] = [
         &[b""],
         &[],
         FAULTLESS,
-        [0, 0, 0, 0, 0, 0],
+        [0, 0, 0, 0, 0, 0, 0],
     ),
 ];
 
@@ -140,7 +154,7 @@ fn is_right<R: Threads + Wait + Sync>(
         answers: row.3,
         failing: row.4,
     };
-    let [share, starved, guests, asked, inbox, receipted] = row.5;
+    let [share, starved, guests, asked, inbox, receipted, rests] = row.5;
     let done = Done {
         share,
         starved,
@@ -148,6 +162,7 @@ fn is_right<R: Threads + Wait + Sync>(
         asked,
         inbox,
         receipted,
+        rests,
     };
     let (office, pass) = opened(alloc, &[])?;
     Ok(after_turns::<_, Brand>(rt, alloc, office, pass, shift)? == done)

@@ -1,8 +1,8 @@
 -- The table doesn't look at the journal's size, so with an empty journal the same row is taken.
-use Rattle.std.proofs.Common.{◌≡◌, ℕ, inl, inr, List, [], ◌∷◌, Bool, true, false, Option, Some, None, refl, sym, ap, ◌∙◌, subst, arith}
+use Rattle.std.proofs.Common.{◌≡◌, ◌+◌, ◌≤◌, ◌==◌, ◌||◌, ℕ, inl, inr, List, [], ◌∷◌, Bool, true, false, Option, Some, None, length, refl, sym, ap, ◌∙◌, subst, arith, le-leb, leb-true}
 use Rattle.std.specs.Prelude.{◌≢◌, MatchOption}
 use Rattle.std.specs.Bool.{MatchBool}
-use Rattle.std.proofs.lemmas.Bool.{false≢true}
+use Rattle.std.proofs.lemmas.Bool.{false≢true, ne_eqb}
 use Rattle.as4_effects.specs.declared.effect.Effect.{Effect}
 use Rattle.as4_effects.specs.declared.effect.Effect.TheVariants as effect
 use Rattle.as4_values.specs.declared.message.Message.TheVariants as message
@@ -19,7 +19,7 @@ use Rattle.exchange_model.specs.Fold.{resized}
 use Rattle.exchange_model.specs.LosslessRound.{IsFull}
 use Rattle.exchange_model.specs.Questions.{head_of}
 use Rattle.exchange_model.specs.Room.{HasRoomForOne}
-use Rattle.exchange_model.specs.Table.{AsksWith, AsksWithBy, Confirms, IsLimited, PairComes, PullComes, PullsBehind, ReceiptComes, Rests, RowOf, SignalComes, Step, Submits, Takes, Ticks, UserComes, has_room, is_quiet, read_reply}
+use Rattle.exchange_model.specs.Table.{AsksWith, AsksWithBy, Confirms, IsLimited, PairComes, PullComes, PullsBehind, ReceiptComes, Rests, RowOf, SignalComes, Step, Submits, Takes, Ticks, UserComes, has_room, journal_limit, is_quiet, read_reply}
 use Rattle.exchange_model.specs.declared.event.Event.{Event}
 use Rattle.exchange_model.specs.declared.outcome.Outcome.{Outcome}
 use Rattle.exchange_model.specs.declared.reply.Reply.{Reply}
@@ -149,6 +149,29 @@ has_effects : (end : End) (effects : List Effect) → has_room end effects ≡ f
 unfolding has_room
 has_effects end effects none e = false≢true (sym none ∙ ap (has_room end) e)
 
+-- with room for its record a row has room
+fits : (end : End) (effects : List Effect) (n : ℕ) → record_len effects ≡ n → end.size + n ≤ journal_limit → has_room end effects ≡ true
+unfolding has_room
+fits end effects n len room =
+    let some : end.size + record_len effects ≤ journal_limit = omega (arith, len, room) in
+    or_true (length effects == 0) _ (le-leb (end.size + record_len effects) journal_limit some)
+  where
+    or_true : (a b : Bool) → b ≡ true → (a || b) ≡ true
+    or_true true b is = refl
+    or_true false b is = is
+
+-- and the other way round, if it has effects
+had : (end : End) (effects : List Effect) → effects ≢ [] → has_room end effects ≡ true → end.size + record_len effects ≤ journal_limit
+unfolding has_room
+had end [] some has = absurd (some refl)
+had end (e ∷ effects) some has =
+    leb-true (end.size + record_len (e ∷ effects)) journal_limit
+    (second (length (e ∷ effects) == 0) _ (ne_eqb (length (e ∷ effects)) 0 (λ none. omega arith)) has)
+  where
+    second : (a b : Bool) → a ≡ false → (a || b) ≡ true → b ≡ true
+    second true b is has = absurd (false≢true (sym is))
+    second false b is has = has
+
 pub needs_record : (modes : List Mode) (end : End) (event : Event) (outcome : Outcome) (size need : ℕ) → Step modes end event outcome
     → outcome.reply ≡ reply.Full size need → HasCodes event.what → NeedsRecord modes end event need
 needs_record modes end event outcome size need step told codes =
@@ -169,11 +192,14 @@ needs_record modes end event outcome size need step told codes =
         let one : record_len step.row.effects ≡ need = cc in
         record {
           outcome = step.row;
-          step = record {
+          steps = λ size room. record {
             row = step.row;
-            decided = there;
-            limited = taken_there (resized empty_end.size end) step.row (room_when_empty modes end event event.what step.row codes there (not_full event.what step.row.reply suits));
+            decided = row_resized modes size end event event.what step.row step.decided;
+            limited = taken_there (resized size end) step.row (fits (resized size end) step.row.effects need one room);
           };
+          empty =
+              let has = room_when_empty modes end event event.what step.row codes there (not_full event.what step.row.reply suits) in
+              omega (arith, one, had (resized empty_end.size end) step.row.effects (has_effects end step.row.effects none) has);
           taken = not_full event.what step.row.reply suits;
           some = has_effects end step.row.effects none;
           len = one;

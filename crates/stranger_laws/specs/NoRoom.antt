@@ -1,5 +1,5 @@
 -- Why an endpoint says that its journal is full: this handler's own limit.
-use Rattle.std.specs.Prelude.{◌≡◌, ◌≢◌, ℕ, ◌+◌, ◌<◌, List, []}
+use Rattle.std.specs.Prelude.{◌≡◌, ◌≢◌, ℕ, ◌+◌, ◌<◌, ◌≤◌, List, []}
 use Rattle.std.specs.List.{Contains}
 use Rattle.as4_values.specs.Word.{IsWord}
 use Rattle.as4_values.specs.declared.message.Message.TheVariants as message
@@ -36,11 +36,12 @@ pub record IsOutOfRoom (end : End) (w : What) (outcome : Outcome) (reported need
   -- there isn't room for any effect, whatever `need` is
   pub no_room : HasCodes w → ¬ HasRoomForOne end
 
--- the same endpoint with an empty journal takes the event: it doesn't say "full", and it has effects, whose record takes
--- `need` bytes
+-- The same endpoint takes the event with a journal of any size that has room for `need` more bytes, an empty one among
+-- them, and always in the same way: it doesn't say "full", and it has effects, whose record takes `need` bytes.
 pub record NeedsRecord (modes : List Mode) (end : End) (event : Event) (need : ℕ) : Type 0 where
   pub outcome : Outcome
-  pub step : Step modes (resized empty_end.size end) event outcome
+  pub steps : (size : ℕ) → size + need ≤ journal_limit → Step modes (resized size end) event outcome
+  pub empty : empty_end.size + need ≤ journal_limit
   pub taken : ¬ IsFull outcome.reply
   pub some : outcome.effects ≢ []
   pub len : record_len outcome.effects ≡ need

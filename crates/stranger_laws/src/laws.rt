@@ -101,8 +101,8 @@ pub fn full_is_told_for_cause()
         → outcome.reply ≡ reply.Full size need → IsOutOfRoom end event.what outcome size need }
 {}
 
-/// And the bytes that "full" reports as needed are those of the event's own record: the same endpoint with an empty
-/// journal takes the event, and writes a record of that length. The codes of an error signal are error codes.
+/// And the bytes that "full" reports as needed are those of the event's own record: with a journal of any size that has room
+/// for them, an empty one among them, the same endpoint takes the event, and writes a record of that length. The codes of an error signal are error codes.
 pub fn full_needs_its_record()
     ensures { (modes : List Mode) (end : End) (event : Event) (outcome : Outcome) (size need : ℕ) → Step modes end event outcome
         → outcome.reply ≡ reply.Full size need → HasCodes event.what → NeedsRecord modes end event need }

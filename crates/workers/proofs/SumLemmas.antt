@@ -10,8 +10,9 @@ use Rattle.pass_book.proofs.Beginnings.{prefix_self}
 use Rattle.sessions.specs.declared.naming.Opening.{Ghosts as OpeningMeaning}
 use Rattle.workers.specs.Bounds.{Grows, door_of, most_calls}
 use Rattle.workers.specs.Endings.{goes_on}
-use Rattle.workers.specs.Turns.{Makes, TakesTurn, TakesTurns, MakesItsTurns}
+use Rattle.workers.specs.Turns.{Does, Makes, TakesTurn, TakesTurns, MakesItsTurns}
 use Rattle.workers.specs.declared.job.Job.{Job}
+use Rattle.workers.specs.declared.job.Job.TheVariants as job
 use Rattle.workers.specs.declared.job.Worker.{Worker}
 use Rattle.workers.specs.declared.turn.Turn.{Turn}
 use Rattle.workers.specs.declared.turn.Turn.TheVariants as turn
@@ -139,3 +140,37 @@ module _ {D J W In Out L From To C N : Type 0} (M : DiskMeaning D) (O : OpeningM
       let there = turns_grow n old middle first in
       let ends = turn_makes middle new false last (ap door_of there.job ∙ none) room in
       absurd (true≢false (sym ends.1))
+
+  -- a turn that sets the clock is never counted as starved
+  ticks_idle : (which : Job) (old new : Worker W L C N) (end : Turn) → Does M O G K T R which old new end → which ≡ job.Tick → starves_of end ≡ 0
+  ticks_idle job.Peer old new end does is = absurd cc
+  ticks_idle job.Local old new end does is = absurd cc
+  ticks_idle job.Push old new end does is = absurd cc
+  ticks_idle (job.Pull mode) old new end does is = absurd cc
+  ticks_idle job.Tick old new end does is = ap starves_of does.ended
+
+  tick_counts : (old new : Worker W L C N) (goes : Bool) → TakesTurn M O G K T R old new goes → old.job ≡ job.Tick → new.starved ≡ old.starved
+  tick_counts old new goes takes is =
+      let left = finished M O G K T R takes.end takes.middle new takes.finishes in
+      omega (arith, left.starved, takes.makes.starved, ticks_idle old.job old takes.middle takes.end takes.makes.does is)
+
+  ticks_count : (n : ℕ) (old new : Worker W L C N) → TakesTurns M O G K T R n old new → old.job ≡ job.Tick → new.starved ≡ old.starved
+  ticks_count zero old new takes is = ap (λ (w : Worker W L C N). w.starved) takes
+  ticks_count (suc n) old new (middle, first, last) is =
+      let there = turns_grow n old middle first in
+      tick_counts middle new true last (there.job ∙ is) ∙ ticks_count n old middle first is
+
+  all_ticks : (old new : Worker W L C N) → MakesItsTurns M O G K T R old new → old.job ≡ job.Tick → new.starved ≡ old.starved
+  all_ticks old new (inl all) is = ticks_count old.turns old new all is
+  all_ticks old new (inr (n, middle, fewer, first, last)) is =
+      let there = turns_grow n old middle first in
+      tick_counts middle new false last (there.job ∙ is) ∙ ticks_count n old middle first is
+
+  -- a worker that sets the clock makes as many calls as turns
+  pub worked_ticks : (old new : Worker W L C N) → MakesItsTurns M O G K T R old new → old.job ≡ job.Tick → length new.pass.list < 2 ^ 63
+      → new.pass.share ≡ old.pass.share + old.turns
+  worked_ticks old new worked is room =
+      let least = worked_makes old new worked (ap door_of is) room in
+      let most = (worked_grows old new worked).most in
+      let one : old.turns * most_calls old.job ≡ old.turns = ap (λ (which : Job). old.turns * most_calls which) is ∙ omega arith in
+      omega (arith, least, most, one, all_ticks old new worked is)

@@ -30,7 +30,7 @@ use Rattle.sessions.specs.declared.naming.Opening.{Ghosts as OpeningMeaning}
 use Rattle.sessions.specs.declared.rounds.RoundEnd.{RoundEnd}
 use Rattle.sessions.specs.declared.rounds.RoundEnd.TheVariants as round
 use Rattle.workers.specs.Bounds.{AskAtLeast, Asks, HasEventOf, IsEntered, IsQuiet, Took, door_of, most_calls}
-use Rattle.workers.specs.Endings.{after_pull, after_push, after_session, goes_on, round_starves, takes_none}
+use Rattle.workers.specs.Endings.{after_pull, after_push, after_session, goes_on, round_starves, is_idle}
 use Rattle.workers.specs.Guests.{AtDoor, Caller, MeetsGuest, MeetsNobody, ServesGuest}
 use Rattle.workers.specs.Turns.{Does, Finishes, Makes, Rests, TakesTurn, caller_of}
 use Rattle.workers.specs.declared.job.Job.{Job}
@@ -155,7 +155,7 @@ module _ {D J W In Out L From To C N : Type 0} (M : DiskMeaning D) (O : OpeningM
   does_away job.Push old new end does none = record {
     some = away 2 (does.by ≡ round.NoMemory) (end ≡ turn.Starved) old.pass new.pass (λ is. does.ended ∙ ap after_push is)
         (pushes_some M O K T R _ _ does.by does.pushes);
-    goes = ap goes_on does.ended ∙ may_go_on (round_starves does.by) (takes_none does.by);
+    goes = ap goes_on does.ended ∙ may_go_on (round_starves does.by) (is_idle does.by);
   }
   does_away (job.Pull mode) old new end does none = record {
     some = away 3 (does.by.end ≡ round.NoMemory) (end ≡ turn.Starved) old.pass new.pass

@@ -17,24 +17,24 @@ abbrev pub round_starves : RoundEnd → Bool
 round_starves round.NoMemory = true
 round_starves other = false
 
--- no message was taken
-abbrev pub takes_none : RoundEnd → Bool
-takes_none round.Nothing = true
-takes_none (round.DiskFault before after) = true
-takes_none (round.Stopped before after) = true
-takes_none (round.Full size need) = true
-takes_none round.Worn = true
-takes_none other = false
+-- no message was taken, or the endpoint can't go on
+abbrev pub is_idle : RoundEnd → Bool
+is_idle round.Nothing = true
+is_idle (round.DiskFault before after) = true
+is_idle (round.Stopped before after) = true
+is_idle (round.Full size need) = true
+is_idle round.Worn = true
+is_idle other = false
 
 -- after a session
 abbrev pub after_session : Ended → Turn
 after_session end = if session_starves end then Starved else Worked
 
--- after a round that pushes: there is nothing to do if no message was taken
+-- after a round that pushes
 abbrev pub after_push : RoundEnd → Turn
-after_push end = if round_starves end then Starved else if takes_none end then Idle else Worked
+after_push end = if round_starves end then Starved else if is_idle end then Idle else Worked
 
--- after a round that pulls: there is nothing to do if no message came
+-- after a round that pulls: there is nothing more to do if no message came that was answered
 abbrev pub after_pull : Pulled → Turn
 after_pull by = if round_starves by.end then Starved else if by.received then Worked else Idle
 

@@ -5,13 +5,14 @@ ghost use Rattle.workers.specs.Bounds.{Grows, Took, door_of};
 ghost use Rattle.workers.specs.Turns.{Worked};
 ghost use Rattle.workers.specs.declared.job.Worker.{Worker as WorkerValue};
 
+use crate::job::Job;
 use as4_disk::Disk;
 use as4_flow::{Clock, Nonces};
 use as4_host::{Door, Link};
 use sessions::{Opening, a_request_is_handled};
 
-/// What a worker has made after its turns: a tick worker as many calls of the office as turns; a worker that pushes or
-/// pulls at least one in each turn, but for those for which memory ran out; a worker at a door has served the first
+/// What a worker has made after its turns: one that sets the clock as many calls of the office as turns; one that pushes
+/// or pulls at least one in each turn, but for those that are counted as starved; one at a door has served the first
 /// guests. The history must not be full.
 pub fn workers_make_their_turns<D: Disk, J: Opening, W: Door, L: Link, C: Clock, N: Nonces>()
     ensures grows { (old new : WorkerValue W L C N) → Worked D.Disk J.Opening W.Door L.Link C.Clock N.Nonces old new
@@ -19,6 +20,8 @@ pub fn workers_make_their_turns<D: Disk, J: Opening, W: Door, L: Link, C: Clock,
     ensures makes { (old new : WorkerValue W L C N) → Worked D.Disk J.Opening W.Door L.Link C.Clock N.Nonces old new
         → door_of old.job ≡ None → length new.pass.list < 2 ^ 63
         → old.turns + old.pass.share + old.starved ≤ new.pass.share + new.starved }
+    ensures ticks { (old new : WorkerValue W L C N) → Worked D.Disk J.Opening W.Door L.Link C.Clock N.Nonces old new
+        → old.job ≡ Job.Tick → length new.pass.list < 2 ^ 63 → new.pass.share ≡ old.pass.share + old.turns }
     ensures serves { (old new : WorkerValue W L C N) (kind : DoorValue) (door : W) (all : List (List ℕ))
         → Worked D.Disk J.Opening W.Door L.Link C.Clock N.Nonces old new
         → door_of old.job ≡ Some kind → old.door ≡ Some door → W.guests door ≡ Some all

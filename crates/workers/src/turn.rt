@@ -31,7 +31,7 @@ pub(crate) fn after_session(ended: Ended) -> Turn
     }
 }
 
-/// After a round that pushes: if no message was taken, there is nothing to do.
+/// After a round that pushes: if no message was taken, or the endpoint can't go on, there is nothing to do.
 pub(crate) fn after_push(end: RoundEnd) -> Turn
     ensures { result ≡ after_push end }
 {
@@ -49,7 +49,7 @@ pub(crate) fn after_push(end: RoundEnd) -> Turn
     }
 }
 
-/// After a round that pulls: if no message came, there is nothing to do.
+/// After a round that pulls: if no message came that was answered, there is nothing more to do.
 pub(crate) fn after_pull(pulled: Pulled) -> Turn
     ensures { result ≡ after_pull pulled }
 {
