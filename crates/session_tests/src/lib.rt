@@ -2,7 +2,11 @@
 #![tactic(auto)]
 
 #[cfg(test)]
+mod cuts;
+#[cfg(test)]
 mod desk;
+#[cfg(test)]
+mod faults;
 #[cfg(test)]
 mod local;
 #[cfg(test)]

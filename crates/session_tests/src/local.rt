@@ -2,7 +2,7 @@
 
 use crate::desk::Desk;
 use crate::samples::{
-    ACCEPTED, BAD_REQUEST, COUNTED, FAILURE_OF_1, LONG_MEDIA, PACKAGE, RECEIPT, RECEIPT_OF_0,
+    ACCEPTED, BAD_REQUEST, COUNTED, FAILURE_OF_1, GET_0, LONG_MEDIA, PACKAGE, RECEIPT, RECEIPT_OF_0,
 };
 use crate::shown::EndKind;
 use sessions::DoorKind;
@@ -78,8 +78,8 @@ const CONFIRMED: [Row; 4] = [
     ),
 ];
 
-/// A request without a body.
-pub(crate) fn bare_request(alloc: Global, line: &str) -> Result<Vec<u8>, AllocError> {
+// A request without a body.
+fn bare_request(alloc: Global, line: &str) -> Result<Vec<u8>, AllocError> {
     let mut bytes = line.as_bytes().to_vec(alloc)?;
     bytes.extend_from_slice(b" HTTP/1.1\r\nHost: localhost\r\nContent-Length: 0\r\n\r\n")?;
     Ok(bytes)
@@ -107,26 +107,27 @@ fn calls_at_an_empty_endpoint(rt: HostRuntime) -> Result<(), Fail> {
     Ok(())
 }
 
-#[test]
-fn a_message_is_read_and_confirmed(rt: HostRuntime) -> Result<(), Fail> {
-    let mut desk = Desk::new(rt.alloc(), &[])?;
-    let came = desk.answers(DoorKind::Peer, COUNTED, EndKind::Answered, RECEIPT)
-        && desk.answers(DoorKind::Peer, COUNTED, EndKind::Answered, RECEIPT);
-    let request = bare_request(rt.alloc(), "GET /inbox/0")?;
-    let is_read = desk.answers(
-        DoorKind::Local,
-        request.as_slice(),
-        EndKind::Answered,
-        PACKAGE,
-    );
-    let wrong = first_wrong(rt.alloc(), &mut desk, &CONFIRMED);
-    let (inbox, share) = (desk.office.totals().inbox, desk.pass.share());
+// Whether the invoice comes, comes again, and is read.
+fn comes_and_is_read(desk: &mut Desk<'_>) -> bool {
+    desk.answers(DoorKind::Peer, COUNTED, EndKind::Answered, RECEIPT)
+        && desk.answers(DoorKind::Peer, COUNTED, EndKind::Answered, RECEIPT)
+        && desk.answers(DoorKind::Local, GET_0, EndKind::Answered, PACKAGE)
+}
+
+// Whether it is, the first row after it that isn't so, and the numbers of messages and of calls.
+fn after_a_message(alloc: Global) -> Result<(bool, Option<usize>, u64, u64), AllocError> {
+    let mut desk = Desk::new(alloc, &[])?;
+    let is_read = comes_and_is_read(&mut desk);
+    let wrong = first_wrong(alloc, &mut desk, &CONFIRMED);
+    let inbox = desk.office.totals().inbox;
+    let share = desk.pass.share();
     drop(desk);
-    assert_eq!(rt;
-        (came, is_read, wrong, inbox, share),
-        (true, true, None, 1, 7)
-    );
-    Ok(())
+    Ok((is_read, wrong, inbox, share))
+}
+
+#[test]
+fn a_message_is_read_and_confirmed(rt: HostRuntime) {
+    assert_eq!(rt; after_a_message(rt.alloc()), Ok((true, None, 1, 7)));
 }
 
 #[test]
@@ -208,27 +209,30 @@ fn a_media_text_of_1025_bytes(rt: HostRuntime) -> Result<(), Fail> {
     Ok(())
 }
 
-// The response of an endpoint without submissions to a request whose connection is kept, and that to one whose connection
-// closes.
+// Whether this is the response of an endpoint without submissions to a request whose connection is kept, or closes.
+fn replies(desk: &mut Desk<'_>, kept: bool, written: &[u8]) -> bool {
+    match desk.replies("/status/none@x", kept) {
+        Ok(served) => {
+            let is_so = served.is(EndKind::Answered, written);
+            drop(served);
+            is_so
+        }
+        Err(_) => false,
+    }
+}
+
+const KEPT: &[u8] =
+    b"HTTP/1.1 404 Not Found\r\nContent-Type: text/plain\r\nContent-Length: 8\r\nConnection: keep-alive\r\n\r\nunknown\n";
+
+const CLOSED: &[u8] =
+    b"HTTP/1.1 404 Not Found\r\nContent-Type: text/plain\r\nContent-Length: 8\r\nConnection: close\r\n\r\nunknown\n";
+
 #[test]
 fn a_kept_response_says_so(rt: HostRuntime) -> Result<(), Fail> {
     let mut desk = Desk::new(rt.alloc(), &[])?;
-    let kept = desk.replies("/status/none@x", true);
-    let closed = desk.replies("/status/none@x", false);
+    let kept = replies(&mut desk, true, KEPT);
+    let closed = replies(&mut desk, false, CLOSED);
     drop(desk);
-    let (kept, closed) = (kept?, closed?);
-    let is_so = [
-        kept.is(
-            EndKind::Answered,
-            b"HTTP/1.1 404 Not Found\r\nContent-Type: text/plain\r\nContent-Length: 8\r\nConnection: keep-alive\r\n\r\nunknown\n",
-        ),
-        closed.is(
-            EndKind::Answered,
-            b"HTTP/1.1 404 Not Found\r\nContent-Type: text/plain\r\nContent-Length: 8\r\nConnection: close\r\n\r\nunknown\n",
-        ),
-    ];
-    drop(kept);
-    drop(closed);
-    assert_eq!(rt; is_so, [true, true]);
+    assert_eq!(rt; (kept, closed), (true, true));
     Ok(())
 }

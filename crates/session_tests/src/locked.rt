@@ -58,11 +58,13 @@ fn serves<R: Wait, J: Opening>(
         &mut clock,
         &mut nonces,
     );
+    let left = source.rest().len();
     drop(source);
     drop(clock);
     Ok(Served {
         ended: kind_of(ended),
         written: Octets::of(sink.into_bytes()),
+        left,
     })
 }
 

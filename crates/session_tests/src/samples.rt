@@ -73,3 +73,26 @@ pub(crate) const ACCEPTED: &[u8] =
 /// A submission whose media text has 1,025 bytes.
 pub(crate) const LONG_MEDIA: &[u8] =
     b"POST /submit/invoice/c1 HTTP/1.1\r\nHost: localhost\r\nContent-Type: xxxxxxxxxxxxxxxxxxxxxxxxxxxxxxxxxxxxxxxxxxxxxxxxxxxxxxxxxxxxxxxxxxxxxxxxxxxxxxxxxxxxxxxxxxxxxxxxxxxxxxxxxxxxxxxxxxxxxxxxxxxxxxxxxxxxxxxxxxxxxxxxxxxxxxxxxxxxxxxxxxxxxxxxxxxxxxxxxxxxxxxxxxxxxxxxxxxxxxxxxxxxxxxxxxxxxxxxxxxxxxxxxxxxxxxxxxxxxxxxxxxxxxxxxxxxxxxxxxxxxxxxxxxxxxxxxxxxxxxxxxxxxxxxxxxxxxxxxxxxxxxxxxxxxxxxxxxxxxxxxxxxxxxxxxxxxxxxxxxxxxxxxxxxxxxxxxxxxxxxxxxxxxxxxxxxxxxxxxxxxxxxxxxxxxxxxxxxxxxxxxxxxxxxxxxxxxxxxxxxxxxxxxxxxxxxxxxxxxxxxxxxxxxxxxxxxxxxxxxxxxxxxxxxxxxxxxxxxxxxxxxxxxxxxxxxxxxxxxxxxxxxxxxxxxxxxxxxxxxxxxxxxxxxxxxxxxxxxxxxxxxxxxxxxxxxxxxxxxxxxxxxxxxxxxxxxxxxxxxxxxxxxxxxxxxxxxxxxxxxxxxxxxxxxxxxxxxxxxxxxxxxxxxxxxxxxxxxxxxxxxxxxxxxxxxxxxxxxxxxxxxxxxxxxxxxxxxxxxxxxxxxxxxxxxxxxxxxxxxxxxxxxxxxxxxxxxxxxxxxxxxxxxxxxxxxxxxxxxxxxxxxxxxxxxxxxxxxxxxxxxxxxxxxxxxxxxxxxxxxxxxxxxxxxxxxxxxxxxxxxxxxxxxxxxxxxxxxxxxxxxxxxxxxxxxxxxxxxxxxxxxxxxxxxxxxxxxxxxxxxxxxxxxxxxxxxxxxxxxxxxxxxxxxxxxxxxxxxxxxxxxxxxxxxxxxxxxxxxxxxxxxxxxxxxxxxxxxxxxxxxxxxxxxxxxxxxxxxxxxxxxxxxxxxxxxxxxxxxxxxxxxxxxxxxxxxxxxxxxxxxxxxxxxxxxxxxxxxxxxxxxxx\r\nContent-Length: 0\r\n\r\n";
+
+/// A message with both framings.
+pub(crate) const BOTH_FRAMINGS: &[u8] =
+    b"POST /as4 HTTP/1.1\r\nHost: bolt\r\nContent-Length: 4\r\nTransfer-Encoding: chunked\r\n\r\n";
+
+/// A message whose body has 67,108,865 bytes.
+pub(crate) const COUNTED_OVER: &[u8] =
+    b"POST /as4 HTTP/1.1\r\nHost: bolt\r\nContent-Length: 67108865\r\n\r\n";
+
+/// A message whose body has 67,108,864 bytes.
+pub(crate) const COUNTED_TO: &[u8] =
+    b"POST /as4 HTTP/1.1\r\nHost: bolt\r\nContent-Length: 67108864\r\n\r\n";
+
+/// A message whose first chunk has 67,108,865 bytes.
+pub(crate) const CHUNKED_OVER: &[u8] =
+    b"POST /as4 HTTP/1.1\r\nHost: bolt\r\nTransfer-Encoding: chunked\r\n\r\n4000001\r\n";
+
+/// A request for the first message of the inbox.
+pub(crate) const GET_0: &[u8] = b"GET /inbox/0 HTTP/1.1\r\nHost: localhost\r\n\r\n";
+
+/// The response where the inbox has no such message.
+pub(crate) const NO_ENTRY: &[u8] =
+    b"HTTP/1.1 404 Not Found\r\nContent-Type: text/plain\r\nContent-Length: 9\r\nConnection: close\r\n\r\nno entry\n";

@@ -41,11 +41,12 @@ pub(crate) fn kind_of(ended: Ended) -> EndKind {
     }
 }
 
-/// How a session ended, and the bytes that were written.
+/// How a session ended, the bytes that were written, and how many bytes the source has left.
 #[derive(Drop)]
 pub(crate) struct Served {
     pub(crate) ended: EndKind,
     pub(crate) written: Octets,
+    pub(crate) left: usize,
 }
 
 impl Served {
