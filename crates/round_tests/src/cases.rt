@@ -125,7 +125,7 @@ fn is_right<R: Wait>(rt: &R, alloc: Global, row: &Row) -> Result<bool, AllocErro
         calls,
         inbox,
         receipted,
-        tries: tries as u32,
+        tries,
     };
     let (office, pass) = opened(alloc, &[])?;
     Ok(after::<_, Brand>(rt, alloc, office, pass, case)? == left)

@@ -68,7 +68,7 @@ fn halting<R: Wait>(rt: &R, alloc: Global) -> (u64, u64, u64) {
     for call in 1..64 {
         if ends(rt, alloc, call) == Some([EndKind::DiskFault, EndKind::Stopped]) {
             let first = if found.2 == 0 { call } else { found.0 };
-            found = (first, call, found.2 + 1);
+            found = (first, call, u64::saturating_add(found.2, 1));
         }
     }
     found

@@ -109,6 +109,7 @@ fn hired<'a>(
     shift: Shift,
 ) -> Result<Hired<'a>, AllocError>
     requires stake { 1 < pass.old.stake }
+    ensures book { pass.new.book ≡ pass.old.book }
     ensures worker { IfOk result (λ w. (w.pass.book ≡ pass.old.book) × (w.starved ≡ 0)) }
 {
     let job = job_of(alloc, shift.task)?;
@@ -194,10 +195,13 @@ fn waiting(door: Option<MemoryDoor>) -> u64 {
         return 0;
     };
     let mut guests = door.into_guests();
-    let mut count = 0;
-    while let Some(guest) = guests.pop() {
+    let mut count = 0_u64;
+    for _ in 0..u64::MAX {
+        let Some(guest) = guests.pop() else {
+            break;
+        };
         drop(guest);
-        count += 1;
+        count = count.saturating_add(1);
     }
     drop(guests);
     count

@@ -1,5 +1,5 @@
 //! A shared office whose rounds go over a link in memory.
-ghost use Rattle.std.specs.Prelude.{◌≡◌, IfOk, []};
+ghost use Rattle.std.specs.Prelude.{◌≡◌, ◌^◌, IfOk, []};
 ghost use Rattle.as4_disk.specs.MemoryMeaning.{memory_meaning};
 ghost use Rattle.sessions.specs.Shared.{IsOpened};
 
@@ -80,7 +80,7 @@ pub(crate) struct Left {
     pub(crate) calls: u64,
     pub(crate) inbox: u64,
     pub(crate) receipted: u64,
-    pub(crate) tries: u32,
+    pub(crate) tries: u64,
 }
 
 pub(crate) type Opened<'a> = (Office<'a, MemoryDisk>, Pass<'a, Call>);
@@ -89,6 +89,7 @@ pub(crate) type Opened<'a> = (Office<'a, MemoryDisk>, Pass<'a, Call>);
 pub(crate) fn opened<'a>(alloc: Global, failing: &[u64]) -> Result<Opened<'a>, AllocError>
     ensures first { IfOk result (λ o. o.0.list ≡ []) }
     ensures book { IfOk result (λ o. o.1.book ≡ o.0.book) }
+    ensures stake { IfOk result (λ o. o.1.stake ≡ 2 ^ 63) }
 {
     let Ok(modes) = Modes::read(alloc, MODES) else {
         return Err(AllocError);
@@ -169,33 +170,11 @@ pub(crate) fn after<R: Wait, J: Opening>(
     requires book { pass.book ≡ J.book }
 {
     let mut link = link_of(alloc, case.answers, &case.failing)?;
-    let mut clock = ListClock::of(Vec::new(alloc));
-    let mut nonces = CountNonces::of(1);
     let shared: Mutex<SharedOffice<'_, MemoryDisk, J>> = Mutex::new(SharedOffice::new(office));
     for n in 0..case.submitted {
         submits(rt, alloc, &shared, &mut pass, n + 1);
     }
-    let end = match case.pulls {
-        None => push_round(
-            rt,
-            alloc,
-            &shared,
-            &mut pass,
-            &mut link,
-            &mut clock,
-            &mut nonces,
-        ),
-        Some(name) => pulls(
-            rt,
-            alloc,
-            &shared,
-            &mut pass,
-            name,
-            &mut link,
-            &mut clock,
-            &mut nonces,
-        ),
-    };
+    let end = played(rt, alloc, &shared, &mut pass, case, &mut link);
     let calls = pass.share();
     let tries = tries(rt, alloc, &shared, &mut pass);
     let office = shared.into_inner().into_office();
@@ -209,32 +188,47 @@ pub(crate) fn after<R: Wait, J: Opening>(
         receipted: totals.receipted,
         tries,
     };
-    drop(clock);
     drop(link);
     drop(pass);
     Ok(left)
 }
 
-fn pulls<R: Wait, J: Opening>(
+/// Makes the round of the case.
+fn played<R: Wait, J: Opening>(
     rt: &R,
     alloc: Global,
     office: &Mutex<SharedOffice<'_, MemoryDisk, J>>,
     pass: &mut Pass<'_, Call>,
-    name: &[u8],
+    case: Case<'_>,
     link: &mut MemoryLink,
-    clock: &mut ListClock,
-    nonces: &mut CountNonces,
 ) -> RoundEnd
     requires book { pass.old.book ≡ J.book }
+    ensures book { pass.new.book ≡ J.book }
 {
-    match Text::read(alloc, name) {
-        Ok(mode) => {
-            let end = pull_round(rt, alloc, office, pass, &mode, link, clock, nonces);
-            drop(mode);
-            end
-        }
-        Err(_) => RoundEnd::NoMemory,
-    }
+    let mut clock = ListClock::of(Vec::new(alloc));
+    let mut nonces = CountNonces::of(1);
+    let Some(name) = case.pulls else {
+        let end = push_round(rt, alloc, office, pass, link, &mut clock, &mut nonces);
+        drop(clock);
+        return end;
+    };
+    let Ok(mode) = Text::read(alloc, name) else {
+        drop(clock);
+        return RoundEnd::NoMemory;
+    };
+    let end = pull_round(
+        rt,
+        alloc,
+        office,
+        pass,
+        &mode,
+        link,
+        &mut clock,
+        &mut nonces,
+    );
+    drop(mode);
+    drop(clock);
+    end
 }
 
 /// How often the first submission was tried, if it is pending, and else 0.
@@ -244,7 +238,7 @@ fn tries<R: Wait, J: Opening>(
     alloc: Global,
     office: &Mutex<SharedOffice<'_, MemoryDisk, J>>,
     pass: &mut Pass<'_, Call>,
-) -> u32
+) -> u64
     requires book { pass.old.book ≡ J.book }
 {
     let Ok(id) = MessageId::read(alloc, FIRST) else {
@@ -260,7 +254,7 @@ fn tries<R: Wait, J: Opening>(
     };
     drop(request);
     match reply {
-        Reply::Pending { tries } => tries,
+        Reply::Pending { tries } => u64::from(tries),
         other => {
             drop(other);
             0

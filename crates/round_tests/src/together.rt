@@ -152,7 +152,7 @@ fn hired<'a, 'f, R: Wait>(
     is_late: bool,
 ) -> Result<Peer<'a, 'f, R>, AllocError>
     requires stake { 1 < pass.old.stake }
-    ensures pass { pass.new.stake ≡ pass.old.stake - 1 }
+    ensures pass { IfOk result (λ _. pass.new.stake ≡ pass.old.stake - 1) }
     ensures book { pass.new.book ≡ pass.old.book }
     ensures worker { IfOk result (λ w. (w.pass.book ≡ pass.old.book) × (w.starved ≡ 0)) }
 {
