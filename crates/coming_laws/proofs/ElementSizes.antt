@@ -144,7 +144,7 @@ pub optional_child_within : {X : Type 0} (reading : Element → Option X) (name 
 unfolding optional_child
 optional_child_within reading name e x is = one_or_none reading e (named name (children_of e)) x (named_size name e) is
 
--- what is read of each element has at most so many bytes: some for each byte of the element, and some more
+-- a bound on the bytes that are read of each element: a factor for each byte of the element, and a constant
 abbrev pub IsWithin : {X : Type 0} → (Element → Option X) → (X → ℕ) → ℕ → ℕ → Type 0
 IsWithin {X} reading len factor more = (e : Element) (x : X) → reading e ≡ Some x → len x ≤ factor * size e + more
 
