@@ -34,6 +34,10 @@ most_calls (job.Pull mode) = 3
 most_calls job.Tick = 1
 
 module _ {W L C N : Type 0} where
+  -- it has the same job; and what it had for a door, if it isn't at one
+  abbrev pub IsKept : Worker W L C N → Worker W L C N → Type 0
+  IsKept old new = (new.job ≡ old.job) × (door_of old.job ≡ None → new.door ≡ old.door)
+
   -- The calls that the pass has seen go on, its share rises by as many calls as the turns may make at most, and no more
   -- turns are counted as starved than were made.
   pub record Grows (turns : ℕ) (old new : Worker W L C N) : Type 0 where

@@ -1,10 +1,14 @@
 use Rattle.std.proofs.Common.{◌≡◌}
+use Rattle.workers.proofs.KeptLemmas.{worked_keeps}
 use Rattle.workers.proofs.ServedLemmas.{worked_serves}
 use Rattle.workers.proofs.SumLemmas.{worked_grows, worked_makes, worked_ticks}
 use Rattle.workers.proofs.laws.workers_make_their_turns.Goals as goal
 
 pub returns-clause-grows : goal.returns-clause-grows
 returns-clause-grows g c old new worked = worked_grows g.D.Disk g.J.Opening g.W.Door g.L.Link g.C.Clock g.N.Nonces old new worked.turns
+
+pub returns-clause-keeps : goal.returns-clause-keeps
+returns-clause-keeps g c old new worked = worked_keeps g.D.Disk g.J.Opening g.W.Door g.L.Link g.C.Clock g.N.Nonces old new worked.turns
 
 pub returns-clause-makes : goal.returns-clause-makes
 returns-clause-makes g c old new worked none room = worked_makes g.D.Disk g.J.Opening g.W.Door g.L.Link g.C.Clock g.N.Nonces old new worked.turns none room
