@@ -1,0 +1,4 @@
+pub mod CrashLemmas
+pub mod KeepingLemmas
+pub mod RelayLemmas
+pub mod StepLemmas

@@ -1,0 +1,2 @@
+-- The specs of as4_hub.
+pub mod Relaying

@@ -1,0 +1,10 @@
+pub mod AskingLemmas
+pub mod ChainLemmas
+pub mod DeliveredLemmas
+pub mod GoingOnLemmas
+pub mod LinkLemmas
+pub mod ListLemmas
+pub mod SeatLemmas
+pub mod SomeChain
+pub mod SomeLink
+pub mod StepReplies
