@@ -1,0 +1,81 @@
+-- What a handler has done with what it opened.
+use Rattle.std.proofs.Common.{◌≡◌, ◌≢◌, ◌+◌, ◌≤◌, ℕ, Bool, true, false, List, [], ◌∷◌, ◌++◌, All, refl, sym, ap, subst, ◌∙◌, append_assoc}
+use Rattle.std.proofs.lemmas.List.Elements.{All-cons, All-head, All-nil, All-tail}
+use mathlib.Core.List.{IsPrefix}
+use Rattle.as4_disk.specs.declared.disk.Disk.{Ghosts as DiskMeaning}
+use Rattle.as4_host.specs.declared.door.Door.{Ghosts as DoorMeaning}
+use Rattle.as4_host.specs.declared.host.Host.{Ghosts as HostMeaning}
+use Rattle.as4_host.specs.declared.link.Link.{Ghosts as LinkMeaning}
+use Rattle.handler.specs.Crews.{AllMadeTurns, IsHired, IsOfBook}
+use Rattle.handler.specs.Dismissal.{AllRetire, Gathering}
+use Rattle.handler.specs.Working.{BeginWithFold, IsEndOfWork, RunsOver, end_of}
+use Rattle.handler.specs.declared.ending.HandlerEnd.{HandlerEnd}
+use Rattle.handler.specs.declared.ending.HandlerEnd.TheVariants.{Served, HostFault}
+use Rattle.handler.specs.declared.running.Ran.{Ran}
+use Rattle.handler.specs.declared.running.Ran.TheVariants as ran
+use Rattle.handler.specs.declared.setup.Setup.{Setup}
+use Rattle.handler.proofs.CrewLemmas.{prefix_then}
+use Rattle.office.specs.State.{OfficeState}
+use Rattle.office.specs.declared.call.Call.{Call}
+use Rattle.office.specs.declared.call.Call.TheVariants.{Folded}
+use Rattle.pass_book.specs.States.{Book, PassState}
+use Rattle.pass_book.proofs.Beginnings.{prefix_self}
+use Rattle.workers.specs.Turns.{IsReady}
+use Rattle.workers.specs.declared.job.Worker.{Worker}
+
+-- how a handler ends that came so far
+pub end_served : (how : Ran) (starved : Bool) → end_of how starved ≡ Served → (how ≡ ran.Served) × (starved ≡ false)
+end_served ran.Served false is = (refl, refl)
+end_served ran.Served true is = absurd cc
+end_served ran.NoMemory starved is = absurd cc
+end_served ran.DiskFault starved is = absurd cc
+
+pub end_failed : (how : Ran) (starved : Bool) → end_of how starved ≡ HostFault → how ≡ ran.DiskFault
+end_failed ran.Served false is = absurd cc
+end_failed ran.Served true is = absurd cc
+end_failed ran.NoMemory starved is = absurd cc
+end_failed ran.DiskFault starved is = refl
+
+pub end_is : (how : Ran) (starved : Bool) → IsEndOfWork (end_of how starved)
+end_is ran.Served false = tt
+end_is ran.Served true = tt
+end_is ran.NoMemory starved = tt
+end_is ran.DiskFault starved = tt
+
+-- calls that go on still begin with a compaction
+pub folds_on : (calls more : List Call) → IsPrefix calls more → BeginWithFold calls → BeginWithFold more
+folds_on calls more (rest, is) (size, later, begins) = (size, later ++ rest, sym is ∙ ap (λ l. l ++ rest) begins)
+
+module _ {W L C N : Type 0} where
+  -- workers that were hired are ready, and have passes of the opening
+  pub are_ready : (book : Book) (turns : ℕ) (crew : List (Worker W L C N)) → All (IsHired book turns) crew → All (IsReady book) crew
+  are_ready book turns [] hired = All-nil (IsReady book)
+  are_ready book turns (w ∷ ws) hired =
+      let is = All-head (IsHired book turns) w ws hired in
+      All-cons (IsReady book) w ws (record { here = is.here; fresh = is.fresh }) (are_ready book turns ws (All-tail (IsHired book turns) w ws hired))
+
+  pub have_books : (book : Book) (turns : ℕ) (crew : List (Worker W L C N)) → All (IsHired book turns) crew → All (IsOfBook book) crew
+  have_books book turns [] hired = All-nil (IsOfBook book)
+  have_books book turns (w ∷ ws) hired =
+      All-cons (IsOfBook book) w ws (All-head (IsHired book turns) w ws hired).here (have_books book turns ws (All-tail (IsHired book turns) w ws hired))
+
+  module _ {In Out : Type 0} (G : DoorMeaning W In Out) where
+    keep_books : (book : Book) (crew done : List (Worker W L C N)) → AllMadeTurns G crew done → All (IsOfBook book) crew → All (IsOfBook book) done
+    keep_books book [] [] made books = books
+    keep_books book [] (d ∷ ds) made books = absurd made
+    keep_books book (c ∷ cs) [] made books = absurd made
+    keep_books book (c ∷ cs) (d ∷ ds) made books =
+        All-cons (IsOfBook book) d ds (made.0.pass.0 ∙ All-head (IsOfBook book) c cs books) (keep_books book cs ds made.1 (All-tail (IsOfBook book) c cs books))
+
+    pub done_books : {D : Type 0} (S : DiskMeaning D) (book : Book) (office later : OfficeState D) (old new : PassState Call) (crew done : List (Worker W L C N)) (how : Ran)
+        → RunsOver S G office later old new crew done how → All (IsOfBook book) crew → All (IsOfBook book) done
+    done_books S book office later old new crew done ran.Served runs books = keep_books book crew done (runs.served refl) books
+    done_books S book office later old new crew done ran.NoMemory runs books = subst (All (IsOfBook book)) (sym (runs.early (λ wrong. absurd cc))) books
+    done_books S book office later old new crew done ran.DiskFault runs books = subst (All (IsOfBook book)) (sym (runs.early (λ wrong. absurd cc))) books
+
+module _ {H Store Door Dialer Time Dice DoorIn DoorOut DialerIn DialerOut : Type 0} (M : HostMeaning H Store Door Dialer Time Dice DoorIn DoorOut DialerIn DialerOut) (G : DoorMeaning Door DoorIn DoorOut) (K : LinkMeaning Dialer DialerIn DialerOut) (setup : Setup) where
+  -- what the pass had seen it still has
+  pub retired_prefix : (done : List (Worker Door Dialer Time Dice)) (old new : Gathering H) → AllRetire M G K setup done old new → IsPrefix old.pass.list new.pass.list
+  retired_prefix [] old new same = subst (λ (g : Gathering H). IsPrefix old.pass.list g.pass.list) (sym same) (prefix_self old.pass.list)
+  retired_prefix (d ∷ ds) old new (middle, first, last) =
+      prefix_then old.pass.list middle.pass.list new.pass.list (retired_prefix ds old middle first) last.pass.one

@@ -1,0 +1,155 @@
+//! The handler.
+ghost use Rattle.std.specs.Prelude.{◌≡◌, ◌≢◌, ◌≤◌, ◌^◌, ℕ, List, [], Some, IfOk, length, vec_capacity};
+ghost use Rattle.as4_disk.specs.Image.{Image};
+ghost use Rattle.as4_flow.specs.Flow.{TakesFront, Told};
+ghost use Rattle.as4_host.specs.Counts.{HasNotRisen};
+ghost use Rattle.handler.specs.Endings.{IsCause};
+ghost use Rattle.handler.specs.Handling.{Handles, Serves, pulled};
+ghost use Rattle.handler.specs.Hosts.{Touches};
+ghost use Rattle.handler.specs.Served.{Delivers, IsQuiet};
+ghost use Rattle.handler.specs.Stores.{AreModesOf, LeavesStore, Stores};
+
+use crate::announcing::head_of;
+use crate::crew::MOST_WORKERS;
+use crate::ending::{HandlerEnd, judged};
+use crate::modes_file::{pulled_modes, read_modes};
+use crate::opening::open_all;
+use crate::setup::{Setup, other_paths};
+use crate::working::{Kit, work};
+use as4_disk::Disk;
+use as4_doors::one_request;
+use as4_flow::Sink;
+use as4_host::{Door, Host, Link};
+use as4_values::NoMemory;
+use history_laws::{calls_split, what_came_stays_from_any_start};
+use pmodes::Modes;
+use std::alloc::Global;
+use std::sync::Wait;
+use std::thread::Threads;
+use stranger_laws::{what_comes_is_taken, what_is_sent_belongs_to_its_event};
+
+/// Opens its doors and its store, serves by its workers until they have made their turns, and gives everything back.
+pub fn handle<R: Threads + Wait + Sync, H: Host, E: Sink>(
+    rt: &R,
+    alloc: Global,
+    host: &mut H,
+    setup: Setup<'_>,
+    errors: &mut E,
+) -> HandlerEnd
+where
+    H::Store: Send,
+    H::Entrance: Send,
+    <H::Entrance as Door>::In: Send,
+    <H::Entrance as Door>::Out: Send,
+    H::Dialer: Send,
+    <H::Dialer as Link>::In: Send,
+    <H::Dialer as Link>::Out: Send,
+    H::Time: Send,
+    H::Dice: Send,
+    requires peers { (1 ≤ setup.workers) × (setup.workers ≤ 11) }
+    requires turns { setup.turns ≤ 2 ^ 63 }
+    ensures touches { Touches H.Host setup.entry host.old host.new }
+    ensures store { LeavesStore H.Host (AreModesOf (H.file host.old setup.entry.modes.now)) setup.entry.journal.now host.old host.new }
+    ensures cause { IsCause (H.file host.old setup.entry.modes.now) (Stores H.Host setup.entry.journal.now host.old)
+        (H.fault_count host.old) (H.fault_count host.new) result }
+    ensures calm { result ≢ HandlerEnd.NoMemory → result ≢ HandlerEnd.HostFault → HasNotRisen (H.fault_count host.old) (H.fault_count host.new) }
+    ensures serves { result ≡ HandlerEnd.Served → Serves H.Host H.Entrance.Door H.Dialer.Link H.Store.Disk setup.entry host.old host.new }
+    // Over an observable host on which nothing failed, all that the guests sent is in the store.
+    ensures delivers { result ≡ HandlerEnd.Served → IsQuiet H.Host host.old host.new → setup.entry.turns ≤ 2 ^ 49
+        → setup.entry.peer.now ≢ setup.entry.local.now → (peers locals : List (List ℕ)) (before : Image)
+        → H.guests host.old setup.entry.peer.now ≡ Some peers → H.guests host.old setup.entry.local.now ≡ Some locals
+        → Stores H.Host setup.entry.journal.now host.old before → Delivers H.Host setup.entry host.old host.new peers locals before }
+    ensures line { (line : List ℕ) × TakesFront line (E.taken errors.old) (E.taken errors.new) }
+    ensures counted { E.faults errors.old ≤ E.faults errors.new }
+{
+    one_request();
+    calls_split();
+    what_came_stays_from_any_start();
+    what_comes_is_taken();
+    what_is_sent_belongs_to_its_event();
+    a_disk_reads_what_a_crash_may_leave::<H::Store>();
+    let before = host.faults();
+    let end = match read_modes(alloc, host, setup.modes) {
+        Ok(modes) => prepare(rt, alloc, host, setup, modes, errors),
+        Err(end) => end,
+    };
+    judged(end, before, host.faults())
+}
+
+// Takes all memory, and then opens and serves.
+fn prepare<R: Threads + Wait + Sync, H: Host, E: Sink>(
+    rt: &R,
+    alloc: Global,
+    host: &mut H,
+    setup: Setup<'_>,
+    modes: Modes,
+    errors: &mut E,
+) -> HandlerEnd
+where
+    H::Store: Send,
+    H::Entrance: Send,
+    <H::Entrance as Door>::In: Send,
+    <H::Entrance as Door>::Out: Send,
+    H::Dialer: Send,
+    <H::Dialer as Link>::In: Send,
+    <H::Dialer as Link>::Out: Send,
+    H::Time: Send,
+    H::Dice: Send,
+    requires peers { (1 ≤ setup.workers) × (setup.workers ≤ 11) }
+    ensures ends { Handles H.Host H.Entrance.Door H.Dialer.Link H.Store.Disk setup.entry modes host.old host.new result }
+    ensures line { (line : List ℕ) × TakesFront line (E.taken errors.old) (E.taken errors.new) }
+    ensures counted { E.faults errors.old ≤ E.faults errors.new }
+{
+    match (
+        kit_of(alloc, &modes, setup),
+        other_paths(alloc, setup.journal),
+    ) {
+        (Ok(kit), Ok(paths)) => {
+            let journal = paths.paths(setup.journal);
+            let end = match open_all(alloc, host, setup, journal, modes) {
+                Ok(opened) => work(rt, alloc, host, setup, journal, kit, opened, errors),
+                Err(end) => {
+                    drop(kit);
+                    end
+                }
+            };
+            drop(paths);
+            end
+        }
+        (kit, paths) => {
+            drop(kit);
+            drop(paths);
+            drop(modes);
+            HandlerEnd::NoMemory
+        }
+    }
+}
+
+// What a handler takes memory for before it opens anything.
+fn kit_of<'a, W: Drop, L: Drop, C: Drop, N: Drop>(
+    alloc: Global,
+    modes: &Modes,
+    setup: Setup<'_>,
+) -> Result<Kit<'a, W, L, C, N>, NoMemory>
+    ensures pulls { IfOk result (λ kit. kit.pulls.items ≡ pulled modes.now) }
+    ensures crew { IfOk result (λ kit. (kit.crew.items ≡ []) × (16 ≤ vec_capacity kit.crew)) }
+{
+    match (
+        pulled_modes(alloc, modes),
+        head_of(alloc, setup.peer, setup.local, setup.journal),
+        Vec::with_capacity(alloc, MOST_WORKERS),
+    ) {
+        (Ok(pulls), Ok(head), Ok(crew)) => Ok(Kit { pulls, head, crew }),
+        (pulls, head, crew) => {
+            drop(pulls);
+            drop(head);
+            drop(crew);
+            Err(NoMemory)
+        }
+    }
+}
+
+// A disk as it reads is one of those that a crash may leave.
+fn a_disk_reads_what_a_crash_may_leave<D: Disk>()
+    ensures { (disk : D) → Told (D.seen disk) (D.may_leave disk) }
+{}

@@ -1,0 +1,17 @@
+//! The message handler: it opens its store, serves its guests by workers side by side, and gives back what it opened.
+#![tactic(auto)]
+
+mod announcing;
+mod crew;
+mod dismissing;
+mod ending;
+mod handling;
+mod modes_file;
+mod opening;
+mod running;
+mod setup;
+mod working;
+
+pub use ending::HandlerEnd;
+pub use handling::handle;
+pub use setup::Setup;
