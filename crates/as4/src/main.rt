@@ -1,10 +1,11 @@
-//! The program `as4`: passes the words after its name and the system's streams to `as4_tool`. `as4 --help` shows the
+//! The program `as4`: passes the words after its name, the system's streams and the machine to `as4_tool`. `as4 --help` shows the
 //! words.
 #![tactic(auto)]
 
 use as4_flow::{ReaderSource, Sink, WriterSink};
-use as4_tool::{Status, run};
+use as4_tool::{Status, run_alone};
 use as4_values::{Octets, Seq};
+use host_adapters::SystemHost;
 use std::env;
 use std::env::Env;
 use std::io::ErrorKind;
@@ -20,7 +21,15 @@ fn main(rt: HostRuntime) -> ExitCode {
         return refused(&mut errors, Status::NoMemory);
     };
     let mut output = WriterSink::of(rt.stdout());
-    ExitCode::from(run(rt.alloc(), &words, &mut input, &mut output, &mut errors))
+    let mut host = SystemHost::of(rt.alloc(), rt);
+    ExitCode::from(run_alone(
+        rt.alloc(),
+        &words,
+        &mut input,
+        &mut output,
+        &mut errors,
+        &mut host,
+    ))
 }
 
 // The words after the program's name. `BadWords` if one of them isn't UTF-8.

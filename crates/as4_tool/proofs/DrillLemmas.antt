@@ -1,11 +1,16 @@
 -- The status at a drill's end, and its cause.
-use Rattle.std.proofs.Common.{◌≡◌, ◌≢◌, ℕ, refl, arith}
+use Rattle.std.proofs.Common.{◌≡◌, ◌≢◌, ◌≤◌, ℕ, List, Option, None, refl, arith}
 use Rattle.as4_flow.specs.Flow.{Streams}
 use Rattle.drill.specs.Ends.{CountsAt}
 use Rattle.drill.specs.Generated.{GeneratedAt}
 use Rattle.drill.specs.declared.script.DrillEnd.{DrillEnd}
 use Rattle.drill.specs.declared.script.DrillEnd.TheVariants as ends
+use Rattle.drill.specs.Ends.{Ends as DrillEnds}
+use Rattle.drill.specs.Generated.{GeneratedEnds}
+use Rattle.as4_flow.specs.Flow.{between, flow}
+use Rattle.as4_tool.specs.Command.{drill, generate}
 use Rattle.as4_tool.specs.Ends.{TellsFaults}
+use Rattle.as4_tool.specs.Runs.{RunsOver}
 use Rattle.as4_tool.specs.Status.{code_of, status_of}
 use Rattle.as4_tool.specs.declared.status.Status.TheVariants.{Done, ReadFault, WriteFault, TooLong, NotUser, BadWords}
 
@@ -58,3 +63,41 @@ generated_silent seed count ends.TooMany streams drilled done fault = absurd dri
 generated_silent seed count ends.ReadFault streams drilled done fault = absurd drilled
 generated_silent seed count ends.WriteFault streams drilled done fault = absurd (fault refl)
 generated_silent seed count ends.NoMemory streams drilled done fault = drilled
+
+-- a run of a script
+pub played : (end : DrillEnd) (streams : Streams) → DrillEnds end streams
+    → (streams.read_faults ≤ streams.later_read_faults) × (streams.write_faults ≤ streams.later_write_faults)
+    → RunsOver drill (status_of end) streams
+played end streams drilled counted = record {
+  ends = (end, refl, drilled);
+  read_faults = reads end streams drilled.5;
+  write_faults = writes end streams drilled.5;
+  streamed = record {
+    too_long = λ is. absurd ((no_other end).0 is);
+    not_user = λ is. absurd ((no_other end).1 is);
+    reads = λ never. absurd never;
+    silent = λ never done refused fault. absurd (never tt);
+    right = (no_other end).2;
+    counted = counted;
+  };
+}
+
+-- a run of a generated script, whatever is left of the input
+pub generated : (seed count : ℕ) (end : DrillEnd) (left : Option (List ℕ)) (reads : ℕ) (taken later : Option (List ℕ)) (faults later_faults : ℕ)
+    → GeneratedEnds seed count end (between (flow None taken 0 faults) (flow None later 0 later_faults)) → faults ≤ later_faults
+    → RunsOver (generate seed count) (status_of end) (between (flow left taken reads faults) (flow left later reads later_faults))
+generated seed count end left reads taken later faults later_faults drilled counted =
+    let streams = between (flow None taken 0 faults) (flow None later 0 later_faults) in
+    let others = no_fault_of_input seed count end streams drilled.0 in record {
+      ends = (end, refl, drilled);
+      read_faults = (λ is. absurd (others.0 is), λ _. refl);
+      write_faults = writes end streams drilled.1;
+      streamed = record {
+        too_long = λ is. absurd (others.1 is);
+        not_user = λ is. absurd (others.2 is);
+        reads = λ never. absurd never;
+        silent = λ never done refused fault. generated_silent seed count end streams drilled.0 done fault;
+        right = others.3;
+        counted = (omega arith, counted);
+      };
+    }

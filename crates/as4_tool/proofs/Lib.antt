@@ -1,4 +1,6 @@
 pub mod AnswerLemmas
-pub mod CommandLemmas
+pub mod ClapLemmas
 pub mod DrillLemmas
+pub mod SubmitLemmas
+pub mod TaskLemmas
 pub mod TellLemmas

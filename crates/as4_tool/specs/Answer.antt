@@ -1,5 +1,5 @@
 -- The answer to a message file, and its check line.
-use Rattle.std.specs.Prelude.{◌≡◌, ℕ, List, Bool, Result, Ok, Err}
+use Rattle.std.specs.Prelude.{ℕ, List, Bool, Result, Ok, Err}
 use Rattle.as4_values.specs.declared.signal.Signal.{Signal}
 use Rattle.as4_values.specs.declared.message.Message.TheVariants as message
 use Rattle.message_model.specs.Wire.{IsFile, media_and_body}

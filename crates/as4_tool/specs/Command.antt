@@ -1,28 +1,133 @@
--- The words of the program: its own choice.
-use Rattle.std.specs.Prelude.{◌≡◌, ℕ, ◌^◌, ◌<◌, ◌≤◌, ◌⊎◌, List, [], ◌∷◌, codes, decimal}
+-- The commands of the program, and the words that spell them: its own choice.
+use Rattle.std.specs.Prelude.{◌≡◌, ℕ, ◌^◌, ◌<◌, ◌≤◌, ◌⊎◌, List, [], ◌∷◌, All, IsTrue, Option, None, Some, codes, decimal, length}
+use Rattle.std.specs.Str.{IsUtf8}
+use Rattle.clap.specs.Walk.{Row, first_of, all_of}
+use Rattle.clap.specs.Faults.{fault_of}
+use Rattle.clap.specs.declared.error.kind.ErrorKind.{ErrorKind}
+use Rattle.clap.specs.declared.error.kind.ErrorKind.TheVariants.{DisplayHelp, DisplayVersion}
+use Rattle.as4_values.specs.Address.{is_address}
+use Rattle.as4_values.specs.Payload.{is_media_text}
 use Rattle.as4_values.specs.declared.moment.TheConstants.{MAX_MOMENT}
+use Rattle.as4_http.specs.Written.{target}
+use Rattle.as4_tool.specs.Words.{Names, as4}
 use Rattle.as4_tool.specs.declared.command.Command.{Command}
-use Rattle.as4_tool.specs.declared.command.Command.TheVariants.{Help, Version, Answer, Check, Drill, Generate}
+use Rattle.as4_tool.specs.declared.command.Command.TheVariants as command
 
--- these words, each a list of bytes, spell the command
-abbrev pub Spells : List (List ℕ) → Command → Type 0
-Spells words Help = words ≡ codes "--help" ∷ []
-Spells words Version = words ≡ codes "--version" ∷ []
-Spells words (Answer stamp nonce) =
-    (words ≡ codes "answer" ∷ decimal stamp ∷ decimal nonce ∷ []) × (stamp ≤ MAX_MOMENT) × (nonce < 2 ^ 128)
-Spells words Check = words ≡ codes "check" ∷ []
-Spells words Drill = words ≡ codes "drill" ∷ []
-Spells words (Generate seed count) =
-    (words ≡ codes "drill" ∷ codes "--generate" ∷ decimal seed ∷ decimal count ∷ []) × (seed < 2 ^ 64) × (count ≤ 1000)
+-- what the program is asked to do
+pub data Task : Type 0 where
+  help : Task
+  version : Task
+  answer : ℕ → ℕ → Task
+  check : Task
+  drill : Task
+  generate : ℕ → ℕ → Task
+  handler : List ℕ → List ℕ → List ℕ → List ℕ → ℕ → ℕ → Task
+  submit : List ℕ → List ℕ → List ℕ → List ℕ → Task
+  collect : List ℕ → ℕ → ℕ → List ℕ → Task
 
--- these words spell some command
-abbrev pub IsCommand : List (List ℕ) → Type 0
-IsCommand words = (command : Command) × Spells words command
+-- a command, whose texts are borrowed, as a task
+abbrev pub task_of : Command → Task
+task_of command.Help = help
+task_of command.Version = version
+task_of (command.Answer stamp nonce) = answer stamp nonce
+task_of command.Check = check
+task_of command.Drill = drill
+task_of (command.Generate seed count) = generate seed count
+task_of (command.Handler s) = handler s.modes.now s.journal.now s.peer.now s.local.now s.workers s.turns
+task_of (command.Submit s) = submit s.local.now s.mode.now s.conversation.now s.media.now
+task_of (command.Collect c) = collect c.local.now c.first c.count c.folder.now
 
--- these words request an answer to a message file, or its check line
-abbrev pub AsksOfFile : List (List ℕ) → Type 0
-AsksOfFile words = ((stamp : ℕ) × (nonce : ℕ) × Spells words (Answer stamp nonce)) ⊎ Spells words Check
+-- an address of a service: its target is `/`
+abbrev pub IsService : List ℕ → Type 0
+IsService address = IsTrue (is_address address) × (target address ≡ codes "/")
 
--- these words request a drill of a script
-abbrev pub AsksDrill : List (List ℕ) → Type 0
-AsksDrill words = Spells words Drill
+-- a number of at most 2^63
+abbrev pub IsCount : ℕ → Type 0
+IsCount n = n ≤ 2 ^ 63
+
+-- the bytes of a mode's name
+abbrev pub IsMode : List ℕ → Type 0
+IsMode mode = (1 ≤ length mode) × (length mode ≤ 255)
+
+-- the number of workers, 4 if none is given
+abbrev pub IsWorkers : Option (List ℕ) → ℕ → Type 0
+IsWorkers None n = n ≡ 4
+IsWorkers (Some text) n = (text ≡ decimal n) × (1 ≤ n) × (n ≤ 11)
+
+-- the number of turns, 2^63 if none is given
+abbrev pub IsTurns : Option (List ℕ) → ℕ → Type 0
+IsTurns None n = n ≡ 2 ^ 63
+IsTurns (Some text) n = (text ≡ decimal n) × IsCount n
+
+-- the value of this name is this text
+abbrev pub Has : List Row → List ℕ → List ℕ → Type 0
+Has rows name text = first_of name rows ≡ Some text
+
+-- these values are those of a task
+abbrev pub Gives : List Row → Task → Type 0
+Gives rows help = ⊥
+Gives rows version = ⊥
+Gives rows (answer stamp nonce) =
+    Has rows (codes "STAMP") (decimal stamp) × Has rows (codes "NONCE") (decimal nonce) × (stamp ≤ MAX_MOMENT) × (nonce < 2 ^ 128)
+Gives rows check = Unit {0}
+Gives rows drill = all_of (codes "generate") rows ≡ None
+Gives rows (generate seed count) =
+    (all_of (codes "generate") rows ≡ Some (decimal seed ∷ decimal count ∷ [])) × (seed < 2 ^ 64) × (count ≤ 1000)
+Gives rows (handler modes journal peer local workers turns) =
+    (Has rows (codes "MODES") modes × Has rows (codes "JOURNAL") journal)
+    × (Has rows (codes "PEER") peer × IsService peer)
+    × (Has rows (codes "LOCAL") local × IsService local)
+    × IsWorkers (first_of (codes "workers") rows) workers
+    × IsTurns (first_of (codes "turns") rows) turns
+Gives rows (submit local mode conversation media) =
+    (Has rows (codes "LOCAL") local × IsService local)
+    × (Has rows (codes "MODE") mode × IsMode mode)
+    × (Has rows (codes "CONVERSATION") conversation × (length conversation ≤ 255))
+    × (Has rows (codes "MEDIA") media × IsTrue (is_media_text media))
+Gives rows (collect local first count folder) =
+    (Has rows (codes "LOCAL") local × IsService local)
+    × (Has rows (codes "FIRST") (decimal first) × IsCount first)
+    × (Has rows (codes "COUNT") (decimal count) × IsCount count)
+    × Has rows (codes "FOLDER") folder
+
+-- the name of the command that does a task
+abbrev pub name_of : Task → List ℕ
+name_of help = codes "--help"
+name_of version = codes "--version"
+name_of (answer stamp nonce) = codes "answer"
+name_of check = codes "check"
+name_of drill = codes "drill"
+name_of (generate seed count) = codes "drill"
+name_of (handler modes journal peer local workers turns) = codes "handler"
+name_of (submit local mode conversation media) = codes "submit"
+name_of (collect local first count folder) = codes "collect"
+
+-- an error of this kind asks for a task
+abbrev pub Asks : ErrorKind → Task → Type 0
+Asks kind task = ((task ≡ help) × (kind ≡ DisplayHelp)) ⊎ ((task ≡ version) × (kind ≡ DisplayVersion))
+
+-- these words, each a list of bytes, ask for a task
+abbrev pub Spells : List (List ℕ) → Task → Type 0
+Spells words help = fault_of as4 words ≡ DisplayHelp ∷ []
+Spells words version = fault_of as4 words ≡ DisplayVersion ∷ []
+Spells words task = (rows : List Row) × Names words (name_of task) rows × Gives rows task
+
+-- the bounds of a task's numbers
+abbrev pub IsWithin : Task → Type 0
+IsWithin (answer stamp nonce) = stamp ≤ MAX_MOMENT
+IsWithin (generate seed count) = count ≤ 1000
+IsWithin (collect local first count folder) = IsCount first × IsCount count
+IsWithin other = Unit {0}
+
+-- a run that takes one thread alone does each task but that of a handler
+abbrev pub IsAlone : Task → Type 0
+IsAlone (handler modes journal peer local workers turns) = ⊥
+IsAlone other = Unit {0}
+
+-- these words are texts and spell a task that is done alone
+abbrev pub SpellAlone : List (List ℕ) → Type 0
+SpellAlone words = All IsUtf8 words × ((task : Task) × Spells words task × IsAlone task)
+
+-- the one word that asks for the help or the version
+abbrev pub AsksForText : List (List ℕ) → Type 0
+AsksForText words = (words ≡ codes "--help" ∷ []) ⊎ (words ≡ codes "--version" ∷ [])

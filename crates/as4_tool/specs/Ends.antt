@@ -7,9 +7,8 @@ use Rattle.drill.specs.declared.script.DrillEnd.{DrillEnd}
 use Rattle.as4_tool.specs.Answer.{IsAnswer, IsFileLine}
 use Rattle.as4_tool.specs.Status.{IsOneOf, code_of, status_of}
 use Rattle.as4_tool.specs.declared.texts.TheConstants.{HELP, VERSION}
-use Rattle.as4_tool.specs.declared.running.TheConstants.{LIMIT}
-use Rattle.as4_tool.specs.declared.command.Command.{Command}
-use Rattle.as4_tool.specs.declared.command.Command.TheVariants.{Help, Version, Answer, Check, Drill, Generate}
+use Rattle.as4_tool.specs.declared.limit.TheConstants.{LIMIT}
+use Rattle.as4_tool.specs.Command.{Task, answer, check, drill, generate, help, version}
 use Rattle.as4_tool.specs.declared.status.Status.{Status}
 use Rattle.as4_tool.specs.declared.status.Status.TheVariants.{Done, Refused, ReadFault, WriteFault, NoMemory, NotUser, TooLong}
 
@@ -30,8 +29,8 @@ TellsFaults fault code faults later =
 -- the input is within the limit and was read to its end, and its answer was written
 abbrev pub Answers : ℕ → ℕ → Status → Streams → Type 0
 Answers stamp nonce status streams =
-    (answer : List ℕ) × Told streams.left (λ file. (length file ≤ LIMIT) × IsAnswer stamp nonce file answer)
-    × Told streams.rest (λ rest. rest ≡ []) × Writes answer status streams.taken streams.later
+    (reply : List ℕ) × Told streams.left (λ file. (length file ≤ LIMIT) × IsAnswer stamp nonce file reply)
+    × Told streams.rest (λ rest. rest ≡ []) × Writes reply status streams.taken streams.later
 
 -- the input is within the limit and was read to its end, and its check line was written; the status says whether it is
 -- refused
@@ -44,14 +43,15 @@ Checks status streams =
 abbrev pub no_input : Streams → Streams
 no_input streams = record streams { left = None; rest = None; read_faults = 0; later_read_faults = 0 }
 
--- the possible ends of each command, given the input and the output before and after
-abbrev pub Ends : Command → Status → Streams → Type 0
-Ends Help status streams = Writes HELP.now status streams.taken streams.later
-Ends Version status streams = Writes VERSION.now status streams.taken streams.later
-Ends (Answer stamp nonce) status streams =
+-- the possible ends of each task without the host, given the input and the output before and after
+abbrev pub Ends : Task → Status → Streams → Type 0
+Ends help status streams = Writes HELP.now status streams.taken streams.later
+Ends version status streams = Writes VERSION.now status streams.taken streams.later
+Ends (answer stamp nonce) status streams =
     Answers stamp nonce status streams
     ⊎ IsOneOf (ReadFault ∷ NoMemory ∷ NotUser ∷ TooLong ∷ []) status
-Ends Check status streams = Checks status streams ⊎ IsOneOf (ReadFault ∷ NoMemory ∷ TooLong ∷ []) status
-Ends Drill status streams = (end : DrillEnd) × (status ≡ status_of end) × DrillEnds end streams
-Ends (Generate seed count) status streams =
+Ends check status streams = Checks status streams ⊎ IsOneOf (ReadFault ∷ NoMemory ∷ TooLong ∷ []) status
+Ends drill status streams = (end : DrillEnd) × (status ≡ status_of end) × DrillEnds end streams
+Ends (generate seed count) status streams =
     (end : DrillEnd) × (status ≡ status_of end) × GeneratedEnds seed count end (no_input streams)
+Ends other status streams = ⊥

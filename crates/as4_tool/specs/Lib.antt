@@ -1,5 +1,8 @@
 -- The program's words, answers, exit statuses and ends.
-pub mod Answer
+pub mod Words
 pub mod Command
+pub mod Adds
+pub mod Answer
 pub mod Status
 pub mod Ends
+pub mod Runs

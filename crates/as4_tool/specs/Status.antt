@@ -4,8 +4,14 @@ use Rattle.std.specs.Fmt.{decimal}
 use Rattle.as4_flow.specs.Flow.{Rose, appended, TakesFront}
 use Rattle.drill.specs.declared.script.DrillEnd.{DrillEnd}
 use Rattle.drill.specs.declared.script.DrillEnd.TheVariants as ends
+use Rattle.clients.specs.declared.ending.CollectEnd.{CollectEnd}
+use Rattle.clients.specs.declared.ending.CollectEnd.TheVariants as collect
+use Rattle.clients.specs.declared.ending.SubmitEnd.{SubmitEnd}
+use Rattle.clients.specs.declared.ending.SubmitEnd.TheVariants as submit
+use Rattle.as4_tool.specs.declared.command.WordsRefusal.{WordsRefusal}
+use Rattle.as4_tool.specs.declared.command.WordsRefusal.TheVariants as refusal
 use Rattle.as4_tool.specs.declared.status.Status.{Status}
-use Rattle.as4_tool.specs.declared.status.Status.TheVariants.{Done, Refused, WrongLine, ReadFault, WriteFault, NoMemory, TooManyEvents, NotUser, TooLong, BadWords}
+use Rattle.as4_tool.specs.declared.status.Status.TheVariants.{Done, Refused, WrongLine, ReadFault, WriteFault, NoMemory, TooManyEvents, NotUser, ModesRefused, HostFault, NotJournal, TooLong, BadResponse, BadWords}
 
 -- the exit status of an end
 abbrev pub code_of : Status → ℕ
@@ -17,7 +23,11 @@ code_of WriteFault = 4
 code_of NoMemory = 5
 code_of TooManyEvents = 6
 code_of NotUser = 7
+code_of ModesRefused = 8
+code_of HostFault = 9
+code_of (NotJournal at) = 10
 code_of TooLong = 11
+code_of BadResponse = 12
 code_of BadWords = 64
 
 -- it is one of these ends
@@ -35,7 +45,11 @@ line_of WriteFault = codes "write fault\n"
 line_of NoMemory = codes "no memory\n"
 line_of TooManyEvents = codes "more than 100000 events\n"
 line_of NotUser = codes "not a user message\n"
+line_of ModesRefused = codes "modes refused\n"
+line_of HostFault = codes "host fault\n"
+line_of (NotJournal at) = codes "not a journal at " ++ decimal at ++ codes "\n"
 line_of TooLong = codes "input too long\n"
+line_of BadResponse = codes "bad response\n"
 line_of BadWords = codes "bad words\n"
 
 -- the whole text was sent, or a prefix of it before the errors failed
@@ -51,3 +65,31 @@ status_of ends.TooMany = TooManyEvents
 status_of ends.ReadFault = ReadFault
 status_of ends.WriteFault = WriteFault
 status_of ends.NoMemory = NoMemory
+
+-- the status for a submission's end
+abbrev pub status_of_submission : SubmitEnd → Status
+status_of_submission (submit.Accepted text) = Done
+status_of_submission (submit.Refused status text) = Refused
+status_of_submission submit.BadResponse = BadResponse
+status_of_submission submit.LinkFault = HostFault
+status_of_submission submit.WriteFault = WriteFault
+status_of_submission submit.ReadFault = ReadFault
+status_of_submission submit.NoMemory = NoMemory
+
+-- the status for a collection's end
+abbrev pub status_of_collection : CollectEnd → Status
+status_of_collection collect.Done = Done
+status_of_collection collect.NoEntry = Done
+status_of_collection (collect.Refused status) = Refused
+status_of_collection collect.BadResponse = BadResponse
+status_of_collection collect.LinkFault = HostFault
+status_of_collection collect.FileFault = HostFault
+status_of_collection collect.WriteFault = WriteFault
+status_of_collection collect.OutputFault = WriteFault
+status_of_collection collect.ReadFault = ReadFault
+status_of_collection collect.NoMemory = NoMemory
+
+-- the status for words that no command was read from
+abbrev pub status_of_words : WordsRefusal → Status
+status_of_words refusal.BadWords = BadWords
+status_of_words refusal.NoMemory = NoMemory

@@ -1,15 +1,30 @@
-//! The program `as4` for any source and sinks: its words, its statuses and its run.
+//! The program `as4` for any source, sinks and host: its words, its statuses and its run.
 #![tactic(auto)]
 
+mod answering;
 mod answers;
+mod checking;
+mod collecting;
 mod command;
+mod drilling;
 mod laws;
+mod limit;
+mod numbers;
+mod parser;
 mod running;
+mod services;
 mod status;
+mod submitting;
 mod texts;
+mod values;
+mod writing;
 
-pub use command::{Command, MAX_COUNT, command_of};
+pub use command::{
+    Collection, Command, MAX_COUNT, Service, Submission, WordsRefusal, command_of, one_spelling,
+    texts_of,
+};
 pub use laws::{a_signal_has_no_answer, one_answer, one_line};
-pub use running::{LIMIT, run};
+pub use limit::LIMIT;
+pub use running::run_alone;
 pub use status::Status;
 pub use texts::{HELP, VERSION};

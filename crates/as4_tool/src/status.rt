@@ -1,16 +1,18 @@
 //! The ends of a run of the program.
 //!
-//!      0  success                  6  more than 100000 events
-//!      1  refused, see the output  7  not a user message
-//!      2  line N                  11  input too long
-//!      3  read fault              64  bad words
-//!      4  write fault
-//!      5  no memory
+//!      0  success                  7  not a user message
+//!      1  refused, see the output  8  modes refused
+//!      2  line N                   9  host fault
+//!      3  read fault              10  not a journal at N
+//!      4  write fault             11  input too long
+//!      5  no memory               12  bad response
+//!      6  more than 100000 events 64  bad words
 ghost use Rattle.std.specs.Prelude.{◌≡◌, ◌≤◌, ◌++◌, codes};
 ghost use Rattle.std.specs.Fmt.{decimal};
 ghost use Rattle.as4_tool.specs.Status.{Tells};
 
 use as4_flow::{SendFailed, Sink, send_all};
+use clients::{CollectEnd, SubmitEnd};
 use drill::DrillEnd;
 use itoa::Buffer;
 
@@ -18,29 +20,39 @@ use itoa::Buffer;
 #[derive(Clone, Copy, Debug, PartialEq, Eq)]
 pub enum Status {
     Done,
-    /// The checked message is refused. The output names the error.
+    /// The checked message is refused, and the output names the error. Or a handler has refused a request.
     Refused,
     /// This line of the script (the first is 1) isn't a valid line, or isn't allowed at its place. The replies to the
     /// lines before it were written.
     WrongLine { number: u64 },
-    /// The input failed. Nothing was written, except the replies to a script's lines before the fault.
+    /// The input failed, or a response couldn't be read. Nothing was written, except the replies to a script's lines
+    /// before the fault, and the lines of what was collected.
     ReadFault,
-    /// The output failed. Only a prefix of the text was written.
+    /// The output failed, and only a prefix of the text was written. Or a request wasn't sent whole.
     WriteFault,
-    /// Out of memory. Nothing was written, except the replies to a script's earlier lines.
+    /// Out of memory. Nothing was written, except the replies to a script's earlier lines, and the lines of what was
+    /// collected.
     NoMemory,
     /// The next line would make event 100,001. Nothing was written, except the replies to a script's earlier lines.
     TooManyEvents,
     /// The message to be answered is a signal or a pair. Nothing was written.
     NotUser,
+    /// The file of the modes isn't one, or is missing or too long.
+    ModesRefused,
+    /// The machine failed: a file, a connection or the journal.
+    HostFault,
+    /// The files of the journal aren't one from this byte on.
+    NotJournal { at: u64 },
     /// The input is longer than the limit. Nothing was written.
     TooLong,
+    /// What came ended inside a response, is none, or is over a limit.
+    BadResponse,
     /// The words name no command. Nothing was read or written.
     BadWords,
 }
 
 impl Status {
-    ghost use Rattle.as4_tool.specs.Status.{code_of, line_of, status_of};
+    ghost use Rattle.as4_tool.specs.Status.{code_of, line_of, status_of, status_of_submission, status_of_collection};
 
     /// The status of a drill's end.
     pub fn of_drill(end: DrillEnd) -> Status
@@ -53,6 +65,36 @@ impl Status {
             DrillEnd::ReadFault => Status::ReadFault,
             DrillEnd::WriteFault => Status::WriteFault,
             DrillEnd::NoMemory => Status::NoMemory,
+        }
+    }
+
+    /// The status of a submission's end, except for the text of the response.
+    pub fn of_submission(end: &SubmitEnd) -> Status
+        ensures { result ≡ status_of_submission end.now }
+    {
+        match end {
+            SubmitEnd::Accepted(_) => Status::Done,
+            SubmitEnd::Refused { .. } => Status::Refused,
+            SubmitEnd::BadResponse => Status::BadResponse,
+            SubmitEnd::LinkFault => Status::HostFault,
+            SubmitEnd::WriteFault => Status::WriteFault,
+            SubmitEnd::ReadFault => Status::ReadFault,
+            SubmitEnd::NoMemory => Status::NoMemory,
+        }
+    }
+
+    /// The status of a collection's end.
+    pub fn of_collection(end: CollectEnd) -> Status
+        ensures { result ≡ status_of_collection end }
+    {
+        match end {
+            CollectEnd::Done | CollectEnd::NoEntry => Status::Done,
+            CollectEnd::Refused { .. } => Status::Refused,
+            CollectEnd::BadResponse => Status::BadResponse,
+            CollectEnd::LinkFault | CollectEnd::FileFault => Status::HostFault,
+            CollectEnd::WriteFault | CollectEnd::OutputFault => Status::WriteFault,
+            CollectEnd::ReadFault => Status::ReadFault,
+            CollectEnd::NoMemory => Status::NoMemory,
         }
     }
 
@@ -69,7 +111,11 @@ impl Status {
             Status::NoMemory => 5,
             Status::TooManyEvents => 6,
             Status::NotUser => 7,
+            Status::ModesRefused => 8,
+            Status::HostFault => 9,
+            Status::NotJournal { .. } => 10,
             Status::TooLong => 11,
+            Status::BadResponse => 12,
             Status::BadWords => 64,
         }
     }
@@ -82,35 +128,39 @@ impl Status {
     {
         match self {
             Status::Done | Status::Refused => tell_text(errors, b""),
-            Status::WrongLine { number } => tell_line(errors, number),
+            Status::WrongLine { number } => tell_number(errors, b"line ", number),
             Status::ReadFault => tell_text(errors, b"read fault\n"),
             Status::WriteFault => tell_text(errors, b"write fault\n"),
             Status::NoMemory => tell_text(errors, b"no memory\n"),
             Status::TooManyEvents => tell_text(errors, b"more than 100000 events\n"),
             Status::NotUser => tell_text(errors, b"not a user message\n"),
+            Status::ModesRefused => tell_text(errors, b"modes refused\n"),
+            Status::HostFault => tell_text(errors, b"host fault\n"),
+            Status::NotJournal { at } => tell_number(errors, b"not a journal at ", at),
             Status::TooLong => tell_text(errors, b"input too long\n"),
+            Status::BadResponse => tell_text(errors, b"bad response\n"),
             Status::BadWords => tell_text(errors, b"bad words\n"),
         }
     }
 }
 
-// Reports the number of a line. If the errors fail, there is nowhere left to report that.
-fn tell_line<E: Sink>(errors: &mut E, number: u64)
-    ensures told { Tells (codes "line " ++ decimal number ++ codes "\n") (E.taken errors.old) (E.taken errors.new)
+// Reports a line that ends in a number. If the errors fail, there is nowhere left to report that.
+fn tell_number<E: Sink>(errors: &mut E, words: &[u8], number: u64)
+    ensures told { Tells (words.now ++ (decimal number ++ codes "\n")) (E.taken errors.old) (E.taken errors.new)
         (E.faults errors.old) (E.faults errors.new) }
     ensures counted { E.faults errors.old ≤ E.faults errors.new }
 {
-    let _ = send_line(errors, number);
+    let _ = send_line(errors, words, number);
 }
 
 // Sends the parts of the line.
-fn send_line<E: Sink>(errors: &mut E, number: u64) -> Result<(), SendFailed>
-    ensures told { Tells (codes "line " ++ decimal number ++ codes "\n") (E.taken errors.old) (E.taken errors.new)
+fn send_line<E: Sink>(errors: &mut E, words: &[u8], number: u64) -> Result<(), SendFailed>
+    ensures told { Tells (words.now ++ (decimal number ++ codes "\n")) (E.taken errors.old) (E.taken errors.new)
         (E.faults errors.old) (E.faults errors.new) }
     ensures counted { E.faults errors.old ≤ E.faults errors.new }
 {
     let mut buffer = Buffer::new();
-    send_all(errors, b"line ")?;
+    send_all(errors, words)?;
     send_all(errors, buffer.format(number).as_bytes())?;
     send_all(errors, b"\n")
 }

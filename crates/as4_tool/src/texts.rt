@@ -2,36 +2,56 @@
 
 /// The output of `--help`.
 pub const HELP: &[u8] =
-    b"as4: answers and checks AS4 messages, and runs drills of two ends that exchange them
+    b"as4: an AS4 message handler, programs to submit and collect documents, and tools to check messages
 
 usage:
-  as4 answer STAMP NONCE             reads a message file from the input, writes the answer to the output
-  as4 check                          reads a message file from the input, writes a line that tells what it is
-  as4 drill                          runs the script in the input, writes to the output what its lines lead to
-  as4 drill --generate SEED COUNT    runs a generated script, writes the numbers of both ends to the output
-  as4 --help                         writes this text: the words, the lines of a script and the exit statuses
-  as4 --version                      writes the version
+  as4 handler MODES JOURNAL PEER LOCAL      serves other handlers at PEER and your own programs at LOCAL
+      [--workers N] [--turns T]
+  as4 submit LOCAL MODE CONVERSATION MEDIA  submits the input to the handler at LOCAL, writes its response
+  as4 collect LOCAL FIRST COUNT FOLDER      writes the documents that the handler at LOCAL received to files
+  as4 answer STAMP NONCE                    reads a message file from the input, writes the answer to it
+  as4 check                                 reads a message file from the input, writes a line that says what it is
+  as4 drill                                 runs the script in the input, writes what each line leads to
+  as4 drill --generate SEED COUNT           runs a generated script, writes the numbers of both endpoints
+  as4 --help, as4 COMMAND --help            writes this text
+  as4 --version                             writes the version
 
-STAMP  the moment of the answer: milliseconds since 1970-01-01T00:00:00Z, 0 to 253402300799999
-NONCE  makes the answer's identifiers unlike all others: 0 to 340282366920938463463374607431768211455
-SEED   what the sizes of the generated messages follow from: 0 to 18446744073709551615; 0 makes all of 40960 bytes
-COUNT  how many messages the generated script submits: 0 to 1000
-All are decimal, without sign and without leading zeros.
+MODES         the file of the modes, at most 1048576 bytes
+JOURNAL       the path of the journal; the names of its three files begin with it
+PEER, LOCAL   addresses of the form http://HOST:PORT/, at most 255 bytes; the port is 80 if it is missing
+N             the number of workers at PEER, 1 to 11; 4 if it is missing
+T             the number of turns of each worker, 0 to 9223372036854775808, which it is if it is missing
+MODE          the mode to submit by, 1 to 255 bytes
+CONVERSATION  the conversation of the message, at most 255 bytes; empty for a new one
+MEDIA         the media text of the document, such as text/plain: one line of at most 1024 bytes, or empty
+FIRST         the number of the first entry to collect, 0 to 9223372036854775808
+COUNT         of collect: the most entries to collect, 0 to 9223372036854775808
+FOLDER        the folder of the files; entry 7 becomes FOLDER/7.as4
+STAMP         the moment of the answer: milliseconds since 1970-01-01T00:00:00Z, 0 to 253402300799999
+NONCE         makes the answer's identifiers unique: 0 to 340282366920938463463374607431768211455
+SEED          what the sizes of the generated messages follow from: 0 to 18446744073709551615; 0 makes all of 40960 bytes
+COUNT         of drill: how many messages the generated script submits: 0 to 1000
+All numbers are decimal, without sign and without leading zeros. After -- a word that begins with - is a value.
 
-A message file is a line of Content-Type: and the media text, an empty line, both ended by CR LF, and then the body.
-A message file has at most 67174400 bytes. The line of check is one of
+The input of submit has at most 67174400 bytes. collect confirms an entry, and all entries before it, after it has
+written its file, and writes a line for each: N collected, or N gone if the handler doesn't have the document any more.
+It ends at the first number that the handler has no entry of. So FIRST is the first number that isn't collected yet.
+
+A message file has one header field, Content-Type: and the media text, then an empty line, and then the body. Both lines
+end by CR LF. A message file has at most 67174400 bytes. The line of check is one of
   user ID                a user message of this identifier
   pull CHANNEL           a pull request for this channel
   receipt ID             a receipt of this message
   errors COUNT           so many errors
   pair ID CHANNEL        a receipt of this message with a pull request for this channel
-  refused EBMS:CODE ID   no message: by the error of this code, with the identifier where its header was read
+  refused EBMS:CODE ID   no message: by the error of this code, with the identifier if its header was read
+CHANNEL is written as the message has it. So a line may hold a line end of the channel's name.
 
 The lines of a script, each ended by LF, with one space between words. END is a or b; NAME and MODE are 1 to 32 of a to
 z and 0 to 9; PACKAGE and NUMBER count from 0:
   mode NAME WAY RETRIES PERIOD    both ends have this mode: WAY is push or pull, a period has 1 to 1000000000
                                   milliseconds, retries are at most 1000; modes come first
-  submit END MODE LOAD            hands a message in: LOAD is none, hex=DIGITS with two of 0 to 9 and a to f for a byte,
+  submit END MODE LOAD            submits a message: LOAD is none, hex=DIGITS with two of 0 to 9 and a to f for a byte,
                                   or size=BYTES, at most 16777216
   tick END MOMENT                 sets the clock of the end, in milliseconds
   take END                        sends what is to be pushed next
@@ -40,29 +60,33 @@ z and 0 to 9; PACKAGE and NUMBER count from 0:
   came END PACKAGE                what the other end sent under this number comes in, and is answered
   lost END PACKAGE                the same, and the answer is lost
   read END NUMBER                 shows a message of the inbox
-  confirm END NUMBER              takes over the messages of the inbox up to this one
-  status END NUMBER               shows how it stands with a message that was submitted
+  confirm END NUMBER              confirms the messages of the inbox up to this one
+  status END NUMBER               shows the state of a message that was submitted
   crash END                       the power of the end fails: its disk, as it was last written, is opened again
   stop CALL PICK LINE             runs a LINE of submit, tick, take, came or confirm: its device call CALL, 1 to 4, is
                                   the last to act, and its answer is lost. Of what the disk may hold then, that of PICK
                                   is opened again: old, new or other
-  fold END                        writes the journal of the end anew, where that makes it shorter
+  fold END                        compacts the journal of the end, if that makes it shorter
 A script has at most 1000000 lines of at most 1048576 bytes each, names at most 1024 modes and makes at most 100000
-events: each line but mode, crash and fold makes one, where the package or the submission that it names is there.
+events: each line but mode, crash and fold makes one, if the package or the submission that it names exists.
 
-exit statuses, each but 0 and 1 with one line on the errors, as it stands here up to the colon:
+exit statuses, each but 0 and 1 with one line on the errors, as it is here up to the colon:
    0  done
-   1  the message that was checked is refused, as the output tells
+   1  check: the message is refused, as the output says; submit, collect: the handler refused the request
    2  line N: this line of the script, the first being 1, isn't one of a script, or not in its place
-   3  read fault: the input can't be read to its end
-   4  write fault: the output has only a front of what was to be written
+   3  read fault: the input or a response can't be read to its end
+   4  write fault: the output, or a request, has only a prefix of what was to be written
    5  no memory: what was to be done next needs more
    6  more than 100000 events: the next line of the script would make one too many
    7  not a user message: the message that was to be answered is a signal or a pair
-  11  input too long: a message file has more bytes
+   8  modes refused: the file of the modes is missing, too long or not one of modes
+   9  host fault: a file, a connection or the journal failed, or another process has it
+  10  not a journal at N: the files of the journal aren't one from byte N on
+  11  input too long: the input has more bytes
+  12  bad response: the handler's response is cut off, too long or none
   64  bad words: none of the usages above, or a number out of range
-On all but 0, 1 and 4 nothing is written to the output, except by a drill of a script: it writes what the lines before
-lead to.
+If several apply, 3, 4, 5, 9 and 11 come first, in this order. On all but 0, 1 and 4 nothing is written to the output,
+except by a drill of a script and by collect: they write the lines before.
 ";
 
 /// The output of `--version`.

@@ -1,7 +1,8 @@
 //! Runs of the program, and their ends.
 
 use as4_flow::{MemorySink, MemorySource};
-use as4_tool::run;
+use as4_host::{MemoryHost, Stack};
+use as4_tool::run_alone;
 use as4_values::{Octets, Seq};
 use std::alloc::{AllocError, Global};
 
@@ -68,18 +69,29 @@ pub(crate) fn words_of(alloc: Global, line: &str) -> Result<Seq<Octets>, AllocEr
     Ok(Seq::of(words))
 }
 
-/// Runs the words.
+/// A host in memory with these answers, the first of which comes first.
+pub(crate) fn host_of(alloc: Global, answers: &[&[u8]]) -> Option<MemoryHost> {
+    let mut items = Vec::new(alloc);
+    for answer in answers {
+        items.push(Octets::of(answer.to_vec(alloc).ok()?)).ok()?;
+    }
+    let answers = Stack::of(alloc, Seq::of(items)).ok()?;
+    Some(MemoryHost::of(alloc, answers, Vec::new(alloc)))
+}
+
+/// Runs the words over a host.
 fn end_of(
     alloc: Global,
     words: &Seq<Octets>,
     file: &[u8],
     failing: Failing,
+    host: &mut MemoryHost,
 ) -> Result<End, AllocError> {
     let mut output = sink(alloc, failing.write)?;
     let mut errors = sink(alloc, failing.tell)?;
     let fails = vec![in alloc; failing.read]?;
     let mut input = MemorySource::of(file.to_vec(alloc)?, Vec::new(alloc), fails);
-    let status = run(alloc, words, &mut input, &mut output, &mut errors);
+    let status = run_alone(alloc, words, &mut input, &mut output, &mut errors, host);
     Ok(End {
         status,
         written: output.into_bytes(),
@@ -90,7 +102,7 @@ fn end_of(
 /// A status, and the texts on the output and on the errors.
 pub(crate) type Wanted<'a> = (u8, &'a [u8], &'a [u8]);
 
-/// Whether the run of the words, with this input, ends so.
+/// Whether the run of the words, with this input and without answers, ends so.
 pub(crate) fn end_so(
     alloc: Global,
     words: &Seq<Octets>,
@@ -98,8 +110,23 @@ pub(crate) fn end_so(
     failing: Failing,
     wanted: Wanted,
 ) -> bool {
+    match host_of(alloc, &[]) {
+        Some(mut host) => end_over(alloc, words, file, failing, &mut host, wanted),
+        None => false,
+    }
+}
+
+/// Whether the run of the words over a host, with this input, ends so.
+pub(crate) fn end_over(
+    alloc: Global,
+    words: &Seq<Octets>,
+    file: &[u8],
+    failing: Failing,
+    host: &mut MemoryHost,
+    wanted: Wanted,
+) -> bool {
     let (status, written, told) = wanted;
-    match end_of(alloc, words, file, failing) {
+    match end_of(alloc, words, file, failing, host) {
         Ok(end) => {
             end.status == status && end.written.as_slice() == written && end.told.as_slice() == told
         }

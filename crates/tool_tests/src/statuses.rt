@@ -48,7 +48,7 @@ fn is_told(alloc: Global, status: Status, failing: u64, code: u8, told: &str) ->
     status.code() == code && errors.bytes() == told.as_bytes()
 }
 
-const STATUSES: [(Status, u8, &str); 11] = [
+const STATUSES: [(Status, u8, &str); 15] = [
     (Status::Done, 0, ""),
     (Status::Refused, 1, ""),
     (
@@ -64,7 +64,15 @@ const STATUSES: [(Status, u8, &str); 11] = [
     (Status::NoMemory, 5, "no memory\n"),
     (Status::TooManyEvents, 6, "more than 100000 events\n"),
     (Status::NotUser, 7, "not a user message\n"),
+    (Status::ModesRefused, 8, "modes refused\n"),
+    (Status::HostFault, 9, "host fault\n"),
+    (
+        Status::NotJournal { at: 1_073_741_824 },
+        10,
+        "not a journal at 1073741824\n",
+    ),
     (Status::TooLong, 11, "input too long\n"),
+    (Status::BadResponse, 12, "bad response\n"),
     (Status::BadWords, 64, "bad words\n"),
 ];
 

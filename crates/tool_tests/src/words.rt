@@ -1,8 +1,11 @@
 //! Which words are a command, and the contents of the help.
 
 use crate::ended::{NOTHING_FAILS, end_so, ends, words_of};
-use as4_tool::{Command, HELP, LIMIT, MAX_COUNT, VERSION, command_of};
-use as4_values::{MAX_MOMENT, Seq};
+use as4_tool::{
+    Collection, Command, HELP, LIMIT, MAX_COUNT, Service, Submission, VERSION, WordsRefusal,
+    command_of, texts_of,
+};
+use as4_values::{MAX_ADDRESS, MAX_MOMENT, Octets, Seq};
 use drill::{MAX_EVENTS, MAX_LINES, MAX_MODES};
 use drill_script::{LINE_LIMIT, MAX_CALL, MAX_PERIOD, MAX_RETRIES, MAX_SIZE};
 use std::alloc::Global;
@@ -33,7 +36,7 @@ fn the_first_and_the_last_words_are_heard(rt: HostRuntime) {
     assert!(rt; are_heard(alloc, last));
 }
 
-const BAD_WORDS: [&str; 18] = [
+const BAD_WORDS: [&str; 19] = [
     "check 0",
     "Check",
     "answer 253402300800000 1",
@@ -47,7 +50,8 @@ const BAD_WORDS: [&str; 18] = [
     "answer 0",
     "answer 0 1 2",
     "Answer 0 1",
-    "--help --version",
+    "handler m j http://h:1/ http://h:2/",
+    "--Help",
     "drill 1",
     "drill --generate 0 1001",
     "help",
@@ -69,15 +73,94 @@ fn other_words_are_bad(rt: HostRuntime) {
     assert_eq!(rt; first_not_bad(rt.alloc(), &BAD_WORDS), None);
 }
 
-/// Whether the words of this line are read as this command.
-fn are_read(alloc: Global, line: &str, command: Option<Command>) -> bool {
-    match words_of(alloc, line) {
-        Ok(words) => command_of(&words) == command,
+/// Whether these words are read as this command, or as none.
+fn spell(alloc: Global, words: &Seq<Octets>, command: Option<Command>) -> bool {
+    let wanted = command.ok_or(WordsRefusal::BadWords);
+    match texts_of(alloc, words) {
+        Ok(texts) => command_of(alloc, &texts) == wanted,
         Err(_) => false,
     }
 }
 
-const COMMANDS: [(&str, Command); 4] = [
+/// Whether the words of this line are read as this command, or as none.
+fn are_read(alloc: Global, line: &str, command: Option<Command>) -> bool {
+    match words_of(alloc, line) {
+        Ok(words) => spell(alloc, &words, command),
+        Err(_) => false,
+    }
+}
+
+/// A handler with 4 workers and 2^63 turns.
+const SERVICE: Service = Service {
+    modes: "m.toml",
+    journal: "j",
+    peer: "http://h:1/",
+    local: "http://h:2",
+    workers: 4,
+    turns: 9_223_372_036_854_775_808,
+};
+
+const COMMANDS: [(&str, Command); 16] = [
+    ("-h", Command::Help),
+    ("-V", Command::Version),
+    ("submit --help", Command::Help),
+    ("--help --version", Command::Help),
+    (
+        "handler m.toml j http://h:1/ http://h:2",
+        Command::Handler(SERVICE),
+    ),
+    (
+        "handler m.toml j http://h:1/ http://h:2 --workers 1 --turns 0",
+        Command::Handler(Service {
+            workers: 1,
+            turns: 0,
+            ..SERVICE
+        }),
+    ),
+    (
+        "handler --turns=9223372036854775808 m.toml --workers=11 j http://h:1/ http://h:2",
+        Command::Handler(Service {
+            workers: 11,
+            ..SERVICE
+        }),
+    ),
+    (
+        "submit http://h:1/ m c text/plain",
+        Command::Submit(Submission {
+            local: "http://h:1/",
+            mode: "m",
+            conversation: "c",
+            media: "text/plain",
+        }),
+    ),
+    (
+        "submit http://h -- -m  ",
+        Command::Submit(Submission {
+            local: "http://h",
+            mode: "-m",
+            conversation: "",
+            media: "",
+        }),
+    ),
+    (
+        "collect http://h:65535/ 0 0 F",
+        Command::Collect(Collection {
+            local: "http://h:65535/",
+            first: 0,
+            count: 0,
+            folder: "F",
+        }),
+    ),
+    (
+        "collect http://h:1/ 9223372036854775808 9223372036854775808 ",
+        Command::Collect(Collection {
+            local: "http://h:1/",
+            first: 9_223_372_036_854_775_808,
+            count: 9_223_372_036_854_775_808,
+            folder: "",
+        }),
+    ),
+    ("answer 0 0", Command::Answer { stamp: 0, nonce: 0 }),
     ("check", Command::Check),
     ("drill", Command::Drill),
     (
@@ -108,7 +191,32 @@ fn commands_are_read_with_numbers_in_range(rt: HostRuntime) {
     assert_eq!(rt; first_other(rt.alloc(), &COMMANDS), None);
 }
 
-const NO_DRILLS: [&str; 10] = [
+const NO_COMMANDS: [&str; 35] = [
+    "handler m.toml j http://h:1/ http://h:2/ --workers 0",
+    "handler m.toml j http://h:1/ http://h:2/ --workers 12",
+    "handler m.toml j http://h:1/ http://h:2/ --workers 04",
+    "handler m.toml j http://h:1/ http://h:2/ --workers",
+    "handler m.toml j http://h:1/ http://h:2/ --workers 1 --workers 1",
+    "handler m.toml j http://h:1/ http://h:2/ --turns 9223372036854775809",
+    "handler m.toml j http://h:1/x http://h:2/",
+    "handler m.toml j http://h:1/ http://h:2/x",
+    "handler m.toml j h:1 http://h:2/",
+    "handler m.toml j http://h:1/",
+    "handler m.toml j http://h:1/ http://h:2/ 4",
+    "submit http://h:1/ m c",
+    "submit http://h:1/ m c text/plain x",
+    "submit http://h:1/  c text/plain",
+    "submit http://h:1// m c text/plain",
+    "submit http://h:0/ m c text/plain",
+    "submit h:1 m c text/plain",
+    "submit http://h:1/ -m c text/plain",
+    "submit http://h:1/ m c text/plain\n",
+    "submit --version",
+    "collect http://h:1/ 9223372036854775809 0 F",
+    "collect http://h:1/ 0 9223372036854775809 F",
+    "collect http://h:1/ 00 1 F",
+    "collect http://h:1/ 0 1",
+    "collect http://h:1/x 0 1 F",
     "drill --generate 18446744073709551616 1000",
     "drill --generate 0 1001",
     "drill --generate 00 1",
@@ -132,8 +240,51 @@ fn first_command(alloc: Global, lines: &[&str]) -> Option<usize> {
 }
 
 #[test]
-fn numbers_of_a_drill_out_of_range_are_no_command(rt: HostRuntime) {
-    assert_eq!(rt; first_command(rt.alloc(), &NO_DRILLS), None);
+fn words_out_of_range_are_no_command(rt: HostRuntime) {
+    assert_eq!(rt; first_command(rt.alloc(), &NO_COMMANDS), None);
+}
+
+/// Whether a mode and a conversation of these lengths are read.
+fn lengths_are_read(alloc: Global, mode: usize, conversation: usize) -> Option<bool> {
+    let mode = vec![in alloc; b'm'; mode].ok()?;
+    let conversation = vec![in alloc; b'c'; conversation].ok()?;
+    let mut words = Vec::new(alloc);
+    for word in [
+        b"submit".as_slice(),
+        b"http://h:1/",
+        &mode,
+        &conversation,
+        b"text/plain",
+    ] {
+        words
+            .push(Octets::of(Vec::from_slice(alloc, word).ok()?))
+            .ok()?;
+    }
+    let words = Seq::of(words);
+    let texts = texts_of(alloc, &words).ok()?;
+    Some(command_of(alloc, &texts).is_ok())
+}
+
+#[test]
+fn names_have_at_most_255_bytes(rt: HostRuntime) {
+    let alloc = rt.alloc();
+    assert_eq!(rt; lengths_are_read(alloc, 255, 255), Some(true));
+    assert_eq!(rt; lengths_are_read(alloc, 256, 0), Some(false));
+    assert_eq!(rt; lengths_are_read(alloc, 1, 256), Some(false));
+}
+
+/// The end of the run of a word that is no text.
+fn a_broken_word_is_bad(alloc: Global) -> Option<bool> {
+    let mut words = Vec::new(alloc);
+    words
+        .push(Octets::of(Vec::from_slice(alloc, b"check\xff").ok()?))
+        .ok()?;
+    Some(end_so(alloc, &Seq::of(words), b"", NOTHING_FAILS, (64, b"", TOLD)))
+}
+
+#[test]
+fn other_bytes_are_bad(rt: HostRuntime) {
+    assert_eq!(rt; a_broken_word_is_bad(rt.alloc()), Some(true));
 }
 
 #[test]
@@ -151,12 +302,19 @@ fn help_and_version_are_written(rt: HostRuntime) {
 }
 
 /// Lines that a user relies on.
-const HELP_PARTS: [&str; 23] = [
+const HELP_PARTS: [&str; 30] = [
+    "\n  as4 handler MODES JOURNAL PEER LOCAL  ",
+    "\n  as4 submit LOCAL MODE CONVERSATION MEDIA  ",
+    "\n  as4 collect LOCAL FIRST COUNT FOLDER  ",
+    "8  modes refused:",
+    "9  host fault:",
+    "10  not a journal at N:",
+    "12  bad response:",
     "\n  as4 answer STAMP NONCE  ",
     "\n  as4 check  ",
     "\n  as4 drill  ",
     "\n  as4 drill --generate SEED COUNT  ",
-    "\n  as4 --help  ",
+    "\n  as4 --help, as4 COMMAND --help  ",
     "\n  as4 --version  ",
     "\n  user ID  ",
     "\n  pull CHANNEL  ",
@@ -166,7 +324,7 @@ const HELP_PARTS: [&str; 23] = [
     "\n  refused EBMS:CODE ID  ",
     "0  done\n",
     "0 to 340282366920938463463374607431768211455",
-    "1  the message",
+    "1  check: the message is refused",
     "2  line N:",
     "3  read fault:",
     "4  write fault:",
@@ -193,8 +351,17 @@ fn the_help_has_each_line(rt: HostRuntime) {
     assert_eq!(rt; first_lacking(help, &HELP_PARTS), None);
 }
 
+/// The greatest number of an entry.
+const MOST: u64 = 9_223_372_036_854_775_808;
+
 /// The text before a number in the help, the number, and the text after it.
-const NUMBERS: [(&str, u64, &str); 14] = [
+const NUMBERS: [(&str, u64, &str); 20] = [
+    ("turns of each worker, 0 to ", MOST, ","),
+    ("first entry to collect, 0 to ", MOST, "\n"),
+    ("most entries to collect, 0 to ", MOST, "\n"),
+    ("The input of submit has at most ", LIMIT as u64, " bytes"),
+    ("HOST:PORT/, at most ", MAX_ADDRESS as u64, " bytes"),
+    ("workers at PEER, 1 to ", 11, ";"),
     ("1970-01-01T00:00:00Z, 0 to ", MAX_MOMENT, "\n"),
     ("messages follow from: 0 to ", u64::MAX, ";"),
     ("script submits: 0 to ", MAX_COUNT, "\n"),

@@ -1,13 +1,36 @@
-use Rattle.std.proofs.Common.{◌≡◌, ℕ, List, ◌∷◌, [], length, IfSome, codes, subst, arith}
-use Rattle.as4_tool.specs.Command.{Spells}
-use Rattle.as4_tool.proofs.CommandLemmas.{three_items, equal_is_same}
+use Rattle.std.proofs.Common.{map, ap, unwrap_or, None, Some}
+use Rattle.clap.specs.Simple.{app_of}
+use Rattle.as4_tool.specs.Command.{task_of}
+use Rattle.as4_tool.proofs.TaskLemmas.{asked_task, none_is_some, only_asked, only_task, right_task, spelled_within}
 use Rattle.as4_tool.proofs.command.command_of.Goals as goal
 
-pub returns-in-len3-clause-found : goal.returns-in-len3-clause-found
-returns-in-len3-clause-found c =
-    let first : c.bytes-then-this-lt4.result.now ≡ c.as_slice.result.now = equal_is_same c.bytes-then-this-lt4.result.now c.as_slice.result.now c.eq.result c.eq.ensures c.if-eq.true in
-    let three : length c.items.result.now ≡ 3 = omega arith in
-    let items : c.items.result.now ≡ c.word-item-then-this-lt4.result ∷ c.stamp-item.result ∷ c.nonce-item.result ∷ [] =
-    three_items c.items.result.now c.word-item-then-this-lt4.result c.stamp-item.result c.nonce-item.result three c.word-item-then-this-lt4.is c.stamp-item.is c.nonce-item.is in
-    let words : codes "answer" ∷ c.bytes-in-len3.result.now ∷ c.bytes-in-len3-2.result.now ∷ [] ≡ c.args.words.now = cc in
-    subst (λ (words : List (List ℕ)). IfSome c.answer_of.result (Spells words)) words c.answer_of.ensures.found
+pub returns-in-Err-clause-found : goal.returns-in-Err-clause-found
+returns-in-Err-clause-found c =
+    asked_task (map (λ w. w.now) c.args.words.now) (app_of c.in-Ok.parser) c.kind-kind.result c.asked_by.result c.in-Ok.ensures.form
+    (λ simple. rw c.kind-kind.ensures (c.in-Err.ensures.kinds simple)) c.asked_by.ensures.found
+
+pub returns-in-Err-clause-only : goal.returns-in-Err-clause-only
+returns-in-Err-clause-only c =
+    only_asked (map (λ w. w.now) c.args.words.now) (app_of c.in-Ok.parser) c.kind-kind.result c.asked_by.result c.in-Ok.ensures.form
+    (λ simple. rw c.kind-kind.ensures (c.in-Err.ensures.kinds simple)) c.asked_by.ensures.only c.asked_by.ensures.memory
+
+pub returns-in-Some-clause-found : goal.returns-in-Some-clause-found
+returns-in-Some-clause-found c =
+    right_task (map (λ w. w.now) c.args.words.now) (app_of c.in-Ok.parser) c.in-Ok-try_get_matches_from.matches (task_of c.in-Some.command)
+    c.in-Ok.ensures.form c.in-Ok-try_get_matches_from.ensures.kinds c.in-Ok-try_get_matches_from.ensures.matches c.in-Some.ensures.found
+
+pub returns-in-Some-clause-within : goal.returns-in-Some-clause-within
+returns-in-Some-clause-within c =
+    spelled_within (map (λ w. w.now) c.args.words.now) (task_of c.in-Some.command)
+    (right_task (map (λ w. w.now) c.args.words.now) (app_of c.in-Ok.parser) c.in-Ok-try_get_matches_from.matches (task_of c.in-Some.command)
+    c.in-Ok.ensures.form c.in-Ok-try_get_matches_from.ensures.kinds c.in-Ok-try_get_matches_from.ensures.matches c.in-Some.ensures.found)
+
+pub returns-in-Some-clause-only : goal.returns-in-Some-clause-only
+returns-in-Some-clause-only c task spells =
+    ap (λ o. unwrap_or o task) (only_task (map (λ w. w.now) c.args.words.now) (app_of c.in-Ok.parser) c.in-Ok-try_get_matches_from.matches (Some c.in-Some.command)
+    c.in-Ok.ensures.form c.in-Ok-try_get_matches_from.ensures.kinds c.in-Ok-try_get_matches_from.ensures.matches c.in-Some.ensures.only task spells)
+
+pub returns-in-None-clause-only : goal.returns-in-None-clause-only
+returns-in-None-clause-only c task spells =
+    absurd (none_is_some task (only_task (map (λ w. w.now) c.args.words.now) (app_of c.in-Ok.parser) c.in-Ok-try_get_matches_from.matches None
+    c.in-Ok.ensures.form c.in-Ok-try_get_matches_from.ensures.kinds c.in-Ok-try_get_matches_from.ensures.matches c.in-None.ensures.only task spells))

@@ -1,0 +1,402 @@
+-- Which tasks a command of this name does, and the words that spell them.
+use Rattle.std.proofs.Common.{◌≡◌, ◌≢◌, ◌⊎◌, inl, inr, ℕ, zero, suc, List, [], ◌∷◌, Option, Some, None, option_map, get_or, codes, refl, sym, ◌∙◌, ap, subst, arith, Bor, map, take, ◌++◌, ◌+◌, ◌<◌, length, ◌^◌, unwrap_or}
+use Rattle.std.proofs.lemmas.List.{map-append, take_more}
+use Rattle.std.proofs.lemmas.List.Elements.{All-more}
+use Rattle.std.specs.List.{All}
+use Rattle.std.specs.Str.{IsUtf8}
+use Rattle.std.specs.Prelude.{Result, Ok, Err, MatchResult, IfOk, true}
+use Rattle.std.specs.Fmt.{decimal}
+use Rattle.std.specs.Str.Parse.{digits_value}
+use Rattle.std.proofs.lemmas.Fmt.{decimal_is_IsNumeral_wide}
+use Rattle.clap.specs.Walk.{Row, all_of, first_of}
+use Rattle.clap.specs.Faults.{fault_of, is_simple_and_free}
+use Rattle.clap.specs.Kinds.{IsAmong}
+use Rattle.clap.specs.Simple.{App, HasMatchesOf, subcommand_of, subcommand_rows_of}
+use Rattle.clap.specs.declared.error.kind.ErrorKind.{ErrorKind}
+use Rattle.clap.specs.declared.error.kind.ErrorKind.TheVariants as kind
+use Rattle.clap.specs.declared.parser.matches.ArgMatches.{ArgMatches}
+use Rattle.clap.proofs.OnLiterals.{clap_on_literals}
+use Rattle.as4_tool.proofs.ClapLemmas.{alone, as4_is_simple, as4_is_simple_and_free}
+use Rattle.as4_tool.specs.Words.{Names, as4}
+use Rattle.as4_tool.specs.declared.command.WordsRefusal.{WordsRefusal}
+use Rattle.as4_tool.specs.declared.command.WordsRefusal.TheVariants as refusal
+use Rattle.as4_tool.specs.Command.{Asks, Gives, IsTurns, IsWithin, IsWorkers, Spells, Task, answer, check, collect, drill, generate, handler, help, name_of, submit, task_of, version}
+use Rattle.as4_tool.specs.declared.command.Command.{Command}
+
+-- texts with different first bytes differ
+differ : (one other : List ℕ) → get_or one 0 0 ≢ get_or other 0 0 → one ≡ other → ⊥
+differ one other first same = first (ap (λ (t : List ℕ). get_or t 0 0) same)
+
+pub only_answer : (rows : List Row) (P : Task → Type 0)
+    → ((stamp nonce : ℕ) → Gives rows (answer stamp nonce) → P (answer stamp nonce))
+    → (task : Task) → name_of task ≡ codes "answer" → Gives rows task → P task
+only_answer rows P one help named gives = absurd gives
+only_answer rows P one version named gives = absurd gives
+only_answer rows P one (answer stamp nonce) named gives = one stamp nonce gives
+only_answer rows P one check named gives = absurd (differ (codes "check") (codes "answer") (λ same. omega (arith, same)) named)
+only_answer rows P one drill named gives = absurd (differ (codes "drill") (codes "answer") (λ same. omega (arith, same)) named)
+only_answer rows P one (generate seed count) named gives = absurd (differ (codes "drill") (codes "answer") (λ same. omega (arith, same)) named)
+only_answer rows P one (handler modes journal peer local workers turns) named gives = absurd (differ (codes "handler") (codes "answer") (λ same. omega (arith, same)) named)
+only_answer rows P one (submit local mode conversation media) named gives = absurd (differ (codes "submit") (codes "answer") (λ same. omega (arith, same)) named)
+only_answer rows P one (collect local first count folder) named gives = absurd (differ (codes "collect") (codes "answer") (λ same. omega (arith, same)) named)
+
+pub only_check : (rows : List Row) (P : Task → Type 0)
+    → (Gives rows check → P check)
+    → (task : Task) → name_of task ≡ codes "check" → Gives rows task → P task
+only_check rows P one help named gives = absurd gives
+only_check rows P one version named gives = absurd gives
+only_check rows P one (answer stamp nonce) named gives = absurd (differ (codes "answer") (codes "check") (λ same. omega (arith, same)) named)
+only_check rows P one check named gives = one gives
+only_check rows P one drill named gives = absurd (differ (codes "drill") (codes "check") (λ same. omega (arith, same)) named)
+only_check rows P one (generate seed count) named gives = absurd (differ (codes "drill") (codes "check") (λ same. omega (arith, same)) named)
+only_check rows P one (handler modes journal peer local workers turns) named gives = absurd (differ (codes "handler") (codes "check") (λ same. omega (arith, same)) named)
+only_check rows P one (submit local mode conversation media) named gives = absurd (differ (codes "submit") (codes "check") (λ same. omega (arith, same)) named)
+only_check rows P one (collect local first count folder) named gives = cc named
+
+pub only_drill : (rows : List Row) (P : Task → Type 0)
+    → (Gives rows drill → P drill)
+    → ((seed count : ℕ) → Gives rows (generate seed count) → P (generate seed count))
+    → (task : Task) → name_of task ≡ codes "drill" → Gives rows task → P task
+only_drill rows P one other help named gives = absurd gives
+only_drill rows P one other version named gives = absurd gives
+only_drill rows P one other (answer stamp nonce) named gives = absurd (differ (codes "answer") (codes "drill") (λ same. omega (arith, same)) named)
+only_drill rows P one other check named gives = absurd (differ (codes "check") (codes "drill") (λ same. omega (arith, same)) named)
+only_drill rows P one other drill named gives = one gives
+only_drill rows P one other (generate seed count) named gives = other seed count gives
+only_drill rows P one other (handler modes journal peer local workers turns) named gives = absurd (differ (codes "handler") (codes "drill") (λ same. omega (arith, same)) named)
+only_drill rows P one other (submit local mode conversation media) named gives = absurd (differ (codes "submit") (codes "drill") (λ same. omega (arith, same)) named)
+only_drill rows P one other (collect local first count folder) named gives = absurd (differ (codes "collect") (codes "drill") (λ same. omega (arith, same)) named)
+
+pub only_handler : (rows : List Row) (P : Task → Type 0)
+    → ((modes journal peer local : List ℕ) (workers turns : ℕ) → Gives rows (handler modes journal peer local workers turns) → P (handler modes journal peer local workers turns))
+    → (task : Task) → name_of task ≡ codes "handler" → Gives rows task → P task
+only_handler rows P one help named gives = absurd gives
+only_handler rows P one version named gives = absurd gives
+only_handler rows P one (answer stamp nonce) named gives = absurd (differ (codes "answer") (codes "handler") (λ same. omega (arith, same)) named)
+only_handler rows P one check named gives = absurd (differ (codes "check") (codes "handler") (λ same. omega (arith, same)) named)
+only_handler rows P one drill named gives = absurd (differ (codes "drill") (codes "handler") (λ same. omega (arith, same)) named)
+only_handler rows P one (generate seed count) named gives = absurd (differ (codes "drill") (codes "handler") (λ same. omega (arith, same)) named)
+only_handler rows P one (handler modes journal peer local workers turns) named gives = one modes journal peer local workers turns gives
+only_handler rows P one (submit local mode conversation media) named gives = absurd (differ (codes "submit") (codes "handler") (λ same. omega (arith, same)) named)
+only_handler rows P one (collect local first count folder) named gives = absurd (differ (codes "collect") (codes "handler") (λ same. omega (arith, same)) named)
+
+pub only_submit : (rows : List Row) (P : Task → Type 0)
+    → ((local mode conversation media : List ℕ) → Gives rows (submit local mode conversation media) → P (submit local mode conversation media))
+    → (task : Task) → name_of task ≡ codes "submit" → Gives rows task → P task
+only_submit rows P one help named gives = absurd gives
+only_submit rows P one version named gives = absurd gives
+only_submit rows P one (answer stamp nonce) named gives = absurd (differ (codes "answer") (codes "submit") (λ same. omega (arith, same)) named)
+only_submit rows P one check named gives = absurd (differ (codes "check") (codes "submit") (λ same. omega (arith, same)) named)
+only_submit rows P one drill named gives = absurd (differ (codes "drill") (codes "submit") (λ same. omega (arith, same)) named)
+only_submit rows P one (generate seed count) named gives = absurd (differ (codes "drill") (codes "submit") (λ same. omega (arith, same)) named)
+only_submit rows P one (handler modes journal peer local workers turns) named gives = absurd (differ (codes "handler") (codes "submit") (λ same. omega (arith, same)) named)
+only_submit rows P one (submit local mode conversation media) named gives = one local mode conversation media gives
+only_submit rows P one (collect local first count folder) named gives = absurd (differ (codes "collect") (codes "submit") (λ same. omega (arith, same)) named)
+
+pub only_collect : (rows : List Row) (P : Task → Type 0)
+    → ((local : List ℕ) (first count : ℕ) (folder : List ℕ) → Gives rows (collect local first count folder) → P (collect local first count folder))
+    → (task : Task) → name_of task ≡ codes "collect" → Gives rows task → P task
+only_collect rows P one help named gives = absurd gives
+only_collect rows P one version named gives = absurd gives
+only_collect rows P one (answer stamp nonce) named gives = absurd (differ (codes "answer") (codes "collect") (λ same. omega (arith, same)) named)
+only_collect rows P one check named gives = cc named
+only_collect rows P one drill named gives = absurd (differ (codes "drill") (codes "collect") (λ same. omega (arith, same)) named)
+only_collect rows P one (generate seed count) named gives = absurd (differ (codes "drill") (codes "collect") (λ same. omega (arith, same)) named)
+only_collect rows P one (handler modes journal peer local workers turns) named gives = absurd (differ (codes "handler") (codes "collect") (λ same. omega (arith, same)) named)
+only_collect rows P one (submit local mode conversation media) named gives = absurd (differ (codes "submit") (codes "collect") (λ same. omega (arith, same)) named)
+only_collect rows P one (collect local first count folder) named gives = one local first count folder gives
+
+-- words of a command, with its values, spell its task
+pub spelled : (words : List (List ℕ)) (task : Task) (rows : List Row) → Names words (name_of task) rows → Gives rows task → Spells words task
+spelled words help rows named gives = absurd gives
+spelled words version rows named gives = absurd gives
+spelled words (answer stamp nonce) rows named gives = (rows, named, gives)
+spelled words check rows named gives = (rows, named, gives)
+spelled words drill rows named gives = (rows, named, gives)
+spelled words (generate seed count) rows named gives = (rows, named, gives)
+spelled words (handler modes journal peer local workers turns) rows named gives = (rows, named, gives)
+spelled words (submit local mode conversation media) rows named gives = (rows, named, gives)
+spelled words (collect local first count folder) rows named gives = (rows, named, gives)
+
+-- and only they do, if `clap` has no error
+pub unspelled : (words : List (List ℕ)) (task : Task) → fault_of as4 words ≡ [] → Spells words task
+    → (rows : List Row) × (subcommand_of as4 words ≡ Some (name_of task, rows)) × Gives rows task
+unspelled words help right spells = cc (right, spells)
+unspelled words version right spells = cc (right, spells)
+unspelled words (answer stamp nonce) right spells = (spells.0, spells.1.named, spells.2)
+unspelled words check right spells = (spells.0, spells.1.named, spells.2)
+unspelled words drill right spells = (spells.0, spells.1.named, spells.2)
+unspelled words (generate seed count) right spells = (spells.0, spells.1.named, spells.2)
+unspelled words (handler modes journal peer local workers turns) right spells = (spells.0, spells.1.named, spells.2)
+unspelled words (submit local mode conversation media) right spells = (spells.0, spells.1.named, spells.2)
+unspelled words (collect local first count folder) right spells = (spells.0, spells.1.named, spells.2)
+
+-- the matches that `clap` has at a command's words
+pub right_task : (words : List (List ℕ)) (app : App) (m : ArgMatches) (task : Task) → app ≡ as4
+    → (is_simple_and_free app ≡ true → fault_of app words ≡ []) → HasMatchesOf app words m
+    → (rows : List Row) × (subcommand_rows_of m ≡ Some (name_of task, rows)) × Gives rows task → Spells words task
+right_task words app m task is kinds matches found =
+    let right : fault_of as4 words ≡ [] =
+    subst (λ (a : App). is_simple_and_free a ≡ true → fault_of a words ≡ []) is kinds as4_is_simple_and_free in
+    let same : subcommand_rows_of m ≡ subcommand_of as4 words = (subst (λ (a : App). HasMatchesOf a words m) is matches as4_is_simple).1 in
+    spelled words task found.0 (record { right = right; named = sym same ∙ found.1 }) found.2
+
+pub only_task : (words : List (List ℕ)) (app : App) (m : ArgMatches) (r : Option Command) → app ≡ as4
+    → (is_simple_and_free app ≡ true → fault_of app words ≡ []) → HasMatchesOf app words m
+    → ((task : Task) (rows : List Row) → subcommand_rows_of m ≡ Some (name_of task, rows) → Gives rows task → option_map task_of r ≡ Some task)
+    → (task : Task) → Spells words task → option_map task_of r ≡ Some task
+only_task words app m r is kinds matches only task spells =
+    let right : fault_of as4 words ≡ [] =
+    subst (λ (a : App). is_simple_and_free a ≡ true → fault_of a words ≡ []) is kinds as4_is_simple_and_free in
+    let same : subcommand_rows_of m ≡ subcommand_of as4 words = (subst (λ (a : App). HasMatchesOf a words m) is matches as4_is_simple).1 in
+    let found = unspelled words task right spells in
+    only task found.0 (same ∙ found.1) found.2
+
+-- what `clap` asks for by an error
+pub asked_task : (words : List (List ℕ)) (app : App) (k : ErrorKind) (r : Result Command WordsRefusal) → app ≡ as4
+    → (is_simple_and_free app ≡ true → (k ≡ kind.OutOfMemory) ⊎ IsAmong k (fault_of app words))
+    → IfOk r (λ c. Asks k (task_of c)) → IfOk r (λ c. Spells words (task_of c))
+asked_task words app k (Ok c) is kinds asks =
+    asked (task_of c) (subst (λ (a : App). is_simple_and_free a ≡ true → (k ≡ kind.OutOfMemory) ⊎ IsAmong k (fault_of a words)) is kinds as4_is_simple_and_free) asks
+  where
+    asked : (task : Task) → (k ≡ kind.OutOfMemory) ⊎ IsAmong k (fault_of as4 words) → Asks k task → Spells words task
+    asked task (inl out) (inl asks) = cc (out, asks.1)
+    asked task (inl out) (inr asks) = cc (out, asks.1)
+    asked task (inr among) (inl asks) =
+        subst (Spells words) (sym asks.0) (subst (λ (j : ErrorKind). fault_of as4 words ≡ j ∷ []) asks.1
+        (alone k words (λ e. cc (e, asks.1)) (λ e. cc (e, asks.1)) among))
+    asked task (inr among) (inr asks) =
+        subst (Spells words) (sym asks.0) (subst (λ (j : ErrorKind). fault_of as4 words ≡ j ∷ []) asks.1
+        (alone k words (λ e. cc (e, asks.1)) (λ e. cc (e, asks.1)) among))
+asked_task words app k (Err e) is kinds asks = tt
+
+pub only_asked : (words : List (List ℕ)) (app : App) (k : ErrorKind) (r : Result Command WordsRefusal) → app ≡ as4
+    → (is_simple_and_free app ≡ true → (k ≡ kind.OutOfMemory) ⊎ IsAmong k (fault_of app words))
+    → ((task : Task) → Asks k task → MatchResult r (λ c. task_of c ≡ task) (λ e. e ≡ refusal.NoMemory))
+    → (k ≡ kind.OutOfMemory → r ≡ Err refusal.NoMemory)
+    → (task : Task) → Spells words task → MatchResult r (λ c. task_of c ≡ task) (λ e. e ≡ refusal.NoMemory)
+only_asked words app k r is kinds only memory task spells =
+    go task (subst (λ (a : App). is_simple_and_free a ≡ true → (k ≡ kind.OutOfMemory) ⊎ IsAmong k (fault_of a words)) is kinds as4_is_simple_and_free) spells
+  where
+    Wants : Task → Type 0
+    Wants task = MatchResult r (λ c. task_of c ≡ task) (λ e. e ≡ refusal.NoMemory)
+
+    out_of : (task : Task) → k ≡ kind.OutOfMemory → Wants task
+    out_of task out = subst (λ (q : Result Command WordsRefusal). MatchResult q (λ c. task_of c ≡ task) (λ e. e ≡ refusal.NoMemory)) (sym (memory out)) refl
+
+    right : (task : Task) → (k ≡ kind.OutOfMemory) ⊎ IsAmong k (fault_of as4 words) → fault_of as4 words ≡ [] → Wants task
+    right task (inl out) none = out_of task out
+    right task (inr among) none = absurd (subst (IsAmong k) none among)
+
+    one : (task : Task) (j : ErrorKind) → (k ≡ j → Asks k task) → (k ≡ kind.OutOfMemory) ⊎ IsAmong k (fault_of as4 words)
+        → fault_of as4 words ≡ j ∷ [] → Wants task
+    one task j asks (inl out) is = out_of task out
+    one task j asks (inr among) is = first (subst (IsAmong k) is among)
+      where
+        first : IsAmong k (j ∷ []) → Wants task
+        first (inl same) = only task (asks same)
+        first (inr none) = absurd none
+
+    go : (task : Task) → (k ≡ kind.OutOfMemory) ⊎ IsAmong k (fault_of as4 words) → Spells words task → Wants task
+    go help has spells = one help kind.DisplayHelp (λ same. inl (refl, same)) has spells
+    go version has spells = one version kind.DisplayVersion (λ same. inr (refl, same)) has spells
+    go (answer stamp nonce) has spells = right (answer stamp nonce) has spells.1.right
+    go check has spells = right check has spells.1.right
+    go drill has spells = right drill has spells.1.right
+    go (generate seed count) has spells = right (generate seed count) has spells.1.right
+    go (handler modes journal peer local workers turns) has spells = right (handler modes journal peer local workers turns) has spells.1.right
+    go (submit local mode conversation media) has spells = right (submit local mode conversation media) has spells.1.right
+    go (collect local first count folder) has spells = right (collect local first count folder) has spells.1.right
+
+-- one text more, that of the next word
+pub texts_more : (words : List (List ℕ)) (texts later : List (Bor (List ℕ))) (i : ℕ) (word : List ℕ) (text : Bor (List ℕ))
+    → i < length words → word ≡ get_or words i word → later ≡ texts ++ text ∷ [] → text.now ≡ word → IsUtf8 word
+    → (map (λ t. t.now) texts ≡ take i words) × All IsUtf8 (take i words)
+    → (map (λ t. t.now) later ≡ take (i + 1) words) × All IsUtf8 (take (i + 1) words)
+texts_more words texts later i word text within is pushed says utf8 kept = (
+  ap (map (λ t. t.now)) pushed ∙ (map-append (λ (t : Bor (List ℕ)). t.now) texts (text ∷ [])
+      ∙ (ap (λ (l : List (List ℕ)). l ++ text.now ∷ []) kept.0
+      ∙ (ap (λ (w : List ℕ). take i words ++ w ∷ []) (says ∙ is) ∙ sym (take_more words i word within)))),
+  All-more IsUtf8 words i word within kept.1 (subst IsUtf8 is utf8),
+)
+
+pub none_is_some : (task : Task) → None ≡ Some task → ⊥
+none_is_some task same = cc same
+
+-- the numbers of a task that is spelled are within their bounds
+pub spelled_within : (words : List (List ℕ)) (task : Task) → Spells words task → IsWithin task
+spelled_within words help spells = tt
+spelled_within words version spells = tt
+spelled_within words (answer stamp nonce) spells = spells.2.2
+spelled_within words check spells = tt
+spelled_within words drill spells = tt
+spelled_within words (generate seed count) spells = spells.2.2
+spelled_within words (handler modes journal peer local workers turns) spells = tt
+spelled_within words (submit local mode conversation media) spells = tt
+spelled_within words (collect local first count folder) spells = (spells.2.1.1, spells.2.2.1)
+
+-- a number of 128 bits has at most 64 digits
+short : (n : ℕ) → n < 2 ^ 128 → n < 10 ^ 64
+short n small = omega arith
+
+-- different numbers have different decimal texts
+decimal_once : (m n : ℕ) → m < 2 ^ 128 → n < 2 ^ 128 → decimal m ≡ decimal n → m ≡ n
+decimal_once m n small_m small_n printed =
+    sym (decimal_is_IsNumeral_wide m (short m small_m)).1 ∙ ap (digits_value 10) printed ∙ (decimal_is_IsNumeral_wide n (short n small_n)).1
+
+text_once : (o : Option (List ℕ)) (one other : List ℕ) → o ≡ Some one → o ≡ Some other → one ≡ other
+text_once o one other first second = ap (λ (q : Option (List ℕ)). unwrap_or q one) (sym first ∙ second)
+
+number_once : (o : Option (List ℕ)) (one other : ℕ) → o ≡ Some (decimal one) → o ≡ Some (decimal other) → one < 2 ^ 128 → other < 2 ^ 128 → one ≡ other
+number_once o one other first second small also = decimal_once one other small also (text_once o (decimal one) (decimal other) first second)
+
+workers_once : (o : Option (List ℕ)) (one other : ℕ) → IsWorkers o one → IsWorkers o other → one ≡ other
+workers_once None one other first second = first ∙ sym second
+workers_once (Some text) one other first second =
+    decimal_once one other (omega (arith, first.2)) (omega (arith, second.2)) (sym first.0 ∙ second.0)
+
+turns_once : (o : Option (List ℕ)) (one other : ℕ) → IsTurns o one → IsTurns o other → one ≡ other
+turns_once None one other first second = first ∙ sym second
+turns_once (Some text) one other first second =
+    decimal_once one other (omega (arith, first.1)) (omega (arith, second.1)) (sym first.0 ∙ second.0)
+
+two_once : (o : Option (List (List ℕ))) (a b c d : List ℕ) → o ≡ Some (a ∷ b ∷ []) → o ≡ Some (c ∷ d ∷ []) → (a ≡ c) × (b ≡ d)
+two_once o a b c d first second =
+    let lists : a ∷ b ∷ [] ≡ c ∷ d ∷ [] = ap (λ (q : Option (List (List ℕ))). unwrap_or q (a ∷ b ∷ [])) (sym first ∙ second) in
+    (ap (λ (l : List (List ℕ)). get_or l 0 a) lists, ap (λ (l : List (List ℕ)). get_or l 1 b) lists)
+
+-- the same words have one name and one list of values
+same_name : (words : List (List ℕ)) (a b : List ℕ) (rows others : List Row) → Names words a rows → Names words b others → (b ≡ a) × (others ≡ rows)
+same_name words a b rows others first second =
+    let pairs : (b, others) ≡ (a, rows) = ap (λ (q : Option (List ℕ × List Row)). unwrap_or q (b, others)) (sym second.named ∙ first.named) in
+    (ap (λ (q : List ℕ × List Row). q.0) pairs, ap (λ (q : List ℕ × List Row). q.1) pairs)
+
+-- words that `clap` takes spell their task by the name and the values of its command
+reads_of : (words : List (List ℕ)) (task : Task) → fault_of as4 words ≡ [] → Spells words task
+    → (rows : List Row) × Names words (name_of task) rows × Gives rows task
+reads_of words help right spells = cc (right, spells)
+reads_of words version right spells = cc (right, spells)
+reads_of words (answer stamp nonce) right spells = spells
+reads_of words check right spells = spells
+reads_of words drill right spells = spells
+reads_of words (generate seed count) right spells = spells
+reads_of words (handler modes journal peer local workers turns) right spells = spells
+reads_of words (submit local mode conversation media) right spells = spells
+reads_of words (collect local first count folder) right spells = spells
+
+-- words spell at most one task
+pub spells_once : (words : List (List ℕ)) (one other : Task) → Spells words one → Spells words other → one ≡ other
+spells_once words help help first second = refl
+spells_once words help version first second = cc (first, second)
+spells_once words help (answer stamp nonce) first second = cc (first, second.1.right)
+spells_once words help check first second = cc (first, second.1.right)
+spells_once words help drill first second = cc (first, second.1.right)
+spells_once words help (generate seed count) first second = cc (first, second.1.right)
+spells_once words help (handler modes journal peer local workers turns) first second = cc (first, second.1.right)
+spells_once words help (submit local mode conversation media) first second = cc (first, second.1.right)
+spells_once words help (collect local start count folder) first second = cc (first, second.1.right)
+spells_once words version help first second = cc (first, second)
+spells_once words version version first second = refl
+spells_once words version (answer stamp nonce) first second = cc (first, second.1.right)
+spells_once words version check first second = cc (first, second.1.right)
+spells_once words version drill first second = cc (first, second.1.right)
+spells_once words version (generate seed count) first second = cc (first, second.1.right)
+spells_once words version (handler modes journal peer local workers turns) first second = cc (first, second.1.right)
+spells_once words version (submit local mode conversation media) first second = cc (first, second.1.right)
+spells_once words version (collect local start count folder) first second = cc (first, second.1.right)
+spells_once words (answer stamp nonce) other first second =
+    let reads = reads_of words other first.1.right second in
+    let same = same_name words (codes "answer") (name_of other) first.0 reads.0 first.1 reads.1 in
+    only_answer first.0 (λ t. answer stamp nonce ≡ t)
+    (λ stamp2 nonce2 gives.
+    let stamps : stamp ≡ stamp2 = number_once (first_of (codes "STAMP") first.0) stamp stamp2 first.2.0 gives.0 (omega (arith, first.2.2)) (omega (arith, gives.2)) in
+    let nonces : nonce ≡ nonce2 = number_once (first_of (codes "NONCE") first.0) nonce nonce2 first.2.1 gives.1 first.2.3 gives.3 in
+    cc (stamps, nonces))
+    other same.0 (subst (λ (rows : List Row). Gives rows other) same.1 reads.2)
+spells_once words check other first second =
+    let reads = reads_of words other first.1.right second in
+    let same = same_name words (codes "check") (name_of other) first.0 reads.0 first.1 reads.1 in
+    only_check first.0 (λ t. check ≡ t)
+    (λ gives. refl)
+    other same.0 (subst (λ (rows : List Row). Gives rows other) same.1 reads.2)
+spells_once words drill other first second =
+    let reads = reads_of words other first.1.right second in
+    let same = same_name words (codes "drill") (name_of other) first.0 reads.0 first.1 reads.1 in
+    only_drill first.0 (λ t. drill ≡ t)
+    (λ gives. refl)
+    (λ seed2 count2 gives. cc (first.2, gives.0))
+    other same.0 (subst (λ (rows : List Row). Gives rows other) same.1 reads.2)
+spells_once words (generate seed count) other first second =
+    let reads = reads_of words other first.1.right second in
+    let same = same_name words (codes "drill") (name_of other) first.0 reads.0 first.1 reads.1 in
+    only_drill first.0 (λ t. generate seed count ≡ t)
+    (λ gives. cc (first.2.0, gives))
+    (λ seed2 count2 gives.
+    let both = two_once (all_of (codes "generate") first.0) (decimal seed) (decimal count) (decimal seed2) (decimal count2) first.2.0 gives.0 in
+    let seeds : seed ≡ seed2 = decimal_once seed seed2 (omega (arith, first.2.1)) (omega (arith, gives.1)) both.0 in
+    let counts : count ≡ count2 = decimal_once count count2 (omega (arith, first.2.2)) (omega (arith, gives.2)) both.1 in
+    cc (seeds, counts))
+    other same.0 (subst (λ (rows : List Row). Gives rows other) same.1 reads.2)
+spells_once words (handler modes journal peer local workers turns) other first second =
+    let reads = reads_of words other first.1.right second in
+    let same = same_name words (codes "handler") (name_of other) first.0 reads.0 first.1 reads.1 in
+    only_handler first.0 (λ t. handler modes journal peer local workers turns ≡ t)
+    (λ modes2 journal2 peer2 local2 workers2 turns2 gives.
+    let modes_same = text_once (first_of (codes "MODES") first.0) modes modes2 first.2.0.0 gives.0.0 in
+    let journal_same = text_once (first_of (codes "JOURNAL") first.0) journal journal2 first.2.0.1 gives.0.1 in
+    let peer_same = text_once (first_of (codes "PEER") first.0) peer peer2 first.2.1.0 gives.1.0 in
+    let local_same = text_once (first_of (codes "LOCAL") first.0) local local2 first.2.2.0 gives.2.0 in
+    let workers_same = workers_once (first_of (codes "workers") first.0) workers workers2 first.2.3 gives.3 in
+    let turns_same = turns_once (first_of (codes "turns") first.0) turns turns2 first.2.4 gives.4 in
+    cc (modes_same, journal_same, peer_same, local_same, workers_same, turns_same))
+    other same.0 (subst (λ (rows : List Row). Gives rows other) same.1 reads.2)
+spells_once words (submit local mode conversation media) other first second =
+    let reads = reads_of words other first.1.right second in
+    let same = same_name words (codes "submit") (name_of other) first.0 reads.0 first.1 reads.1 in
+    only_submit first.0 (λ t. submit local mode conversation media ≡ t)
+    (λ local2 mode2 conversation2 media2 gives.
+    let local_same = text_once (first_of (codes "LOCAL") first.0) local local2 first.2.0.0 gives.0.0 in
+    let mode_same = text_once (first_of (codes "MODE") first.0) mode mode2 first.2.1.0 gives.1.0 in
+    let conversation_same = text_once (first_of (codes "CONVERSATION") first.0) conversation conversation2 first.2.2.0 gives.2.0 in
+    let media_same = text_once (first_of (codes "MEDIA") first.0) media media2 first.2.3.0 gives.3.0 in
+    cc (local_same, mode_same, conversation_same, media_same))
+    other same.0 (subst (λ (rows : List Row). Gives rows other) same.1 reads.2)
+spells_once words (collect local first count folder) other spells second =
+    let reads = reads_of words other spells.1.right second in
+    let same = same_name words (codes "collect") (name_of other) spells.0 reads.0 spells.1 reads.1 in
+    only_collect spells.0 (λ t. collect local first count folder ≡ t)
+    (λ local2 first2 count2 folder2 gives.
+    let local_same = text_once (first_of (codes "LOCAL") spells.0) local local2 spells.2.0.0 gives.0.0 in
+    let first_same = number_once (first_of (codes "FIRST") spells.0) first first2 spells.2.1.0 gives.1.0 (omega (arith, spells.2.1.1)) (omega (arith, gives.1.1)) in
+    let count_same = number_once (first_of (codes "COUNT") spells.0) count count2 spells.2.2.0 gives.2.0 (omega (arith, spells.2.2.1)) (omega (arith, gives.2.1)) in
+    let folder_same = text_once (first_of (codes "FOLDER") spells.0) folder folder2 spells.2.3 gives.3 in
+    cc (local_same, first_same, count_same, folder_same))
+    other same.0 (subst (λ (rows : List Row). Gives rows other) same.1 reads.2)
+
+-- the one word for the help, and that for the version
+pub help_is_spelled : Spells (codes "--help" ∷ []) help
+unfolding clap_on_literals
+help_is_spelled = refl
+
+pub version_is_spelled : Spells (codes "--version" ∷ []) version
+unfolding clap_on_literals
+version_is_spelled = refl
+
+-- one text alone
+all_one : (word : List ℕ) → IsUtf8 word → All IsUtf8 (word ∷ [])
+all_one word is zero d within = is
+all_one word is (suc k) d within = absurd (omega (arith, within))
+
+-- a list of length one consists of its item
+one_item : (words : List (List ℕ)) (word : List ℕ) → length words ≡ 1 → word ≡ get_or words 0 word → words ≡ word ∷ []
+one_item [] word one first = absurd (omega (arith, one))
+one_item (a ∷ []) word one first = ap (λ (w : List ℕ). w ∷ []) (sym first)
+one_item (a ∷ b ∷ rest) word one first = absurd (omega (arith, one))
+
+pub text_found : (words : List (List ℕ)) (word text : List ℕ) (task : Task) → length words ≡ 1 → word ≡ get_or words 0 word → word ≡ text
+    → IsUtf8 text → Spells (text ∷ []) task → All IsUtf8 words × Spells words task
+text_found words word text task one first same utf8 spells =
+    let words_are : words ≡ text ∷ [] = one_item words word one first ∙ ap (λ (w : List ℕ). w ∷ []) same in (
+      subst (All IsUtf8) (sym words_are) (all_one text utf8),
+      subst (λ (ws : List (List ℕ)). Spells ws task) (sym words_are) spells,
+    )

@@ -1,0 +1,16 @@
+use Rattle.std.proofs.Common.{◌≡◌, codes, option_map, Some}
+use Rattle.clap.specs.Matches.{found_of}
+use Rattle.clap.specs.Walk.{rows_of}
+use Rattle.as4_tool.specs.Command.{name_of, task_of}
+use Rattle.as4_tool.proofs.TaskLemmas.{only_collect, only_handler}
+use Rattle.as4_tool.proofs.command.named.Goals as goal
+
+pub returns-in-handler-clause-only : goal.returns-in-handler-clause-only
+returns-in-handler-clause-only c task named =
+    let called : name_of task ≡ codes "handler" = cc in
+    only_handler (rows_of (found_of c.args.found.now)) (λ t. option_map task_of c.handler_of.result ≡ Some t) c.handler_of.ensures.only task called
+
+pub returns-in-collect-clause-only : goal.returns-in-collect-clause-only
+returns-in-collect-clause-only c task named =
+    let called : name_of task ≡ codes "collect" = cc in
+    only_collect (rows_of (found_of c.args.found.now)) (λ t. option_map task_of c.collect_of.result ≡ Some t) c.collect_of.ensures.only task called

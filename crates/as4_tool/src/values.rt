@@ -1,0 +1,215 @@
+//! The values of each command.
+ghost use Rattle.std.specs.Prelude.{◌≡◌, ◌≤◌, ◌↔◌, ◌∷◌, [], ℕ, List, Option, None, Some, IfSome, IsSomeAnd, IsTrue, codes, length, map, option_map};
+ghost use Rattle.std.specs.Fmt.{decimal};
+ghost use Rattle.clap.specs.Matches.{found_of};
+ghost use Rattle.clap.specs.Walk.{all_of, first_of, rows_of};
+ghost use Rattle.as4_values.specs.Payload.{is_media_text};
+ghost use Rattle.as4_tool.specs.Command.{Gives, IsCount, IsMode, IsService, IsWorkers, IsTurns, Task, name_of, task_of};
+
+use crate::command::{Collection, Command, MAX_COUNT, Service, Submission};
+use crate::numbers::{number_within, wide_number};
+use crate::services::is_service;
+use as4_values::{MAX_MOMENT, is_media_text};
+use clap::ArgMatches;
+
+/// The most turns of a worker, and the greatest number of an entry: 2^63.
+const MOST: u64 = 9_223_372_036_854_775_808;
+
+const _: () = prove!(MOST == 9223372036854775808);
+
+/// Reads the values of `answer`.
+pub(crate) fn answer_of<'a>(found: &ArgMatches<'a>) -> Option<Command<'a>>
+    ensures found { IfSome result (λ c. (name_of (task_of c) ≡ codes "answer") × Gives (rows_of (found_of found.now)) (task_of c)) }
+    ensures only { (stamp nonce : ℕ) → Gives (rows_of (found_of found.now)) (Task.answer stamp nonce)
+        → option_map task_of result ≡ Some (Task.answer stamp nonce) }
+{
+    let stamp = number_within(text_in(found, "STAMP")?, MAX_MOMENT)?;
+    let nonce = wide_number(text_in(found, "NONCE")?)?;
+    Some(Command::Answer { stamp, nonce })
+}
+
+/// Reads the values of `drill`.
+pub(crate) fn drill_of<'a>(found: &ArgMatches<'a>) -> Option<Command<'a>>
+    ensures found { IfSome result (λ c. (name_of (task_of c) ≡ codes "drill") × Gives (rows_of (found_of found.now)) (task_of c)) }
+    ensures script { Gives (rows_of (found_of found.now)) Task.drill → option_map task_of result ≡ Some Task.drill }
+    ensures only { (seed count : ℕ) → Gives (rows_of (found_of found.now)) (Task.generate seed count)
+        → option_map task_of result ≡ Some (Task.generate seed count) }
+{
+    match texts_in(found, "generate") {
+        None => Some(Command::Drill),
+        Some(values) => {
+            let (seed, count) = two_of(values)?;
+            let seed = number_within(seed, u64::MAX)?;
+            let count = number_within(count, MAX_COUNT)?;
+            Some(Command::Generate { seed, count })
+        }
+    }
+}
+
+/// Reads the values of `handler`.
+pub(crate) fn handler_of<'a>(found: &ArgMatches<'a>) -> Option<Command<'a>>
+    ensures found { IfSome result (λ c. (name_of (task_of c) ≡ codes "handler") × Gives (rows_of (found_of found.now)) (task_of c)) }
+    ensures only { (modes journal peer local : List ℕ) (workers turns : ℕ)
+        → Gives (rows_of (found_of found.now)) (Task.handler modes journal peer local workers turns)
+        → option_map task_of result ≡ Some (Task.handler modes journal peer local workers turns) }
+{
+    let modes = text_in(found, "MODES")?;
+    let journal = text_in(found, "JOURNAL")?;
+    let peer = service_in(found, "PEER")?;
+    let local = service_in(found, "LOCAL")?;
+    let workers = workers_of(text_in(found, "workers"))?;
+    let turns = turns_of(text_in(found, "turns"))?;
+    Some(Command::Handler(Service {
+        modes,
+        journal,
+        peer,
+        local,
+        workers,
+        turns,
+    }))
+}
+
+// The number of workers, 4 if none is given.
+fn workers_of(text: Option<&str>) -> Option<u64>
+    ensures found { IfSome result (IsWorkers (option_map (λ s. s.now) text.entry)) }
+    ensures only { (n : ℕ) → IsWorkers (option_map (λ s. s.now) text.entry) n → result ≡ Some n }
+{
+    let Some(text) = text else {
+        return Some(4);
+    };
+    let workers = number_within(text, 11)?;
+    if workers == 0 {
+        return None;
+    }
+    Some(workers)
+}
+
+// The turns of each worker, 2^63 if none are given.
+fn turns_of(text: Option<&str>) -> Option<u64>
+    ensures found { IfSome result (IsTurns (option_map (λ s. s.now) text.entry)) }
+    ensures only { (n : ℕ) → IsTurns (option_map (λ s. s.now) text.entry) n → result ≡ Some n }
+{
+    match text {
+        Some(text) => number_within(text, MOST),
+        None => Some(MOST),
+    }
+}
+
+/// Reads the values of `submit`.
+pub(crate) fn submit_of<'a>(found: &ArgMatches<'a>) -> Option<Command<'a>>
+    ensures found { IfSome result (λ c. (name_of (task_of c) ≡ codes "submit") × Gives (rows_of (found_of found.now)) (task_of c)) }
+    ensures only { (local mode conversation media : List ℕ) → Gives (rows_of (found_of found.now)) (Task.submit local mode conversation media)
+        → option_map task_of result ≡ Some (Task.submit local mode conversation media) }
+{
+    let local = service_in(found, "LOCAL")?;
+    let mode = mode_in(found)?;
+    let conversation = conversation_in(found)?;
+    let media = media_in(found)?;
+    Some(Command::Submit(Submission {
+        local,
+        mode,
+        conversation,
+        media,
+    }))
+}
+
+fn mode_in<'a>(found: &ArgMatches<'a>) -> Option<&'a str>
+    ensures found { IfSome result (λ s. (first_of (codes "MODE") (rows_of (found_of found.now)) ≡ Some s.now) × IsMode s.now) }
+    ensures only { (mode : List ℕ) → first_of (codes "MODE") (rows_of (found_of found.now)) ≡ Some mode → IsMode mode
+        → option_map (λ s. s.now) result ≡ Some mode }
+{
+    let mode = text_in(found, "MODE")?;
+    if mode.is_empty() || mode.len() > 255 {
+        return None;
+    }
+    Some(mode)
+}
+
+fn conversation_in<'a>(found: &ArgMatches<'a>) -> Option<&'a str>
+    ensures found { IfSome result (λ s. (first_of (codes "CONVERSATION") (rows_of (found_of found.now)) ≡ Some s.now) × (length s.now ≤ 255)) }
+    ensures only { (text : List ℕ) → first_of (codes "CONVERSATION") (rows_of (found_of found.now)) ≡ Some text → length text ≤ 255
+        → option_map (λ s. s.now) result ≡ Some text }
+{
+    let conversation = text_in(found, "CONVERSATION")?;
+    if conversation.len() > 255 {
+        return None;
+    }
+    Some(conversation)
+}
+
+fn media_in<'a>(found: &ArgMatches<'a>) -> Option<&'a str>
+    ensures found { IfSome result (λ s. (first_of (codes "MEDIA") (rows_of (found_of found.now)) ≡ Some s.now) × IsTrue (is_media_text s.now)) }
+    ensures only { (text : List ℕ) → first_of (codes "MEDIA") (rows_of (found_of found.now)) ≡ Some text → IsTrue (is_media_text text)
+        → option_map (λ s. s.now) result ≡ Some text }
+{
+    let media = text_in(found, "MEDIA")?;
+    if !is_media_text(media.as_bytes()) {
+        return None;
+    }
+    Some(media)
+}
+
+/// Reads the values of `collect`.
+pub(crate) fn collect_of<'a>(found: &ArgMatches<'a>) -> Option<Command<'a>>
+    ensures found { IfSome result (λ c. (name_of (task_of c) ≡ codes "collect") × Gives (rows_of (found_of found.now)) (task_of c)) }
+    ensures only { (local : List ℕ) (first count : ℕ) (folder : List ℕ) → Gives (rows_of (found_of found.now)) (Task.collect local first count folder)
+        → option_map task_of result ≡ Some (Task.collect local first count folder) }
+{
+    let local = service_in(found, "LOCAL")?;
+    let first = count_in(found, "FIRST")?;
+    let count = count_in(found, "COUNT")?;
+    let folder = text_in(found, "FOLDER")?;
+    Some(Command::Collect(Collection {
+        local,
+        first,
+        count,
+        folder,
+    }))
+}
+
+// The number of this name, at most 2^63.
+fn count_in<'a>(found: &ArgMatches<'a>, name: &str) -> Option<u64>
+    ensures found { IfSome result (λ n. (first_of name.now (rows_of (found_of found.now)) ≡ Some (decimal n)) × IsCount n) }
+    ensures only { (n : ℕ) → first_of name.now (rows_of (found_of found.now)) ≡ Some (decimal n) → IsCount n → result ≡ Some n }
+{
+    number_within(text_in(found, name)?, MOST)
+}
+
+// The address of a service of this name.
+fn service_in<'a>(found: &ArgMatches<'a>, name: &str) -> Option<&'a str>
+    ensures found { IfSome result (λ s. (first_of name.now (rows_of (found_of found.now)) ≡ Some s.now) × IsService s.now) }
+    ensures only { (address : List ℕ) → first_of name.now (rows_of (found_of found.now)) ≡ Some address → IsService address
+        → option_map (λ s. s.now) result ≡ Some address }
+{
+    let address = text_in(found, name)?;
+    if !is_service(address) {
+        return None;
+    }
+    Some(address)
+}
+
+// The first value of this name.
+fn text_in<'a>(found: &ArgMatches<'a>, name: &str) -> Option<&'a str>
+    ensures { option_map (λ s. s.now) result ≡ first_of name.now (rows_of (found_of found.now)) }
+{
+    found.get_str(name)
+}
+
+// The values of this name.
+fn texts_in<'a, 'b>(found: &'b ArgMatches<'a>, name: &str) -> Option<&'b [&'a str]>
+    ensures { option_map (λ s. map (λ v. v.now) s.now) result ≡ all_of name.now (rows_of (found_of found.now)) }
+{
+    found.get_strs(name)
+}
+
+// Two values.
+fn two_of<'a>(values: &[&'a str]) -> Option<(&'a str, &'a str)>
+    ensures found { IfSome result (λ p. map (λ v. v.now) values.now ≡ p.0.now ∷ p.1.now ∷ []) }
+    ensures only { (one other : List ℕ) → map (λ v. v.now) values.now ≡ one ∷ other ∷ []
+        → IsSomeAnd result (λ p. (p.0.now ≡ one) × (p.1.now ≡ other)) }
+{
+    match values {
+        [one, other] => Some((*one, *other)),
+        _ => None,
+    }
+}
