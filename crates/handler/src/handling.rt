@@ -47,7 +47,6 @@ where
     H::Time: Send,
     H::Dice: Send,
     requires peers { (1 ≤ setup.workers) × (setup.workers ≤ 11) }
-    requires turns { setup.turns ≤ 2 ^ 63 }
     ensures touches { Touches H.Host setup.entry host.old host.new }
     ensures store { LeavesStore H.Host (AreModesOf (H.file host.old setup.entry.modes.now)) setup.entry.journal.now host.old host.new }
     ensures cause { IsCause (H.file host.old setup.entry.modes.now) (Stores H.Host setup.entry.journal.now host.old)
