@@ -3,7 +3,7 @@
 #![tactic(auto)]
 
 use as4_flow::{ReaderSource, Sink, WriterSink};
-use as4_tool::{Status, run_alone};
+use as4_tool::{Status, run};
 use as4_values::{Octets, Seq};
 use host_adapters::SystemHost;
 use std::env;
@@ -21,8 +21,9 @@ fn main(rt: HostRuntime) -> ExitCode {
         return refused(&mut errors, Status::NoMemory);
     };
     let mut output = WriterSink::of(rt.stdout());
-    let mut host = SystemHost::of(rt.alloc(), rt);
-    ExitCode::from(run_alone(
+    let mut host = SystemHost::of(rt.alloc(), &rt);
+    ExitCode::from(run(
+        &rt,
         rt.alloc(),
         &words,
         &mut input,

@@ -3,9 +3,10 @@
 #![tactic(auto)]
 
 use as4_flow::{MemorySink, MemorySource};
-use as4_tool::run;
+use as4_host::{MemoryHost, Stack};
+use as4_tool::run_alone;
 use as4_values::{Octets, Seq};
-use std::alloc::AllocError;
+use std::alloc::{AllocError, Global};
 use std::process::ExitCode;
 use std::rt::Files;
 use std::{fs, io};
@@ -61,6 +62,20 @@ fn writes<R: AllocGlobal>(
     let mut input = MemorySource::of(file, Vec::new(rt.alloc()), Vec::new(rt.alloc()));
     let mut output = MemorySink::of(rt.alloc(), Vec::new(rt.alloc()), Vec::new(rt.alloc()));
     let mut errors = MemorySink::of(rt.alloc(), Vec::new(rt.alloc()), Vec::new(rt.alloc()));
-    let status = run(rt.alloc(), &words, &mut input, &mut output, &mut errors);
+    let mut host = host_of(rt.alloc())?;
+    let status = run_alone(
+        rt.alloc(),
+        &words,
+        &mut input,
+        &mut output,
+        &mut errors,
+        &mut host,
+    );
     Ok(status == 0 && output.bytes() == text && errors.bytes().is_empty())
+}
+
+// A host with nothing in it: no example asks it for anything.
+fn host_of(alloc: Global) -> Result<MemoryHost, AllocError> {
+    let answers = Stack::of(alloc, Seq::of(Vec::new(alloc))).map_err(|_| AllocError)?;
+    Ok(MemoryHost::of(alloc, answers, Vec::new(alloc)))
 }

@@ -1,5 +1,5 @@
 -- Which tasks a command of this name does, and the words that spell them.
-use Rattle.std.proofs.Common.{◌≡◌, ◌≢◌, ◌⊎◌, inl, inr, ℕ, zero, suc, List, [], ◌∷◌, Option, Some, None, option_map, get_or, codes, refl, sym, ◌∙◌, ap, subst, arith, Bor, map, take, ◌++◌, ◌+◌, ◌<◌, length, ◌^◌, unwrap_or}
+use Rattle.std.proofs.Common.{◌≡◌, ◌≢◌, ◌⊎◌, inl, inr, ℕ, zero, suc, List, [], ◌∷◌, Option, Some, None, option_map, get_or, codes, refl, sym, ◌∙◌, ap, subst, arith, Bor, map, take, ◌++◌, ◌+◌, ◌<◌, ◌≤◌, length, ◌^◌, unwrap_or}
 use Rattle.std.proofs.lemmas.List.{map-append, take_more}
 use Rattle.std.proofs.lemmas.List.Elements.{All-more}
 use Rattle.std.specs.List.{All}
@@ -223,6 +223,11 @@ texts_more words texts later i word text within is pushed says utf8 kept = (
 pub none_is_some : (task : Task) → None ≡ Some task → ⊥
 none_is_some task same = cc same
 
+-- a number of workers is within its bounds
+workers_within : (text : Option (List ℕ)) (n : ℕ) → IsWorkers text n → (1 ≤ n) × (n ≤ 11)
+workers_within None n is = (omega (arith, is), omega (arith, is))
+workers_within (Some text) n is = (is.1, is.2)
+
 -- the numbers of a task that is spelled are within their bounds
 pub spelled_within : (words : List (List ℕ)) (task : Task) → Spells words task → IsWithin task
 spelled_within words help spells = tt
@@ -231,7 +236,8 @@ spelled_within words (answer stamp nonce) spells = spells.2.2
 spelled_within words check spells = tt
 spelled_within words drill spells = tt
 spelled_within words (generate seed count) spells = spells.2.2
-spelled_within words (handler modes journal peer local workers turns) spells = tt
+spelled_within words (handler modes journal peer local workers turns) spells =
+    workers_within (first_of (codes "workers") spells.0) workers spells.2.3
 spelled_within words (submit local mode conversation media) spells = tt
 spelled_within words (collect local first count folder) spells = (spells.2.1.1, spells.2.2.1)
 

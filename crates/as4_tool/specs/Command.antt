@@ -116,6 +116,7 @@ Spells words task = (rows : List Row) × Names words (name_of task) rows × Give
 abbrev pub IsWithin : Task → Type 0
 IsWithin (answer stamp nonce) = stamp ≤ MAX_MOMENT
 IsWithin (generate seed count) = count ≤ 1000
+IsWithin (handler modes journal peer local workers turns) = (1 ≤ workers) × (workers ≤ 11)
 IsWithin (collect local first count folder) = IsCount first × IsCount count
 IsWithin other = Unit {0}
 

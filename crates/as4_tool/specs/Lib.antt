@@ -6,3 +6,4 @@ pub mod Answer
 pub mod Status
 pub mod Ends
 pub mod Runs
+pub mod Service

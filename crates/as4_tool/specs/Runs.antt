@@ -80,7 +80,7 @@ ShowsFaults (submit_end.Accepted text) status faults later = TellsFaults WriteFa
 ShowsFaults (submit_end.Refused number text) status faults later = TellsFaults WriteFault (code_of status) faults later
 ShowsFaults other status faults later = later ≡ faults
 
-module _ {H Store Door DoorIn DoorOut Dialer DialerIn DialerOut Time Dice : Type 0} (M : HostMeaning H Store Door DoorIn DoorOut Dialer DialerIn DialerOut Time Dice)
+module _ {H Store Door Dialer Time Dice DoorIn DoorOut DialerIn DialerOut : Type 0} (M : HostMeaning H Store Door Dialer Time Dice DoorIn DoorOut DialerIn DialerOut)
     {L In Out : Type 0} (K : LinkMeaning L In Out) where
   -- the input is within the limit and was read to its end, and was submitted once
   pub record SubmitsInput (local mode conversation media : List ℕ) (status : Status) (streams : Streams) (old new : H) : Type 0 where
@@ -129,7 +129,7 @@ LeavesInput (handler modes journal peer local workers turns) input later = later
 LeavesInput other input later = Unit {0}
 
 module _ {I O : Type 0} (S : SourceMeaning I) (W : SinkMeaning O)
-    {H Store Door DoorIn DoorOut Dialer DialerIn DialerOut Time Dice : Type 0} (M : HostMeaning H Store Door DoorIn DoorOut Dialer DialerIn DialerOut Time Dice)
+    {H Store Door Dialer Time Dice DoorIn DoorOut DialerIn DialerOut : Type 0} (M : HostMeaning H Store Door Dialer Time Dice DoorIn DoorOut DialerIn DialerOut)
     {L In Out : Type 0} (K : LinkMeaning L In Out) where
   -- what a run of each task does
   abbrev pub Does : Task → Status → I → I → O → O → H → H → Type 0

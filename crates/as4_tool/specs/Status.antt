@@ -8,6 +8,8 @@ use Rattle.clients.specs.declared.ending.CollectEnd.{CollectEnd}
 use Rattle.clients.specs.declared.ending.CollectEnd.TheVariants as collect
 use Rattle.clients.specs.declared.ending.SubmitEnd.{SubmitEnd}
 use Rattle.clients.specs.declared.ending.SubmitEnd.TheVariants as submit
+use Rattle.handler.specs.declared.ending.HandlerEnd.{HandlerEnd}
+use Rattle.handler.specs.declared.ending.HandlerEnd.TheVariants as handler
 use Rattle.as4_tool.specs.declared.command.WordsRefusal.{WordsRefusal}
 use Rattle.as4_tool.specs.declared.command.WordsRefusal.TheVariants as refusal
 use Rattle.as4_tool.specs.declared.status.Status.{Status}
@@ -88,6 +90,14 @@ status_of_collection collect.WriteFault = WriteFault
 status_of_collection collect.OutputFault = WriteFault
 status_of_collection collect.ReadFault = ReadFault
 status_of_collection collect.NoMemory = NoMemory
+
+-- the status for a handler's end
+abbrev pub status_of_handler : HandlerEnd → Status
+status_of_handler handler.Served = Done
+status_of_handler handler.NoMemory = NoMemory
+status_of_handler handler.HostFault = HostFault
+status_of_handler handler.ModesRefused = ModesRefused
+status_of_handler (handler.NotJournal at) = NotJournal at
 
 -- the status for words that no command was read from
 abbrev pub status_of_words : WordsRefusal → Status

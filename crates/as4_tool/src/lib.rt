@@ -13,6 +13,7 @@ mod numbers;
 mod parser;
 mod running;
 mod services;
+mod serving;
 mod status;
 mod submitting;
 mod texts;
@@ -26,5 +27,6 @@ pub use command::{
 pub use laws::{a_signal_has_no_answer, one_answer, one_line};
 pub use limit::LIMIT;
 pub use running::run_alone;
+pub use serving::run;
 pub use status::Status;
 pub use texts::{HELP, VERSION};

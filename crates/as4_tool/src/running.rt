@@ -81,8 +81,8 @@ fn read_and_obey<I: Source, O: Sink, H: Host>(
     }
 }
 
-// The command of the one word `--help` or `--version`.
-fn text_asked(words: &Seq<Octets>) -> Option<Command<'static>>
+/// The command of the one word `--help` or `--version`.
+pub(crate) fn text_asked(words: &Seq<Octets>) -> Option<Command<'static>>
     ensures found { IfSome result (λ c. All IsUtf8 words.now × Spells words.now (task_of c) × IsAlone (task_of c) × IsWithin (task_of c)) }
     ensures shown { IfSome result (λ c. (task_of c ≡ Task.help) ⊎ (task_of c ≡ Task.version)) }
     ensures none { IfNone result (¬ AsksForText words.now) }
@@ -99,8 +99,8 @@ fn text_asked(words: &Seq<Octets>) -> Option<Command<'static>>
     None
 }
 
-// The end of words that no command was read from.
-fn refused(refusal: WordsRefusal) -> Status
+/// The end of words that no command was read from.
+pub(crate) fn refused(refusal: WordsRefusal) -> Status
     ensures { result ≡ status_of_words refusal }
 {
     match refusal {

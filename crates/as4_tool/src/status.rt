@@ -14,6 +14,7 @@ ghost use Rattle.as4_tool.specs.Status.{Tells};
 use as4_flow::{SendFailed, Sink, send_all};
 use clients::{CollectEnd, SubmitEnd};
 use drill::DrillEnd;
+use handler::HandlerEnd;
 use itoa::Buffer;
 
 /// The end of a run.
@@ -52,7 +53,7 @@ pub enum Status {
 }
 
 impl Status {
-    ghost use Rattle.as4_tool.specs.Status.{code_of, line_of, status_of, status_of_submission, status_of_collection};
+    ghost use Rattle.as4_tool.specs.Status.{code_of, line_of, status_of, status_of_submission, status_of_collection, status_of_handler};
 
     /// The status of a drill's end.
     pub fn of_drill(end: DrillEnd) -> Status
@@ -95,6 +96,19 @@ impl Status {
             CollectEnd::WriteFault | CollectEnd::OutputFault => Status::WriteFault,
             CollectEnd::ReadFault => Status::ReadFault,
             CollectEnd::NoMemory => Status::NoMemory,
+        }
+    }
+
+    /// The status of a handler's end.
+    pub fn of_handler(end: HandlerEnd) -> Status
+        ensures { result ≡ status_of_handler end }
+    {
+        match end {
+            HandlerEnd::Served => Status::Done,
+            HandlerEnd::NoMemory => Status::NoMemory,
+            HandlerEnd::HostFault => Status::HostFault,
+            HandlerEnd::ModesRefused => Status::ModesRefused,
+            HandlerEnd::NotJournal { at } => Status::NotJournal { at },
         }
     }
 

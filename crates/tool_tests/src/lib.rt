@@ -8,6 +8,8 @@ mod drills;
 #[cfg(test)]
 mod ended;
 #[cfg(test)]
+mod handlers;
+#[cfg(test)]
 mod services;
 #[cfg(test)]
 mod statuses;
