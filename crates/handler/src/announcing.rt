@@ -11,7 +11,7 @@ use std::alloc::Global;
 /// Room for the numbers of the line and the words between them.
 const NUMBERS: usize = 128;
 
-/// The part of the line that is known before the journal is opened.
+/// The part of the line that is known before the journal is opened, with room for the rest.
 pub(crate) fn head_of(
     alloc: Global,
     peer: &str,
@@ -35,7 +35,7 @@ pub(crate) fn head_of(
     Ok(head)
 }
 
-/// Writes the line. A fault of the sink, or want of memory for the line, changes nothing.
+/// Writes the line. If the sink fails, a part of it may be missing. If memory runs out, nothing is written.
 pub(crate) fn announce<E: Sink>(errors: &mut E, head: Vec<u8>, size: u64, totals: Totals)
     ensures line { (line : List ℕ) × TakesFront line (E.taken errors.old) (E.taken errors.new) }
     ensures counted { E.faults errors.old ≤ E.faults errors.new }
@@ -48,7 +48,7 @@ pub(crate) fn announce<E: Sink>(errors: &mut E, head: Vec<u8>, size: u64, totals
     drop(line);
 }
 
-// The numbers of the line.
+// The rest of the line: the size of the journal, the submissions that are pending, and the received messages.
 fn finish(line: &mut Vec<u8>, size: u64, totals: Totals) -> Result<(), NoMemory> {
     let ended = totals
         .receipted

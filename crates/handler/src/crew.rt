@@ -31,8 +31,11 @@ const TICK_REST: u64 = 1_000;
 /// A worker's rest when it had nothing to do, in milliseconds.
 const IDLE_REST: u64 = 100;
 
-/// Hires all workers, and gives each what it works with. False if memory ran out for the door of one of them, which isn't
-/// hired then.
+/// Hires all workers, and gives each what it works with. The last two have the doors that were opened, with their
+/// guests.
+///
+/// False if memory ran out for a door that a worker shares: then fewer workers serve partners, and none should begin.
+/// The last two are hired all the same, so that the doors are given back as the others' are.
 pub(crate) fn recruit<'a, H: Host>(
     host: &mut H,
     pass: &mut Pass<'a, Call>,
@@ -84,7 +87,7 @@ fn pull<'a, H: Host>(
     }
 }
 
-// Hires this many workers that share the partners' door. False if memory ran out for the door of one of them.
+// Hires this many workers that share the partners' door. False if memory ran out for a door, and fewer were hired.
 fn share<'a, H: Host>(
     host: &mut H,
     pass: &mut Pass<'a, Call>,
@@ -111,7 +114,7 @@ fn share<'a, H: Host>(
     true
 }
 
-// Hires a worker for this job.
+// Hires a worker for this job, with a link, a clock and nonces of its own. Its pass gets one stake of the handler's.
 fn hire<'a, H: Host>(
     host: &mut H,
     pass: &mut Pass<'a, Call>,
@@ -150,7 +153,7 @@ fn rest_of(job: &Job) -> Duration {
     }
 }
 
-// Puts a worker into room that is there.
+// Appends a worker where there is room for it, so no memory is taken.
 fn put<'a, W: Drop, L: Drop, C: Drop, N: Drop>(
     crew: &mut Vec<Worker<'a, W, L, C, N>>,
     worker: Worker<'a, W, L, C, N>,

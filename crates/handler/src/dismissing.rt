@@ -10,7 +10,8 @@ use office::Call;
 use pass_book::Pass;
 use workers::{Job, Worker};
 
-/// Gives back what the workers had, and joins their passes. True if memory ran out for a turn of one of them.
+/// Gives back what the workers had, the last one's first, and joins their passes. True if memory ran out for a turn of
+/// one of them.
 pub(crate) fn dismiss<'a, H: Host>(
     host: &mut H,
     setup: Setup<'_>,

@@ -8,19 +8,21 @@ use journal::JournalFault;
 /// How a handler ended.
 #[derive(Clone, Copy, Debug, PartialEq, Eq)]
 pub enum HandlerEnd {
-    /// Each worker made its turns, or found its door closed.
+    /// Each worker made its turns, or found its door closed. Memory sufficed for each turn, and the host counted no
+    /// fault.
     Served,
-    /// Memory ran out, before the workers began or in a turn of one of them.
+    /// Memory ran out, before the workers began or in a turn of one of them. The host may have counted a fault, too.
     NoMemory,
-    /// The machine failed.
+    /// The host counted a fault: of a file, of the disk, of a door or of a link. The workers may have made all their
+    /// turns.
     HostFault,
     /// The modes file is missing, has more than 1,048,576 bytes, or isn't one.
     ModesRefused,
-    /// The journal isn't one: at this place stands no record of an endpoint.
+    /// The store isn't a journal: at this place is no record of an endpoint.
     NotJournal { at: u64 },
 }
 
-/// The end by a call of the host that wasn't done.
+/// How a handler ends if the host refuses a call.
 pub(crate) fn refused(refusal: HostRefusal) -> HandlerEnd
     ensures { result ≡ end_by refusal }
 {
@@ -30,7 +32,7 @@ pub(crate) fn refused(refusal: HostRefusal) -> HandlerEnd
     }
 }
 
-/// The end by a journal that wasn't opened.
+/// How a handler ends if its journal isn't opened.
 pub(crate) fn unopened(fault: JournalFault) -> HandlerEnd
     ensures { result ≡ end_unopened fault }
 {
@@ -41,7 +43,8 @@ pub(crate) fn unopened(fault: JournalFault) -> HandlerEnd
     }
 }
 
-/// The end, judged by the host's count of faults before and after.
+/// How a handler ends, by the host's count of faults before and after. A count at the last value of a `u64` may hide a
+/// fault, so it counts as risen.
 pub(crate) fn judged(end: HandlerEnd, before: u64, after: u64) -> HandlerEnd
     ensures { IsJudged end before after result }
 {
@@ -52,7 +55,7 @@ pub(crate) fn judged(end: HandlerEnd, before: u64, after: u64) -> HandlerEnd
     }
 }
 
-// The end if the machine failed meanwhile: want of memory comes first.
+// How a handler ends if the host counted a fault meanwhile. `NoMemory` stays.
 fn if_failed(end: HandlerEnd) -> HandlerEnd
     ensures { result ≡ if_failed end }
 {

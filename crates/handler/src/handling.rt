@@ -1,4 +1,4 @@
-//! The handler.
+//! The handler, from its modes file to its end.
 ghost use Rattle.std.specs.Prelude.{◌≡◌, ◌≢◌, ◌≤◌, ◌^◌, ℕ, List, [], Some, IfOk, length, vec_capacity};
 ghost use Rattle.as4_disk.specs.Image.{Image};
 ghost use Rattle.as4_flow.specs.Flow.{TakesFront, Told};
@@ -28,7 +28,23 @@ use std::sync::Wait;
 use std::thread::Threads;
 use stranger_laws::{what_comes_is_taken, what_is_sent_belongs_to_its_event};
 
-/// Opens its doors and its store, serves by its workers until they have made their turns, and gives everything back.
+/// Runs a message handler on a host. It reads the modes, opens its two doors and its store, compacts the journal,
+/// serves by workers until each has made its turns or found its door closed, and gives everything back to the host.
+///
+/// The workers: one pulls by each of the first two modes with `collect`, one pushes, one sets the clock, one serves
+/// local applications, and `setup.workers` serve partners.
+///
+/// Once the journal is compacted, it writes one line to `errors`: the addresses, the journal and its size, and how many
+/// messages are pending and how many were received. It writes nothing else. If `errors` fails, it serves all the same.
+///
+/// `delivers` says where the messages of the guests are after a handler that `Served`. Its premises: the host is
+/// observable (its guests and its store can be named); none of the host's counts has risen, so no door, link, stream or
+/// disk has failed; the addresses are different, since at one address the second door gets no guests; `setup.turns` is
+/// at most 2^49, so that the history can't become full.
+///
+/// Every other end is an error, and [`HandlerEnd`] has its cause. What was opened is given back then, too. With
+/// `ModesRefused` and `NotJournal` no worker began. With `NoMemory` and `HostFault` the workers may have served: what
+/// they answered is in the store, and a new handler goes on from there.
 pub fn handle<R: Threads + Wait + Sync, H: Host, E: Sink>(
     rt: &R,
     alloc: Global,
@@ -53,7 +69,7 @@ where
         (H.fault_count host.old) (H.fault_count host.new) result }
     ensures calm { result ≢ HandlerEnd.NoMemory → result ≢ HandlerEnd.HostFault → HasNotRisen (H.fault_count host.old) (H.fault_count host.new) }
     ensures serves { result ≡ HandlerEnd.Served → Serves H.Host H.Entrance.Door H.Dialer.Link H.Store.Disk setup.entry host.old host.new }
-    // Over an observable host on which nothing failed, all that the guests sent is in the store.
+    // Over an observable host on which nothing failed: the messages of the partners who were served are in the inbox.
     ensures delivers { result ≡ HandlerEnd.Served → IsQuiet H.Host host.old host.new → setup.entry.turns ≤ 2 ^ 49
         → setup.entry.peer.now ≢ setup.entry.local.now → (peers locals : List (List ℕ)) (before : Image)
         → H.guests host.old setup.entry.peer.now ≡ Some peers → H.guests host.old setup.entry.local.now ≡ Some locals
@@ -61,6 +77,7 @@ where
     ensures line { (line : List ℕ) × TakesFront line (E.taken errors.old) (E.taken errors.new) }
     ensures counted { E.faults errors.old ≤ E.faults errors.new }
 {
+    // Laws that the proofs of `store` and `delivers` cite. They do nothing.
     one_request();
     calls_split();
     what_came_stays_from_any_start();
@@ -75,7 +92,7 @@ where
     judged(end, before, host.faults())
 }
 
-// Takes all memory, and then opens and serves.
+// Takes the memory that the handler needs, and then opens and serves. Without that memory nothing is opened.
 fn prepare<R: Threads + Wait + Sync, H: Host, E: Sink>(
     rt: &R,
     alloc: Global,
@@ -124,7 +141,7 @@ where
     }
 }
 
-// What a handler takes memory for before it opens anything.
+// What a handler takes memory for before it opens anything. `work` uses it and takes no memory for these things.
 fn kit_of<'a, W: Drop, L: Drop, C: Drop, N: Drop>(
     alloc: Global,
     modes: &Modes,
@@ -148,7 +165,7 @@ fn kit_of<'a, W: Drop, L: Drop, C: Drop, N: Drop>(
     }
 }
 
-// A disk as it reads is one of those that a crash may leave.
+// A law: what a disk reads is one of the images that a crash may leave.
 fn a_disk_reads_what_a_crash_may_leave<D: Disk>()
     ensures { (disk : D) → Told (D.seen disk) (D.may_leave disk) }
 {}

@@ -20,7 +20,7 @@ pub(crate) const MOST_PULLED: usize = 2;
 
 const _: () = prove!(MOST_PULLED == 2);
 
-/// Reads the modes file.
+/// Reads the modes file. It is refused if it is missing, is longer than the limit, or isn't one.
 pub(crate) fn read_modes<H: Host>(
     alloc: Global,
     host: &mut H,
@@ -56,7 +56,7 @@ fn modes_or_end(read: Result<Modes, ModeRefusal>) -> Result<Modes, HandlerEnd>
     }
 }
 
-/// The names of the first modes with `collect`.
+/// The names of the first modes with `collect`, at most two.
 pub(crate) fn pulled_modes(alloc: Global, modes: &Modes) -> Result<Vec<Text>, NoMemory>
     ensures { IfOk result (λ names. names.items ≡ pulled modes.now) }
 {

@@ -1,4 +1,4 @@
-//! What a handler opens. If something isn't opened, it gives back what it has.
+//! What a handler opens. If something isn't opened, it gives back what it opened before.
 ghost use Rattle.std.specs.Prelude.{◌≡◌, ℕ, List, IfErr, IfOk};
 ghost use Rattle.handler.specs.Hosts.{AreOf, Knows, doors_of, files_of};
 ghost use Rattle.handler.specs.Opening.{FailsToOpen, OpensAll, OpensDoors, OpensOfficeOn};
@@ -25,7 +25,7 @@ pub(crate) struct Opened<'a, W, D: Disk> {
     pub(crate) pass: Pass<'a, Call>,
 }
 
-/// Opens the doors, and then the office.
+/// Opens the doors, and then the office. If the office isn't opened, the doors are given back with their guests.
 pub(crate) fn open_all<'a, H: Host>(
     alloc: Global,
     host: &mut H,
@@ -80,7 +80,7 @@ fn open_doors<H: Host>(host: &mut H, setup: Setup<'_>) -> Result<Doors<H::Entran
     }
 }
 
-// Opens the store, and the office on it.
+// Opens the store, and the office on it. If the office isn't opened, the store is given back with what its disk reads.
 fn open_office<'a, H: Host>(
     alloc: Global,
     host: &mut H,

@@ -1,4 +1,4 @@
-//! How the workers run over the opened office.
+//! How the workers run over the office that was opened.
 ghost use Rattle.std.specs.Prelude.{◌≡◌, ◌≤◌, ◌<◌, ℕ, List, [], All, length, true, slice_index_or};
 ghost use Rattle.as4_flow.specs.Flow.{TakesFront};
 ghost use Rattle.handler.specs.Crews.{AllMadeTurns};
@@ -19,18 +19,19 @@ use std::sync::{Mutex, Wait};
 use std::thread::Threads;
 use workers::{Worker, serve, workers_make_their_turns};
 
-/// How far a handler came with its opened office.
+/// How far a handler came with the office that it opened.
 #[derive(Clone, Copy, Debug, PartialEq, Eq)]
 pub(crate) enum Ran {
     /// The workers made their turns.
     Served,
-    /// Memory ran out before.
+    /// Memory ran out before the workers began: for a door that is shared, or for the compaction.
     NoMemory,
-    /// The disk failed while the journal was compacted.
+    /// The journal wasn't compacted, for another cause: the disk failed.
     DiskFault,
 }
 
-/// Runs the workers over an office that was just opened, if all of them were hired.
+/// Runs the workers over an office that was just opened, if all of them were hired. `Brand` is a type of its own for
+/// this opening, by which the shared office and the workers' contracts name it.
 pub(crate) fn run_if<
     'a,
     R: Threads + Wait + Sync,
@@ -133,7 +134,7 @@ fn ran_by(fault: OfficeFault) -> Ran
     }
 }
 
-// Runs the workers over the office under a lock.
+// Runs the workers over the office under a lock, and takes it out of the lock afterwards.
 fn run_crew<
     'a,
     R: Threads + Wait + Sync,
@@ -165,7 +166,7 @@ where
     office.into_inner().into_office()
 }
 
-// Runs the workers of a list.
+// Runs the workers of a list side by side.
 fn serve_all<
     'a,
     R: Threads + Wait + Sync,

@@ -17,9 +17,9 @@ pub struct Setup<'a> {
     pub peer: &'a str,
     /// The address at which local applications are served.
     pub local: &'a str,
-    /// How many workers serve partners.
+    /// How many workers serve partners, 1 to 11.
     pub workers: u64,
-    /// How many turns each worker makes.
+    /// How many turns each worker makes, at most 2^63.
     pub turns: u64,
 }
 

@@ -22,18 +22,18 @@ use std::sync::Wait;
 use std::thread::Threads;
 use workers::Worker;
 
-/// What a handler has taken memory for before it opens anything.
+/// What a handler takes memory for before it opens anything.
 #[derive(Drop)]
 pub(crate) struct Kit<'a, W: Drop, L: Drop, C: Drop, N: Drop> {
     /// The names of the modes by which it pulls.
     pub(crate) pulls: Vec<Text>,
-    /// The beginning of its line.
+    /// The beginning of its line, with room for the rest.
     pub(crate) head: Vec<u8>,
     /// Room for its workers.
     pub(crate) crew: Vec<Worker<'a, W, L, C, N>>,
 }
 
-/// Runs the workers, and gives everything back.
+/// Hires the workers, runs them, and gives everything back. If not all are hired, none begins.
 pub(crate) fn work<'a, R: Threads + Wait + Sync, H: Host, E: Sink>(
     rt: &R,
     alloc: Global,
