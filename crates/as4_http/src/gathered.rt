@@ -22,6 +22,9 @@ const PIECE: usize = 1 << 16;
 
 const _: () = prove!(PIECE == 65536);
 
+// The room is filled with copies of these, many bytes at a time: `resize` writes one byte after another.
+static ZEROS: [u8; PIECE] = [0; PIECE];
+
 /// Contracts see it as the bytes.
 #[derive(Drop)]
 pub(crate) struct Gathered {
@@ -133,8 +136,9 @@ fn make_room(room: &mut Vec<u8>, len: usize, most: usize) -> Result<(), AllocErr
         room.truncate(len);
         reserve(room, most)?;
     }
-    if room.len() - len < piece {
-        room.resize(len.saturating_add(piece), 0)?;
+    let held = room.len() - len;
+    if held < piece {
+        room.extend_from_slice(&ZEROS[..piece - held])?;
     }
     Ok(())
 }
