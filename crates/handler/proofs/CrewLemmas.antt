@@ -1,17 +1,17 @@
 -- What the turns of all workers add up to.
-use Rattle.std.proofs.Common.{◌≡◌, ◌≢◌, ◌⊎◌, ◌+◌, ◌*◌, ◌-◌, ◌≤◌, ◌<◌, ◌^◌, ℕ, zero, suc, Bool, true, false, List, [], ◌∷◌, ◌++◌, Option, Some, None, All, length, min, slice_index_or, refl, sym, ap, subst, ◌∙◌, inl, inr, arith, append-nil, append_assoc, suc-mul, mul-le-mul_left}
+use Rattle.std.proofs.Common.{◌≡◌, ◌≢◌, ◌⊎◌, ◌+◌, ◌*◌, ◌≤◌, ◌<◌, ℕ, zero, suc, false, List, [], ◌∷◌, ◌++◌, Option, Some, None, All, length, slice_index_or, refl, sym, ap, subst, ◌∙◌, inl, inr, arith, append-nil, append_assoc, suc-mul, mul-le-mul_left}
 use Rattle.std.proofs.lemmas.List.Elements.{All-head, All-tail}
 use mathlib.Core.List.{IsPrefix}
 use Rattle.as4_doors.specs.declared.door.DoorKind.{DoorKind}
 use Rattle.as4_doors.specs.declared.door.DoorKind.TheVariants as door
 use Rattle.as4_flow.specs.Flow.{one_more}
 use Rattle.as4_host.specs.Counts.{HasNotRisen, raised}
-use Rattle.as4_host.specs.Lists.{and_all, none_of}
+use Rattle.as4_host.specs.Lists.{and_all}
 use Rattle.as4_host.specs.declared.door.Door.{Ghosts as DoorMeaning}
 use Rattle.as4_host.specs.declared.host.Host.{Ghosts as HostMeaning}
 use Rattle.as4_host.specs.declared.link.Link.{Ghosts as LinkMeaning}
 use Rattle.handler.specs.Crews.{AllMadeTurns, IsAside, IsHired, MadeTurns, StandsAt}
-use Rattle.handler.specs.Dismissal.{AllRetire, Gathering, Joins, Retires, SettlesDialer, SettlesDoor, SettlesDoorIf, address_of}
+use Rattle.handler.specs.Dismissal.{AllRetire, Gathering, Retires, SettlesDialer, SettlesDoor, SettlesDoorIf, address_of}
 use Rattle.handler.specs.declared.setup.Setup.{Setup}
 use Rattle.pass_book.specs.States.{Book}
 use Rattle.pass_book.proofs.Beginnings.{prefix_self}

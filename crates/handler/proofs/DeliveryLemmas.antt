@@ -1,5 +1,5 @@
 -- What guests sent is in the inbox at the end.
-use Rattle.std.proofs.Common.{◌≡◌, ◌⊎◌, ◌≤◌, ℕ, Bool, true, false, List, [], ◌∷◌, ◌++◌, Option, Some, None, IsSome, Contains, length, refl, sym, ap, subst, ◌∙◌, inl, inr, append_assoc, arith}
+use Rattle.std.proofs.Common.{◌≡◌, ◌⊎◌, ℕ, Bool, true, List, [], ◌∷◌, ◌++◌, Option, Some, None, IsSome, Contains, refl, sym, ap, subst, ◌∙◌, inl, inr, append_assoc, arith}
 use Rattle.std.proofs.lemmas.List.Elements.{Contains-append_right}
 use Rattle.std.specs.List.{AllByRecursion}
 use Rattle.std.specs.Option.{option_or}
@@ -9,7 +9,6 @@ use Rattle.as4_disk.specs.declared.fault_counts.FaultCounts.{FaultCounts}
 use Rattle.as4_doors.specs.Asking.{AsksFor}
 use Rattle.as4_doors.specs.declared.door.DoorKind.{DoorKind}
 use Rattle.as4_doors.specs.declared.door.DoorKind.TheVariants as door
-use Rattle.as4_http.specs.Requests.{BeginsRequest}
 use Rattle.as4_http.specs.declared.message.Request.{Request}
 use Rattle.as4_values.specs.declared.header.UserHeader.{UserHeader}
 use Rattle.as4_values.specs.declared.message.Message.{Message}
@@ -40,7 +39,7 @@ use Rattle.office.specs.declared.call.Call.{Call}
 use Rattle.office.specs.declared.call.Call.TheVariants.{Done, Folded, Stop}
 use Rattle.stranger_laws.specs.Belonging.{BelongsTo}
 use Rattle.stranger_laws.specs.Taken.{IsTaken}
-use Rattle.workers.specs.Bounds.{HasEventOf, IsEntered, event_of}
+use Rattle.workers.specs.Bounds.{IsEntered, event_of}
 
 -- the laws that are cited
 pub record Laws : Type 0 where

@@ -1,10 +1,9 @@
 -- What a handler leaves, by what it did.
-use Rattle.std.proofs.Common.{◌≡◌, ◌≢◌, ◌⊎◌, ◌+◌, ◌≤◌, ◌<◌, ℕ, zero, suc, Bool, false, List, [], ◌∷◌, Option, Some, None, refl, sym, ap, subst, ◌∙◌, inl, inr, arith}
+use Rattle.std.proofs.Common.{◌≡◌, ◌≢◌, ◌≤◌, ℕ, false, List, Option, refl, sym, ap, subst, ◌∙◌, inl, inr, arith}
 use Rattle.as4_disk.specs.Image.{Image}
 use Rattle.as4_disk.specs.declared.disk.Disk.{Ghosts as DiskMeaning}
-use Rattle.as4_disk.specs.declared.part.Part.{Part}
-use Rattle.as4_flow.specs.Flow.{Rose, Told, one_more}
-use Rattle.as4_host.specs.Counts.{HasNotRisen, raised}
+use Rattle.as4_flow.specs.Flow.{Rose, Told}
+use Rattle.as4_host.specs.Counts.{HasNotRisen}
 use Rattle.as4_host.specs.Files.{bytes_in}
 use Rattle.as4_host.specs.declared.door.Door.{Ghosts as DoorMeaning}
 use Rattle.as4_host.specs.declared.host.Host.{Ghosts as HostMeaning}
@@ -13,9 +12,7 @@ use Rattle.handler.specs.Dismissal.{gathering}
 use Rattle.handler.specs.Endings.{IsCause, IsJudged, IsOpeningCause, IsReadingCause}
 use Rattle.handler.specs.Handling.{Ends, Handles, OpensAndWorks, Reads, Serves}
 use Rattle.handler.specs.Hosts.{Touches, file_of}
-use Rattle.handler.specs.Opening.{FailsToOpen}
 use Rattle.handler.specs.Stores.{AreModesOf, LeavesStore, Stores}
-use Rattle.handler.specs.Working.{Works}
 use Rattle.handler.specs.declared.ending.HandlerEnd.{HandlerEnd}
 use Rattle.handler.specs.declared.ending.HandlerEnd.TheVariants.{Served, NoMemory, HostFault, ModesRefused, NotJournal}
 use Rattle.handler.specs.declared.setup.Setup.{Setup}

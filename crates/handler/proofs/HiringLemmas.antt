@@ -1,12 +1,12 @@
 -- Workers that are hired one after another.
-use Rattle.std.proofs.Common.{◌≡◌, ◌⊎◌, ◌+◌, ◌-◌, ◌≤◌, ℕ, zero, suc, List, [], ◌∷◌, ◌++◌, Option, Some, None, All, length, map, replicate, refl, sym, ap, subst, ◌∙◌, inl, inr, arith, append_assoc, length-append}
+use Rattle.std.proofs.Common.{◌≡◌, ◌+◌, ◌-◌, ℕ, zero, suc, List, [], ◌∷◌, ◌++◌, Option, Some, None, All, length, replicate, refl, sym, ap, subst, ◌∙◌, inl, inr, arith, append_assoc, length-append}
 use Rattle.std.proofs.lemmas.List.Elements.{All-append, All-cons, All-nil}
 use Rattle.as4_doors.specs.declared.door.DoorKind.TheVariants as door
 use Rattle.as4_host.specs.Lists.{none_of}
 use Rattle.as4_host.specs.declared.door.Door.{Ghosts as DoorMeaning}
 use Rattle.handler.specs.Crews.{HiresAside, IsAside, IsCrew, IsHired, IsNew, Splits, StandsAt, jobs_in, jobs_of, pulls_by}
 use Rattle.office.specs.declared.call.Call.{Call}
-use Rattle.pass_book.specs.States.{Book, PassState}
+use Rattle.pass_book.specs.States.{PassState}
 use Rattle.workers.specs.Bounds.{door_of}
 use Rattle.workers.specs.declared.job.Job.{Job}
 use Rattle.workers.specs.declared.job.Job.TheVariants as job

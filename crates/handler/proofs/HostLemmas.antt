@@ -1,11 +1,10 @@
 -- Runs of calls on a host.
-use Rattle.std.proofs.Common.{◌≡◌, ◌≢◌, ◌⊎◌, ◌≤◌, ◌<◌, ℕ, List, [], ◌∷◌, ◌++◌, Option, Some, None, Contains, All, length, refl, sym, ap, subst, ◌∙◌, inl, inr, arith, append-nil, append_assoc, get_or}
+use Rattle.std.proofs.Common.{◌≡◌, ℕ, List, [], ◌++◌, Option, Some, None, Contains, All, refl, sym, ap, subst, ◌∙◌, arith, append-nil, append_assoc, get_or}
 use Rattle.std.proofs.lemmas.List.{get_or_default}
 use Rattle.std.proofs.lemmas.List.Elements.{All-append, All-nil, Contains-append_left, Contains-append_right}
-use Rattle.as4_disk.specs.declared.part.Part.{Part}
 use Rattle.as4_host.specs.Lists.{and_all}
 use Rattle.as4_host.specs.declared.host.Host.{Ghosts as HostMeaning}
-use Rattle.handler.specs.Hosts.{Asks, CountsOn, IsStill, Knows, Touches, file_of, words_of}
+use Rattle.handler.specs.Hosts.{Asks, CountsOn, IsStill, Knows, Touches, words_of}
 use Rattle.handler.specs.declared.setup.Setup.{Setup}
 
 and_none : (told : Option (List (List ℕ))) → and_all told (Some []) ≡ told

@@ -1,12 +1,11 @@
 -- The modes by which a handler pulls, and why it has none.
-use Rattle.std.proofs.Common.{◌≡◌, ◌≢◌, ◌⊎◌, ◌+◌, ◌≤◌, ◌<◌, ℕ, zero, suc, Bool, true, false, List, [], ◌∷◌, ◌++◌, Option, Some, None, Result, Ok, Err, IfErr, filter, length, map, slice_get, take, if◌then◌else◌, refl, sym, ap, subst, ◌∙◌, inl, inr, arith, append-nil}
+use Rattle.std.proofs.Common.{◌≡◌, ◌≢◌, ◌≤◌, ◌<◌, ℕ, zero, suc, Bool, true, false, List, [], ◌∷◌, ◌++◌, Option, Some, None, Result, Ok, Err, IfErr, filter, length, map, slice_get, take, if◌then◌else◌, refl, sym, ap, subst, ◌∙◌, inr, arith, append-nil}
 use Rattle.std.proofs.lemmas.List.{map-append}
 use Rattle.std.proofs.lemmas.List.Elements.{filter-append}
 use Rattle.as4_flow.specs.Flow.{Told}
-use Rattle.handler.specs.Endings.{EndsUnread, HasNoModes, IsReadingCause}
+use Rattle.handler.specs.Endings.{EndsUnread, IsReadingCause}
 use Rattle.handler.specs.Handling.{pulled}
 use Rattle.handler.specs.declared.ending.HandlerEnd.{HandlerEnd}
-use Rattle.handler.specs.declared.ending.HandlerEnd.TheVariants.{ModesRefused, NoMemory}
 use Rattle.mode_values.specs.declared.mode.Mode.{Mode}
 use Rattle.pmodes.specs.ModeFile.{modes_of_file}
 use Rattle.pmodes.specs.declared.refusal.ModeRefusal.{ModeRefusal}

@@ -1,17 +1,14 @@
 -- What becomes of an office that was just opened.
-use Rattle.std.proofs.Common.{◌≡◌, ◌≢◌, ◌⊎◌, ◌+◌, ◌≤◌, ◌<◌, ◌^◌, ℕ, Bool, true, false, List, [], ◌∷◌, ◌++◌, Option, Some, None, Ok, Err, length, is_some, refl, sym, ap, subst, ◌∙◌, inl, inr, arith, append-nil}
+use Rattle.std.proofs.Common.{◌≡◌, ◌⊎◌, ◌≤◌, ℕ, Bool, true, false, List, [], ◌∷◌, ◌++◌, Option, Some, None, Ok, Err, length, is_some, refl, sym, ap, subst, ◌∙◌, inl, inr, arith, append-nil}
 use Rattle.as4_disk.specs.declared.disk.Disk.{Ghosts as DiskMeaning}
-use Rattle.as4_flow.specs.Flow.{TakesFront, appended}
+use Rattle.as4_flow.specs.Flow.{TakesFront}
 use Rattle.as4_host.specs.declared.door.Door.{Ghosts as DoorMeaning}
-use Rattle.exchange_model.specs.Fold.{IsFoldedSize}
 use Rattle.handler.specs.Crews.{AllMadeTurns}
 use Rattle.handler.specs.Working.{BeginWithFold, RunsOver, ran_by}
-use Rattle.handler.specs.declared.running.Ran.{Ran}
 use Rattle.handler.specs.declared.running.Ran.TheVariants as ran
 use Rattle.office.specs.Calls.{LeadsWhere, stop_of}
 use Rattle.office.specs.Folds.{CanShorten, Checkpoints, FindsNoPayloads, IsShortEnough, Shortens, Shortening}
 use Rattle.office.specs.State.{OfficeState}
-use Rattle.office.specs.Steps.{Keeps}
 use Rattle.office.specs.declared.call.Call.{Call}
 use Rattle.office.specs.declared.call.Call.TheVariants.{Folded}
 use Rattle.office.specs.declared.fault.OfficeFault.{OfficeFault}

@@ -1,6 +1,5 @@
 -- What a handler has done that served.
-use Rattle.std.proofs.Common.{◌≡◌, ◌≢◌, ◌⊎◌, ◌+◌, ◌*◌, ◌≤◌, ◌<◌, ◌^◌, ℕ, Bool, true, false, List, [], ◌∷◌, ◌++◌, Option, Some, None, IfSome, All, length, min, is_some, refl, sym, ap, subst, ◌∙◌, inl, inr, arith, length-append, mul-le-mul_right, get_or}
-use Rattle.std.specs.List.{AllByRecursion}
+use Rattle.std.proofs.Common.{◌≡◌, ◌≢◌, ◌*◌, ◌≤◌, ◌<◌, ◌^◌, ℕ, Bool, true, false, List, [], ◌∷◌, ◌++◌, Option, Some, None, IfSome, All, length, min, is_some, refl, sym, ap, subst, ◌∙◌, inl, inr, arith, length-append, mul-le-mul_right}
 use Rattle.std.proofs.lemmas.List.{get_or_append_left}
 use Rattle.std.proofs.lemmas.List.Elements.{All-contains, Contains-append_right}
 use mathlib.Core.List.{IsPrefix}
@@ -15,15 +14,13 @@ use Rattle.as4_host.specs.Lists.{none_of}
 use Rattle.as4_host.specs.declared.door.Door.{Ghosts as DoorMeaning}
 use Rattle.as4_host.specs.declared.host.Host.{Ghosts as HostMeaning}
 use Rattle.as4_host.specs.declared.link.Link.{Ghosts as LinkMeaning}
-use Rattle.exchange_model.specs.End.{End}
 use Rattle.as4_disk.specs.declared.part.Part.{Part}
 use Rattle.as4_host.specs.Files.{bytes_in}
 use Rattle.office.specs.State.{OfficeState}
 use Rattle.handler.specs.Crews.{AllMadeTurns, IsAside, IsHired, MadeTurns}
 use Rattle.handler.specs.Dismissal.{AllRetire, Gathering, Retires, gathering}
-use Rattle.handler.specs.Handling.{OpensAndWorks, Reads, Serves, pulled}
+use Rattle.handler.specs.Handling.{Serves}
 use Rattle.handler.specs.Hosts.{CountsOn, file_of}
-use Rattle.handler.specs.Opening.{OpensAll}
 use Rattle.handler.specs.Served.{Delivers, IsQuiet, TakesGuests}
 use Rattle.handler.specs.Stores.{Stores}
 use Rattle.handler.specs.Working.{Works}
@@ -34,11 +31,10 @@ use Rattle.handler.proofs.DeliveryLemmas.{Laws, all_delivered, all_entered_on, l
 use Rattle.handler.proofs.HostLemmas.{counts_then}
 use Rattle.handler.proofs.DismissalLemmas.{all_retire_split, all_retire_touches, retires_touches}
 use Rattle.handler.proofs.StoreLemmas.{reads_stored, settled_bytes, still_seen}
-use Rattle.mode_values.specs.declared.mode.Mode.{Mode}
 use Rattle.office.specs.Calls.{LeadsWhere, stop_of}
 use Rattle.office.specs.Left.{IsLeft}
 use Rattle.office.specs.declared.call.Call.{Call}
-use Rattle.workers.specs.Bounds.{Took, IsQuiet as Quiet}
+use Rattle.workers.specs.Bounds.{IsQuiet as Quiet}
 use Rattle.workers.specs.declared.job.Worker.{Worker}
 
 -- no fault of the disk was among the calls, if the disk has not failed

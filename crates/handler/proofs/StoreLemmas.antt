@@ -1,5 +1,5 @@
 -- What becomes of a store.
-use Rattle.std.proofs.Common.{◌≡◌, ◌⊎◌, ◌≤◌, ℕ, Bool, true, false, List, Option, Some, None, is_some, option_map, refl, sym, ap, subst, ◌∙◌, inl, inr}
+use Rattle.std.proofs.Common.{◌≡◌, ◌⊎◌, ◌≤◌, ℕ, Bool, true, List, Option, Some, None, is_some, option_map, refl, ap, subst, ◌∙◌, inl, inr}
 use Rattle.std.proofs.Math.Path.{fun_ext}
 use Rattle.as4_disk.specs.Image.{Image}
 use Rattle.as4_disk.specs.Leaving.{FirstThen}
@@ -12,7 +12,7 @@ use Rattle.as4_host.specs.declared.host.Host.{Ghosts as HostMeaning}
 use Rattle.exchange_model.specs.End.{End}
 use Rattle.handler.specs.Hosts.{file_of}
 use Rattle.handler.specs.Opening.{OpensOffice, OpensStore, SettlesStore}
-use Rattle.handler.specs.Stores.{BecomesBy, BeginsWith, LeavesStore, Stores, WorksOn}
+use Rattle.handler.specs.Stores.{BecomesBy, LeavesStore, Stores}
 use Rattle.handler.specs.Working.{IsClosed}
 use Rattle.mode_values.specs.declared.mode.Mode.{Mode}
 use Rattle.msh_recovery.specs.Opens.{ReopensAs}

@@ -1,5 +1,5 @@
 -- What a handler has done with what it opened.
-use Rattle.std.proofs.Common.{◌≡◌, ◌≢◌, ◌+◌, ◌≤◌, ℕ, Bool, true, false, List, [], ◌∷◌, ◌++◌, All, refl, sym, ap, subst, ◌∙◌, append_assoc}
+use Rattle.std.proofs.Common.{◌≡◌, ℕ, Bool, true, false, List, [], ◌∷◌, ◌++◌, All, refl, sym, ap, subst, ◌∙◌}
 use Rattle.std.proofs.lemmas.List.Elements.{All-cons, All-head, All-nil, All-tail}
 use mathlib.Core.List.{IsPrefix}
 use Rattle.as4_disk.specs.declared.disk.Disk.{Ghosts as DiskMeaning}
@@ -9,7 +9,6 @@ use Rattle.as4_host.specs.declared.link.Link.{Ghosts as LinkMeaning}
 use Rattle.handler.specs.Crews.{AllMadeTurns, IsHired, IsOfBook}
 use Rattle.handler.specs.Dismissal.{AllRetire, Gathering}
 use Rattle.handler.specs.Working.{BeginWithFold, IsEndOfWork, RunsOver, end_of}
-use Rattle.handler.specs.declared.ending.HandlerEnd.{HandlerEnd}
 use Rattle.handler.specs.declared.ending.HandlerEnd.TheVariants.{Served, HostFault}
 use Rattle.handler.specs.declared.running.Ran.{Ran}
 use Rattle.handler.specs.declared.running.Ran.TheVariants as ran
@@ -17,7 +16,6 @@ use Rattle.handler.specs.declared.setup.Setup.{Setup}
 use Rattle.handler.proofs.CrewLemmas.{prefix_then}
 use Rattle.office.specs.State.{OfficeState}
 use Rattle.office.specs.declared.call.Call.{Call}
-use Rattle.office.specs.declared.call.Call.TheVariants.{Folded}
 use Rattle.pass_book.specs.States.{Book, PassState}
 use Rattle.pass_book.proofs.Beginnings.{prefix_self}
 use Rattle.workers.specs.Turns.{IsReady}

@@ -1,5 +1,5 @@
 -- How a handler gives back what its workers had.
-use Rattle.std.specs.Prelude.{◌≡◌, ◌≢◌, ◌+◌, ◌≤◌, ℕ, Bool, true, false, List, [], ◌∷◌, Option, Some, None}
+use Rattle.std.specs.Prelude.{◌≡◌, ◌≢◌, ◌+◌, ◌≤◌, ℕ, Bool, false, List, [], ◌∷◌, Option, Some, None}
 use mathlib.Core.List.{IsPrefix}
 use Rattle.as4_host.specs.Counts.{raised}
 use Rattle.as4_host.specs.Lists.{and_all}
@@ -51,6 +51,9 @@ module _ {H Store Door Dialer Time Dice DoorIn DoorOut DialerIn DialerOut : Type
 
   -- the host took a dialer back
   pub record SettlesDialer (link : Dialer) (old new : H) : Type 0 where
+    pub faults : M.fault_count new ≡ raised (K.faults link) (M.fault_count old)
+    pub reads : M.reads new ≡ raised (K.reads link) (M.reads old)
+    pub writes : M.writes new ≡ raised (K.writes link) (M.writes old)
     pub counted : (M.fault_count old ≤ M.fault_count new) × (M.reads old ≤ M.reads new) × (M.writes old ≤ M.writes new)
     pub guests : (a : List ℕ) → M.guests new a ≡ M.guests old a
     pub files : (p : List ℕ) → M.file new p ≡ M.file old p

@@ -1,5 +1,5 @@
 -- What a handler does to its host.
-use Rattle.std.specs.Prelude.{◌≡◌, ◌≢◌, ◌≤◌, ℕ, List, [], ◌∷◌, ◌++◌, Option, Some, Contains, All, codes}
+use Rattle.std.specs.Prelude.{◌≡◌, ◌≢◌, ◌≤◌, ℕ, List, [], ◌∷◌, ◌++◌, Some, Contains, All, codes}
 use Rattle.as4_disk.specs.declared.file.Paths.{Paths}
 use Rattle.as4_disk.specs.declared.part.Part.{Part}
 use Rattle.as4_disk.specs.declared.part.Part.TheVariants.{Selector, Leaf0, Leaf1}

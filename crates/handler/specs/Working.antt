@@ -1,5 +1,5 @@
 -- What a handler does with what it opened.
-use Rattle.std.specs.Prelude.{◌≡◌, ◌≢◌, ◌+◌, ◌<◌, ◌≤◌, ◌^◌, ℕ, Bool, true, false, List, [], ◌∷◌, ◌++◌, IfSome, length, is_some}
+use Rattle.std.specs.Prelude.{◌≡◌, ◌≢◌, ◌+◌, ◌≤◌, ◌^◌, ℕ, Bool, true, false, List, ◌∷◌, IfSome, length, is_some}
 use mathlib.Core.List.{IsPrefix}
 use Rattle.as4_disk.specs.Image.{Image}
 use Rattle.as4_disk.specs.declared.disk.Disk.{Ghosts as DiskMeaning}

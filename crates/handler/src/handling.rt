@@ -3,8 +3,8 @@ ghost use Rattle.std.specs.Prelude.{◌≡◌, ◌≢◌, ◌≤◌, ◌^◌, �
 ghost use Rattle.as4_disk.specs.Image.{Image};
 ghost use Rattle.as4_flow.specs.Flow.{TakesFront, Told};
 ghost use Rattle.as4_host.specs.Counts.{HasNotRisen};
-ghost use Rattle.handler.specs.Endings.{IsCause};
-ghost use Rattle.handler.specs.Handling.{Handles, Serves, pulled};
+ghost use Rattle.handler.specs.Endings.{IsCause, IsJudged};
+ghost use Rattle.handler.specs.Handling.{Ends, Handles, Serves, pulled};
 ghost use Rattle.handler.specs.Hosts.{Touches};
 ghost use Rattle.handler.specs.Served.{Delivers, IsQuiet};
 ghost use Rattle.handler.specs.Stores.{AreModesOf, LeavesStore, Stores};
@@ -63,6 +63,9 @@ where
     H::Time: Send,
     H::Dice: Send,
     requires peers { (1 ≤ setup.workers) × (setup.workers ≤ 11) }
+    // What was done, and how it ended, before the machine's failures are counted.
+    ensures ends { (end : HandlerEnd) × Ends H.Host H.Entrance.Door H.Dialer.Link H.Store.Disk setup.entry host.old host.new end
+        × IsJudged end (H.fault_count host.old) (H.fault_count host.new) result }
     ensures touches { Touches H.Host setup.entry host.old host.new }
     ensures store { LeavesStore H.Host (AreModesOf (H.file host.old setup.entry.modes.now)) setup.entry.journal.now host.old host.new }
     ensures cause { IsCause (H.file host.old setup.entry.modes.now) (Stores H.Host setup.entry.journal.now host.old)

@@ -1,4 +1,4 @@
-use Rattle.std.proofs.Common.{rules, vec_capacity, ◌≡◌, ◌+◌, ◌≤◌, ◌<◌, ℕ, List, [], ◌∷◌, ◌++◌, Option, None, length, refl, sym, ap, subst, ◌∙◌, append-nil, append_assoc, length-append, arith}
+use Rattle.std.proofs.Common.{rules, vec_capacity, ◌≡◌, ◌≤◌, List, [], ◌∷◌, ◌++◌, None, length, refl, sym, ap, subst, ◌∙◌, append-nil, append_assoc, length-append, arith}
 use Rattle.std.specs.Vec.Iter.{into_iter_items, into_iter_len}
 use Rattle.handler.specs.Crews.{HiresAside, pulls_by}
 use Rattle.workers.specs.declared.job.Job.TheVariants as job

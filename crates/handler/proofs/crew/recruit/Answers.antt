@@ -1,10 +1,9 @@
-use Rattle.std.proofs.Common.{◌≡◌, ◌+◌, ◌-◌, ◌≤◌, ◌<◌, ◌^◌, ℕ, List, [], ◌∷◌, ◌++◌, Option, None, true, length, map, replicate, vec_capacity, refl, sym, ap, subst, ◌∙◌, arith, append_assoc, length-append}
-use Rattle.handler.specs.Crews.{HiresAside, IsCrew, Splits, StandsAt, jobs_in, jobs_of, pulls_by}
+use Rattle.std.proofs.Common.{◌≡◌, [], ◌∷◌, ◌++◌, None, length, replicate, refl, sym, ap, subst, ◌∙◌, arith, length-append}
+use Rattle.handler.specs.Crews.{IsCrew, Splits, StandsAt, jobs_in, pulls_by}
 use Rattle.as4_doors.specs.declared.door.DoorKind.TheVariants as door
 use Rattle.workers.specs.Bounds.{door_of}
 use Rattle.workers.specs.declared.job.Job.TheVariants as job
 use Rattle.handler.proofs.HiringLemmas.{all_hired, as_many, doorless, four_more, hires_one, hires_then, jobs_append, jobs_together, pulls_length, replicate_length}
-use Rattle.handler.proofs.HostLemmas.{still_then}
 use Rattle.handler.proofs.crew.recruit.Goals as goal
 
 pub hire-requires-clause-stake : goal.hire-requires-clause-stake

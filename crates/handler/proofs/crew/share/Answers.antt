@@ -1,4 +1,4 @@
-use Rattle.std.proofs.Common.{◌≡◌, ◌+◌, ◌≤◌, ◌<◌, ℕ, List, [], ◌∷◌, ◌++◌, Option, Some, false, true, length, replicate, vec_capacity, refl, sym, ap, subst, ◌∙◌, append-nil, append_assoc, length-append, arith}
+use Rattle.std.proofs.Common.{◌≡◌, ◌≤◌, [], ◌∷◌, ◌++◌, length, replicate, vec_capacity, sym, ap, subst, ◌∙◌, append-nil, append_assoc, length-append, arith}
 use Rattle.handler.specs.Crews.{HiresAside}
 use Rattle.workers.specs.declared.job.Job.TheVariants as job
 use Rattle.handler.proofs.HiringLemmas.{as_many, hires_none, hires_one, hires_then, replicate_length, replicate_more, stands_aside}

@@ -1,4 +1,4 @@
-use Rattle.std.proofs.Common.{◌≡◌, false, ◌||◌, [], ◌∷◌, All, Contains, List, ◌++◌, refl, sym, ap, subst, ◌∙◌, append-nil, append_assoc, arith}
+use Rattle.std.proofs.Common.{◌||◌, [], ◌∷◌, Contains, ◌++◌, refl, sym, ap, subst, ◌∙◌, append-nil, append_assoc}
 use Rattle.std.proofs.lemmas.List.Elements.{All-contains, Contains-append_left, Contains-push}
 use Rattle.handler.specs.Crews.{IsOfBook}
 use Rattle.handler.specs.Dismissal.{Retires, gathering}

@@ -1,5 +1,4 @@
-use Rattle.std.proofs.Common.{◌≡◌, ◌∷◌, [], List, ℕ, All, Contains, sym, subst}
-use Rattle.handler.specs.Dismissal.{address_of}
+use Rattle.std.proofs.Common.{◌∷◌, [], All, Contains, sym, subst}
 use Rattle.handler.proofs.DismissalLemmas.{knows_address}
 use Rattle.handler.proofs.dismissing.retire.Goals as goal
 

@@ -1,4 +1,4 @@
-use Rattle.std.proofs.Common.{◌≡◌, [], List, ℕ, Contains}
+use Rattle.std.proofs.Common.{[], Contains}
 use Rattle.std.proofs.lemmas.List.Elements.{All-head}
 use Rattle.handler.proofs.dismissing.settle_door.Goals as goal
 

@@ -1,5 +1,5 @@
-use Rattle.std.proofs.Common.{◌≡◌, ◌≤◌, ℕ, List, inl, inr, sym, ap, subst}
-use Rattle.handler.specs.Endings.{IsCause, IsJudged}
+use Rattle.std.proofs.Common.{◌≡◌, inl, inr, sym, subst}
+use Rattle.handler.specs.Endings.{IsJudged}
 use Rattle.handler.specs.Handling.{Ends, Serves}
 use Rattle.handler.specs.Stores.{Stores}
 use Rattle.handler.specs.declared.ending.HandlerEnd.TheVariants.{Served}
@@ -32,6 +32,9 @@ has_served g c is =
     let served = judged_served (g.H.Host.fault_count c.args.host.now) (g.H.Host.fault_count c.match-read_modes.host) c.match-read_modes.end c.judged.result (judged_by g c) is in
     ends_serves g.H.Host g.H.Entrance.Door g.H.Dialer.Link g.H.Store.Disk c.args.setup c.args.host.now c.match-read_modes.host
     (subst (Ends g.H.Host g.H.Entrance.Door g.H.Dialer.Link g.H.Store.Disk c.args.setup c.args.host.now c.match-read_modes.host) served (ended g c))
+
+pub returns-clause-ends : goal.returns-clause-ends
+returns-clause-ends g c = (c.match-read_modes.end, ended g c, judged_by g c)
 
 pub returns-clause-touches : goal.returns-clause-touches
 returns-clause-touches g c =

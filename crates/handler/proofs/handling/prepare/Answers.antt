@@ -1,6 +1,6 @@
-use Rattle.std.proofs.Common.{◌≡◌, ◌≤◌, ℕ, List, inl, inr, length, sym, ap, subst, arith}
+use Rattle.std.proofs.Common.{◌≤◌, ℕ, List, inl, inr, length, sym, ap, subst, arith}
 use Rattle.as4_flow.specs.Flow.{TakesFront}
-use Rattle.handler.specs.Handling.{Handles, OpensAndWorks, pulled}
+use Rattle.handler.specs.Handling.{Handles, OpensAndWorks}
 use Rattle.handler.specs.Working.{Works}
 use Rattle.handler.proofs.ModesLemmas.{few_pulled}
 use Rattle.handler.proofs.RunningLemmas.{takes_none}

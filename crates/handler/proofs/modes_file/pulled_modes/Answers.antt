@@ -1,7 +1,6 @@
-use Rattle.std.proofs.Common.{◌≡◌, ◌+◌, ◌≤◌, ◌<◌, ℕ, suc, List, ◌++◌, ◌∷◌, [], refl, sym, ap, subst, ◌∙◌, arith, length, take}
+use Rattle.std.proofs.Common.{◌≡◌, ◌+◌, ◌<◌, suc, ◌++◌, ◌∷◌, [], sym, ap, subst, ◌∙◌, arith, length, take}
 use Rattle.handler.specs.Handling.{pulled}
 use Rattle.handler.proofs.ModesLemmas.{pulled_all, pulled_enough, pulled_whole, pulled_with, pulled_without}
-use Rattle.pmodes.specs.ModeList.{AreModes}
 use Rattle.handler.proofs.modes_file.pulled_modes.Goals as goal
 use Rattle.handler.proofs.modes_file.pulled_modes.Goals.{then-mode+then-len-lt-MOST_PULLED+in_ok-try_clone+in_ok-push, else-mode, else-mode-via-then-mode+else-len-lt-MOST_PULLED, else-mode-via-else-mode, else-loop-place-test, then-loop-place-test+in_default}
 

@@ -1,4 +1,4 @@
-use Rattle.std.proofs.Common.{◌≡◌, ◌∷◌, [], List, ℕ, All, Contains, refl, sym, ap, ◌∙◌, arith}
+use Rattle.std.proofs.Common.{◌∷◌, [], Contains, ap, ◌∙◌}
 use Rattle.std.proofs.lemmas.List.Elements.{All-head, All-tail}
 use Rattle.as4_host.specs.Files.{bytes_in}
 use Rattle.handler.specs.Dismissal.{SettlesDoor}

@@ -1,10 +1,10 @@
-use Rattle.std.proofs.Common.{◌≡◌, ◌∷◌, [], List, ℕ, All, Contains, refl, sym, ap, ◌∙◌, arith}
+use Rattle.std.proofs.Common.{◌∷◌, [], Contains, refl, ap}
 use Rattle.std.proofs.lemmas.List.Elements.{All-cons, All-head, All-nil}
 use Rattle.as4_host.specs.Files.{bytes_in}
 use Rattle.handler.specs.Dismissal.{SettlesDoor}
 use Rattle.handler.specs.Endings.{end_by}
 use Rattle.handler.specs.Hosts.{file_of, words_of}
-use Rattle.handler.specs.Opening.{FailsToOpen, OpensDoor}
+use Rattle.handler.specs.Opening.{OpensDoor}
 use Rattle.handler.proofs.DismissalLemmas.{settled_touches}
 use Rattle.handler.proofs.HostLemmas.{knows_asked, knows_on}
 use Rattle.handler.proofs.OpeningLemmas.{door_touches, fails_around, fails_refused, has_local, has_peer}

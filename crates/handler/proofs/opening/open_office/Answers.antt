@@ -1,15 +1,12 @@
-use Rattle.std.proofs.Common.{◌≡◌, ◌≢◌, ◌⊎◌, ◌∷◌, [], List, ℕ, All, Contains, Option, None, Some, Err, refl, sym, ap, subst, ◌∙◌, inl, inr, arith}
-use Rattle.std.proofs.lemmas.List.Elements.{All-cons, All-contains, All-nil, All-head, All-tail}
-use Rattle.as4_disk.specs.declared.file.Paths.{Paths}
+use Rattle.std.proofs.Common.{◌≡◌, ◌∷◌, [], All, Contains, Err, subst}
+use Rattle.std.proofs.lemmas.List.Elements.{All-head, All-tail}
 use Rattle.as4_disk.specs.declared.part.Part.{Part}
 use Rattle.as4_disk.specs.declared.part.Part.TheVariants.{Leaf0, Leaf1, Selector}
 use Rattle.as4_host.specs.Calls.{asked, names_of}
-use Rattle.as4_host.specs.Files.{IsMade, bytes_in, made, part_of, path_of}
-use Rattle.as4_host.specs.Lists.{and_all}
-use Rattle.handler.specs.Hosts.{file_of, files_of, words_of}
-use Rattle.handler.specs.Opening.{FailsToOpen, OpensStore, SettlesStore}
+use Rattle.as4_host.specs.Files.{bytes_in, path_of}
+use Rattle.handler.specs.Hosts.{files_of}
 use Rattle.handler.proofs.HostLemmas.{knows_asked}
-use Rattle.handler.proofs.OpeningLemmas.{fails_refused, has_files, made_or_same, names_are, no_other, opens_store, other_path, path_is, settled_store_touches, settles_store, store_touches, unopened_cause}
+use Rattle.handler.proofs.OpeningLemmas.{fails_refused, has_files, made_or_same, names_are, opens_store, other_path, path_is, settled_store_touches, settles_store, store_touches, unopened_cause}
 use Rattle.handler.proofs.HostLemmas.{touches_then}
 use Rattle.handler.proofs.StoreLemmas.{leaves_unopened}
 use Rattle.handler.proofs.opening.open_office.Goals as goal

@@ -1,4 +1,4 @@
-use Rattle.std.proofs.Common.{◌≡◌, ◌<◌, ℕ, length, slice_index_or}
+use Rattle.std.proofs.Common.{◌<◌, ℕ, length, slice_index_or}
 use Rattle.handler.specs.Crews.{MadeTurns}
 use Rattle.handler.proofs.CrewLemmas.{made_all}
 use Rattle.workers.specs.declared.job.Worker.{Worker as WorkerValue}

@@ -1,6 +1,5 @@
-use Rattle.std.proofs.Common.{◌≡◌, ◌≤◌, [], is_some, refl, sym, subst, arith}
+use Rattle.std.proofs.Common.{is_some, refl, sym, subst}
 use Rattle.office.specs.Calls.{LeadsWhere}
-use Rattle.handler.proofs.RunningLemmas.{not_run, takes_none}
 use Rattle.handler.proofs.running.run_if.Goals as goal
 
 pub run_office-requires-clause-opened : goal.run_office-requires-clause-opened

@@ -1,4 +1,4 @@
-use Rattle.std.proofs.Common.{◌≡◌, ◌≤◌, arith, subst, sym}
+use Rattle.std.proofs.Common.{arith, subst, sym}
 use Rattle.handler.specs.Working.{RunsOver}
 use Rattle.handler.proofs.RunningLemmas.{ran_early, ran_whole, takes_none}
 use Rattle.handler.proofs.running.run_office.Goals as goal

@@ -1,18 +1,16 @@
-use Rattle.std.proofs.Common.{◌≡◌, ◌+◌, ◌≤◌, ℕ, false, List, All, Contains, is_some, IfSome, refl, sym, ap, subst, ◌∙◌, arith, length}
+use Rattle.std.proofs.Common.{◌≡◌, ◌≤◌, false, All, is_some, IfSome, sym, ap, subst, ◌∙◌, arith}
 use Rattle.as4_disk.specs.Image.{Image}
 use Rattle.as4_disk.specs.declared.part.Part.{Part}
 use Rattle.as4_flow.specs.Flow.{Rose, Told}
-use Rattle.as4_host.specs.Calls.{names_of}
-use Rattle.as4_host.specs.Files.{path_of}
 use Rattle.handler.specs.Crews.{IsCrew, IsHired}
 use Rattle.handler.specs.Dismissal.{gathering}
 use Rattle.handler.specs.Hosts.{doors_of, files_of}
-use Rattle.handler.specs.Working.{IsClosed, IsEndOfWork, end_of}
+use Rattle.handler.specs.Working.{IsClosed, IsEndOfWork}
 use Rattle.handler.proofs.CrewLemmas.{prefix_then}
 use Rattle.handler.proofs.HostLemmas.{knows_same}
 use Rattle.handler.proofs.OpeningLemmas.{has_path, settles_store}
 use Rattle.handler.proofs.WorkLemmas.{are_ready, done_books, end_failed, end_is, end_served, folds_on, have_books, retired_prefix}
-use Rattle.office.specs.Calls.{LeadsWhere, stop_of}
+use Rattle.office.specs.Calls.{stop_of}
 use Rattle.office.specs.Left.{IsLeft}
 use Rattle.office.specs.State.{OfficeState}
 use Rattle.workers.specs.Turns.{IsReady}
