@@ -1,0 +1,11 @@
+pub mod AnswerLemmas
+pub mod KindLemmas
+pub mod LawLemmas
+pub mod ListLemmas
+pub mod LoadLemmas
+pub mod MadeLemmas
+pub mod NonceLemmas
+pub mod RefusalLemmas
+pub mod StampLemmas
+pub mod SubmitLemmas
+pub mod WalkLemmas

@@ -1,0 +1,28 @@
+//! What an audit finds.
+
+use as4_values::Seq;
+use exchange_model::Event;
+
+/// What an audit finds.
+#[derive(Drop)]
+pub enum Audit {
+    /// The effects of the start fit, and each later record is what the machine writes for the next of these events.
+    Yes {
+        /// The number of records of the start: those that a compaction wrote.
+        start: u64,
+        events: Seq<Event>,
+    },
+    /// The record at this place, from 0, is the first that isn't right.
+    No {
+        index: u64,
+    },
+}
+
+/// Why a leaf isn't audited.
+#[derive(Clone, Copy, Debug, PartialEq, Eq)]
+pub enum AuditRefusal {
+    /// The leaf is no journal; this is the place of the gate whose record is cut short, or 0 where the magic is wrong.
+    NotJournal { at: u64 },
+    /// Memory ran out.
+    NoMemory,
+}
