@@ -15,13 +15,13 @@ use Rattle.as4_tool.specs.Runs.{IsIdle, Runs}
 use Rattle.as4_tool.specs.Status.{IsOneOf, status_of_handler}
 use Rattle.as4_tool.specs.declared.status.Status.{Status}
 use Rattle.as4_tool.specs.declared.status.Status.TheVariants.{BadWords, NoMemory}
-use Rattle.handler.specs.Endings.{IsCause}
-use Rattle.handler.specs.Handling.{Serves}
+use Rattle.handler.specs.Endings.{IsCause, IsJudged}
+use Rattle.handler.specs.Handling.{Ends, Serves}
 use Rattle.handler.specs.Hosts.{Touches}
 use Rattle.handler.specs.Served.{Delivers, IsQuiet}
 use Rattle.handler.specs.Stores.{AreModesOf, LeavesStore, Stores}
 use Rattle.handler.specs.declared.ending.HandlerEnd.{HandlerEnd}
-use Rattle.handler.specs.declared.ending.HandlerEnd.TheVariants as ends
+use Rattle.handler.specs.declared.ending.HandlerEnd.TheVariants as ending
 use Rattle.handler.specs.declared.setup.Setup.{Setup}
 
 -- these words spell a command
@@ -47,12 +47,13 @@ module _ {H Store Door Dialer Time Dice DoorIn DoorOut DialerIn DialerOut : Type
     (G : DoorMeaning Door DoorIn DoorOut) (K : LinkMeaning Dialer DialerIn DialerOut) (D : DiskMeaning Store) where
   -- a handler with this setup came to this end
   pub record Handled (setup : Setup) (end : HandlerEnd) (old new : H) : Type 0 where
+    pub ends : (before : HandlerEnd) × Ends M G K D setup old new before × IsJudged before (M.fault_count old) (M.fault_count new) end
     pub touches : Touches M setup old new
     pub store : LeavesStore M (AreModesOf (M.file old setup.modes.now)) setup.journal.now old new
     pub cause : IsCause (M.file old setup.modes.now) (Stores M setup.journal.now old) (M.fault_count old) (M.fault_count new) end
-    pub calm : end ≢ ends.NoMemory → end ≢ ends.HostFault → HasNotRisen (M.fault_count old) (M.fault_count new)
-    pub serves : end ≡ ends.Served → Serves M G K D setup old new
-    pub delivers : end ≡ ends.Served → IsQuiet M old new → setup.turns ≤ 2 ^ 49 → setup.peer.now ≢ setup.local.now
+    pub calm : end ≢ ending.NoMemory → end ≢ ending.HostFault → HasNotRisen (M.fault_count old) (M.fault_count new)
+    pub serves : end ≡ ending.Served → Serves M G K D setup old new
+    pub delivers : end ≡ ending.Served → IsQuiet M old new → setup.turns ≤ 2 ^ 49 → setup.peer.now ≢ setup.local.now
         → (peers locals : List (List ℕ)) (before : Image)
         → M.guests old setup.peer.now ≡ Some peers → M.guests old setup.local.now ≡ Some locals
         → Stores M setup.journal.now old before → Delivers M setup old new peers locals before
