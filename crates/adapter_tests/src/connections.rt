@@ -3,9 +3,39 @@ use as4_flow::{Got, Sink, Source, send_all};
 use as4_host::{Arrival, Door, Host, Link, LinkRefusal};
 use host_adapters::{HostCounts, SystemHost, TcpDoor, TcpLink};
 use std::alloc::{AllocError, Global};
+use std::fs::{File, Files};
+use std::net::{Net, TcpListener, TcpStream};
+use std::random::RandomSource;
+use std::sync::Wait;
 use std::test::Fail;
 use std::thread;
 use std::thread::Threads;
+use std::time::Clock;
+
+/// The machine that the tests run on.
+pub trait Machine: Files<File = File>
+    + Net<Listener = TcpListener, Stream = TcpStream>
+    + Clock
+    + RandomSource
+    + Wait
+    + AllocGlobal
+    + Send
+    + Sync
+    + Copy
+    + Drop {}
+
+impl<
+    R: Files<File = File>
+        + Net<Listener = TcpListener, Stream = TcpStream>
+        + Clock
+        + RandomSource
+        + Wait
+        + AllocGlobal
+        + Send
+        + Sync
+        + Copy
+        + Drop,
+> Machine for R {}
 
 /// What a link or a door has counted where nothing failed.
 pub const NONE: HostCounts = HostCounts {
@@ -24,12 +54,12 @@ fn long_question(alloc: Global) -> Result<Vec<u8>, AllocError> {
 }
 
 /// The machine.
-pub fn host(rt: &HostRuntime) -> SystemHost<HostRuntime> {
+pub fn host<R: Machine>(rt: &R) -> SystemHost<R> {
     SystemHost::of(rt.alloc(), *rt)
 }
 
 /// A door at a port of loopback that the system picks.
-pub fn door(rt: &HostRuntime) -> Option<TcpDoor<HostRuntime>> {
+pub fn door<R: Machine>(rt: &R) -> Option<TcpDoor<R>> {
     let mut host = host(rt);
     let door = host.open_door("http://127.0.0.1:0/").ok();
     drop(host);
@@ -37,7 +67,7 @@ pub fn door(rt: &HostRuntime) -> Option<TcpDoor<HostRuntime>> {
 }
 
 /// The address of a door at loopback.
-pub fn address(rt: &HostRuntime, door: &TcpDoor<HostRuntime>) -> Option<String> {
+pub fn address<R: Machine>(rt: &R, door: &TcpDoor<R>) -> Option<String> {
     let port = door.local_addr().ok()?.port();
     format!(in rt.alloc(); "http://127.0.0.1:{port}/").ok()
 }
@@ -101,27 +131,27 @@ where
     )
 }
 
-/// A request and its answer. Whether both sides saw what they should, and counted nothing.
-fn talk(rt: &HostRuntime, threads: &impl Threads) -> Option<(bool, bool, HostCounts, HostCounts)> {
-    let mut door = door(rt)?;
-    let address = address(rt, &door)?;
-    let mut link = TcpLink::of(rt.alloc(), *rt);
-    let (answered, asked) = meet(threads, &mut door, &mut link, &address);
+#[test]
+fn a_link_reaches_a_door(rt: HostRuntime) -> Result<(), Fail> {
+    let mut door = door(&rt).ok_or(AllocError)?;
+    let address = address(&rt, &door).ok_or(AllocError)?;
+    let mut link = TcpLink::of(rt.alloc(), rt);
+    let met = meet(&rt, &mut door, &mut link, &address);
     let counts = (door.counts(), link.counts());
-    drop(door);
     drop(link);
     drop(address);
-    Some((answered, asked, counts.0, counts.1))
-}
-
-#[test]
-fn a_link_reaches_a_door(rt: HostRuntime) {
-    assert_eq!(rt; talk(&rt, &rt), Some((true, true, NONE, NONE)));
+    drop(door);
+    assert_eq!(rt; (met, counts), ((true, true), (NONE, NONE)));
+    Ok(())
 }
 
 /// A request of which the door reads eight bytes alone. Whether the guest who sent it all gets the answer whole.
-fn talk_past(rt: &HostRuntime, threads: &impl Threads) -> Option<(bool, bool, HostCounts)> {
-    let mut door = door(rt)?;
+fn talk_past<R: Machine>(
+    rt: &R,
+    threads: &impl Threads,
+    door: TcpDoor<R>,
+) -> Option<(bool, bool, HostCounts)> {
+    let mut door = door;
     let address = address(rt, &door)?;
     let mut link = TcpLink::of(rt.alloc(), *rt);
     let question = long_question(rt.alloc()).ok()?;
@@ -139,13 +169,19 @@ fn talk_past(rt: &HostRuntime, threads: &impl Threads) -> Option<(bool, bool, Ho
 }
 
 #[test]
-fn an_answer_to_a_request_that_was_not_read_arrives(rt: HostRuntime) {
-    assert_eq!(rt; talk_past(&rt, &rt), Some((true, true, NONE)));
+fn an_answer_to_a_request_that_was_not_read_arrives(rt: HostRuntime) -> Result<(), Fail> {
+    let door = door(&rt).ok_or(AllocError)?;
+    assert_eq!(rt; talk_past(&rt, &rt, door), Some((true, true, NONE)));
+    Ok(())
 }
 
 /// Two doors that share a listener: each takes one of two guests.
-fn share(rt: &HostRuntime, threads: &impl Threads) -> Option<(bool, bool, bool, bool, HostCounts)> {
-    let mut first = door(rt)?;
+fn share<R: Machine>(
+    rt: &R,
+    threads: &impl Threads,
+    door: TcpDoor<R>,
+) -> Option<(bool, bool, bool, bool, HostCounts)> {
+    let mut first = door;
     let mut second = first.share().ok()?;
     let address = address(rt, &first)?;
     let mut link = TcpLink::of(rt.alloc(), *rt);
@@ -168,16 +204,54 @@ fn share(rt: &HostRuntime, threads: &impl Threads) -> Option<(bool, bool, bool, 
 }
 
 #[test]
-fn shared_doors_accept_from_one_listener(rt: HostRuntime) {
-    assert_eq!(rt; share(&rt, &rt), Some((true, true, true, true, NONE)));
+fn shared_doors_accept_from_one_listener(rt: HostRuntime) -> Result<(), Fail> {
+    let door = door(&rt).ok_or(AllocError)?;
+    assert_eq!(rt; share(&rt, &rt, door), Some((true, true, true, true, NONE)));
+    Ok(())
+}
+
+/// Four connections to a door.
+fn four<R: Machine>(rt: &R, door: &TcpDoor<R>) -> Option<[TcpStream; 4]> {
+    let at = door.local_addr().ok()?;
+    let first = TcpStream::connect(rt, at).ok()?;
+    let second = TcpStream::connect(rt, at).ok()?;
+    let third = TcpStream::connect(rt, at).ok()?;
+    let fourth = TcpStream::connect(rt, at).ok()?;
+    Some([first, second, third, fourth])
+}
+
+/// Four guests who send nothing, and then one who asks. Whether the door gives the one who asks.
+fn pass<R: Machine>(
+    rt: &R,
+    threads: &impl Threads,
+    door: TcpDoor<R>,
+) -> Option<(bool, bool, HostCounts)> {
+    let mut door = door;
+    let address = address(rt, &door)?;
+    let idle = four(rt, &door)?;
+    let mut link = TcpLink::of(rt.alloc(), *rt);
+    let (answered, asked) = meet(threads, &mut door, &mut link, &address);
+    let counts = door.counts();
+    drop(idle);
+    drop(door);
+    drop(link);
+    drop(address);
+    Some((answered, asked, counts))
+}
+
+#[test]
+fn a_guest_who_asks_passes_those_who_send_nothing(rt: HostRuntime) -> Result<(), Fail> {
+    let door = door(&rt).ok_or(AllocError)?;
+    assert_eq!(rt; pass(&rt, &rt, door), Some((true, true, NONE)));
+    Ok(())
 }
 
 /// A guest that goes without reading what it was sent, which resets the connection.
 fn goes<L: Link>(link: &mut L, address: &str) -> bool {
     match link.open(address) {
         Ok((source, sink)) => {
-            let (mut source, sink) = (source, sink);
-            let is_so = reads(&mut source, b"a");
+            let (mut source, mut sink) = (source, sink);
+            let is_so = send_all(&mut sink, b"q").is_ok() && reads(&mut source, b"a");
             link.settle(source, sink);
             is_so
         }
@@ -185,12 +259,12 @@ fn goes<L: Link>(link: &mut L, address: &str) -> bool {
     }
 }
 
-/// Sends to a guest until that fails, or reads from it until that fails. Whether both failed.
+/// Reads a byte from a guest, sends to it until that fails, and reads from it again. Whether both failed.
 fn sends_until_it_fails<D: Door>(door: &mut D, bytes: &[u8]) -> bool {
     match door.next() {
         Arrival::Open(source, sink) => {
             let (mut source, mut sink) = (source, sink);
-            let mut failed = false;
+            let mut failed = !reads(&mut source, b"q");
             for _ in 0..10_000 {
                 if !failed {
                     failed = send_all(&mut sink, bytes).is_err();
@@ -205,8 +279,12 @@ fn sends_until_it_fails<D: Door>(door: &mut D, bytes: &[u8]) -> bool {
 }
 
 /// A guest that goes away, and then another. What the door has counted.
-fn reset(rt: &HostRuntime, threads: &impl Threads) -> Option<(bool, bool, bool, bool, u64, u64)> {
-    let mut door = door(rt)?;
+fn reset<R: Machine>(
+    rt: &R,
+    threads: &impl Threads,
+    door: TcpDoor<R>,
+) -> Option<(bool, bool, bool, bool, u64, u64)> {
+    let mut door = door;
     let address = address(rt, &door)?;
     let mut link = TcpLink::of(rt.alloc(), *rt);
     let bytes = [b'a'; 4096];
@@ -228,12 +306,14 @@ fn reset(rt: &HostRuntime, threads: &impl Threads) -> Option<(bool, bool, bool, 
 }
 
 #[test]
-fn a_guest_that_resets_is_a_fault_and_no_end(rt: HostRuntime) {
-    assert_eq!(rt; reset(&rt, &rt), Some((true, true, true, true, 0, 1)));
+fn a_guest_that_resets_is_a_fault_and_no_end(rt: HostRuntime) -> Result<(), Fail> {
+    let door = door(&rt).ok_or(AllocError)?;
+    assert_eq!(rt; reset(&rt, &rt, door), Some((true, true, true, true, 0, 1)));
+    Ok(())
 }
 
 /// Whether each address is refused, and how many faults the link has counted.
-fn refused(rt: &HostRuntime, addresses: &[&str]) -> (bool, u64) {
+fn refused<R: Machine>(rt: &R, addresses: &[&str]) -> (bool, u64) {
     let mut link = TcpLink::of(rt.alloc(), *rt);
     let mut are_so = true;
     for address in addresses {

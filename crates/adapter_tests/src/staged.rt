@@ -1,11 +1,13 @@
 //! The system with a resolver and a clock that a test sets.
-use crate::connections::{NONE, address, answers, asks, door};
-use as4_flow::{Got, Source};
+use crate::connections::{Machine, NONE, address, answers, asks, door};
+use as4_flow::{Got, Source, send_all};
 use as4_host::{Link, LinkRefusal};
-use host_adapters::{HostCounts, TcpLink};
+use host_adapters::{HostCounts, TcpDoor, TcpLink};
+use std::alloc::AllocError;
 use std::io::ErrorKind;
 use std::net::{Ipv4Addr, Ipv6Addr, Net, SocketAddr, TcpListener, TcpStream};
 use std::sync::atomic::{AtomicU64, Ordering};
+use std::test::Fail;
 use std::thread::Threads;
 use std::time::{Clock, Duration};
 use std::{io, thread};
@@ -13,13 +15,13 @@ use std::{io, thread};
 /// The name `two` has an IPv6 and an IPv4 address, and no other name has any. The clock goes on by `step` seconds each time
 /// that it is read.
 #[derive(Drop)]
-struct Staged {
-    system: HostRuntime,
+struct Staged<R: Machine> {
+    system: R,
     seconds: AtomicU64,
     step: u64,
 }
 
-impl Net for Staged {
+impl<R: Machine> Net for Staged<R> {
     type Stream = TcpStream;
 
     type Listener = TcpListener;
@@ -48,7 +50,7 @@ impl Net for Staged {
     }
 }
 
-impl Clock for Staged {
+impl<R: Machine> Clock for Staged<R> {
     fn monotonic(&self) -> io::Result<Duration> {
         Ok(Duration::from_secs(self.seconds.fetch_add(self.step, Ordering::SeqCst)))
     }
@@ -58,7 +60,7 @@ impl Clock for Staged {
     }
 }
 
-fn staging(rt: &HostRuntime, step: u64) -> Staged {
+fn staging<R: Machine>(rt: &R, step: u64) -> Staged<R> {
     Staged {
         system: *rt,
         seconds: AtomicU64::new(0),
@@ -67,9 +69,13 @@ fn staging(rt: &HostRuntime, step: u64) -> Staged {
 }
 
 /// A door at IPv4's loopback, asked at a name with two addresses, and a name with none.
-fn names(rt: &HostRuntime, threads: &impl Threads) -> Option<(bool, bool, bool, HostCounts)> {
+fn names<R: Machine>(
+    rt: &R,
+    threads: &impl Threads,
+    door: TcpDoor<R>,
+) -> Option<(bool, bool, bool, HostCounts)> {
     let system = staging(rt, 0);
-    let mut door = door(rt)?;
+    let mut door = door;
     let port = door.local_addr().ok()?.port();
     let two = format!(in rt.alloc(); "http://two:{port}/").ok()?;
     let mut link = TcpLink::of(rt.alloc(), &system);
@@ -94,15 +100,18 @@ fn names(rt: &HostRuntime, threads: &impl Threads) -> Option<(bool, bool, bool, 
 }
 
 #[test]
-fn each_address_of_a_name_is_tried(rt: HostRuntime) {
+fn each_address_of_a_name_is_tried(rt: HostRuntime) -> Result<(), Fail> {
+    let door = door(&rt).ok_or(AllocError)?;
     let one = HostCounts { faults: 1, ..NONE };
-    assert_eq!(rt; names(&rt, &rt), Some((true, true, true, one)));
+    assert_eq!(rt; names(&rt, &rt, door), Some((true, true, true, one)));
+    Ok(())
 }
 
-/// Reads of one byte each.
+/// Sends a byte, and reads three times a byte.
 fn three_reads<L: Link>(link: &mut L, address: &str) -> Option<[Got; 3]> {
     let (source, sink) = link.open(address).ok()?;
-    let mut source = source;
+    let (mut source, mut sink) = (source, sink);
+    let _ = send_all(&mut sink, b"q");
     let mut room = [0; 1];
     let first = source.read(&mut room);
     let second = source.read(&mut room);
@@ -111,15 +120,19 @@ fn three_reads<L: Link>(link: &mut L, address: &str) -> Option<[Got; 3]> {
     Some([first, second, third])
 }
 
-/// An answer of three bytes, which is read after 0, 30 and 60 s.
-fn late(rt: &HostRuntime, threads: &impl Threads) -> Option<(bool, Option<[Got; 3]>, HostCounts)> {
+/// An answer of three bytes, which is read after 0, 30 and 60 s of the source's time.
+fn late<R: Machine>(
+    rt: &R,
+    threads: &impl Threads,
+    door: TcpDoor<R>,
+) -> Option<(bool, Option<[Got; 3]>, HostCounts)> {
     let system = staging(rt, 30);
-    let mut door = door(rt)?;
+    let mut door = door;
     let address = address(rt, &door)?;
     let mut link = TcpLink::of(rt.alloc(), &system);
     let (answered, read) = thread::join(
         threads,
-        || answers(&mut door, b"", b"abc"),
+        || answers(&mut door, b"q", b"abc"),
         || three_reads(&mut link, &address),
     );
     let counts = link.counts();
@@ -131,8 +144,10 @@ fn late(rt: &HostRuntime, threads: &impl Threads) -> Option<(bool, Option<[Got; 
 }
 
 #[test]
-fn a_source_fails_when_its_time_is_spent(rt: HostRuntime) {
+fn a_source_fails_when_its_time_is_spent(rt: HostRuntime) -> Result<(), Fail> {
+    let door = door(&rt).ok_or(AllocError)?;
     let one = HostCounts { reads: 1, ..NONE };
     let reads = [Got::Gave(1), Got::Gave(1), Got::Failed];
-    assert_eq!(rt; late(&rt, &rt), Some((true, Some(reads), one)));
+    assert_eq!(rt; late(&rt, &rt, door), Some((true, Some(reads), one)));
+    Ok(())
 }

@@ -2,49 +2,43 @@
 ghost use Rattle.std.specs.Prelude.{◌≡◌, None};
 
 use crate::counts::HostCounts;
+use crate::entrance::Entrance;
 use crate::shared::Shared;
 use crate::stream::{TcpHalf, pair};
 use as4_flow::{ReaderSource, WriterSink};
 use as4_host::{Arrival, Door};
 use as4_values::NoMemory;
 use std::alloc::Global;
-use std::io::{ErrorKind, Read};
-use std::net::{Shutdown, SocketAddr, TcpListener, TcpStream};
+use std::io;
+use std::io::Read;
+use std::net::{Shutdown, SocketAddr, TcpStream};
+use std::sync::Wait;
 use std::time::{Clock, Duration, Instant};
-use std::{io, thread};
-
-/// How long a door waits where the process or the system is out of descriptors, in milliseconds.
-const REST: u64 = 100;
 
 /// How long a door reads on after a response, in seconds.
 const LINGER: u64 = 1;
 
-/// The system's numbers for these.
-const ENFILE: i32 = 23;
-
-const EMFILE: i32 = 24;
-
-/// Accepts the connections of a listener. It closes none by itself: a door that waits for a guest waits on.
+/// Accepts the connections of a listener, each once its first bytes have come.
 #[derive(Drop)]
-pub struct TcpDoor<R: Clock + Copy + Drop> {
+pub struct TcpDoor<R: Clock + Wait + Copy + Drop> {
     alloc: Global,
     system: R,
-    listener: Shared<TcpListener>,
+    entrance: Shared<Entrance>,
     // The connection of the guest who came last, which is closed gently when it is settled.
     last: Option<Shared<TcpStream>>,
     counts: HostCounts,
 }
 
-impl<R: Clock + Copy + Drop> TcpDoor<R> {
+impl<R: Clock + Wait + Copy + Drop> TcpDoor<R> {
     ghost use Rattle.host_adapters.specs.Adapters.{door_counts, no_faults};
 
-    pub(crate) fn of(alloc: Global, system: R, listener: Shared<TcpListener>) -> TcpDoor<R>
+    pub(crate) fn of(alloc: Global, system: R, entrance: Shared<Entrance>) -> TcpDoor<R>
         ensures { door_counts result ≡ no_faults }
     {
         TcpDoor {
             alloc,
             system,
-            listener,
+            entrance,
             last: None,
             counts: HostCounts::none(),
         }
@@ -59,28 +53,11 @@ impl<R: Clock + Copy + Drop> TcpDoor<R> {
 
     /// The address that it listens at, which tells the port where it was opened at port 0.
     pub fn local_addr(&self) -> io::Result<SocketAddr> {
-        self.listener.get()?.local_addr()
+        self.entrance.get()?.local_addr()
     }
 
-    // The next connection. The kit makes an interrupted call again; out of descriptors, the door rests and tries again.
     fn accept(&self) -> io::Result<TcpStream> {
-        let listener = self.listener.get()?;
-        for _ in 0..u64::MAX {
-            match listener.accept() {
-                Ok((stream, _)) => {
-                    // Where the system refuses, it only sends small pieces later.
-                    let _ = stream.set_nodelay(true);
-                    return Ok(stream);
-                }
-                Err(error) => {
-                    if !is_shortage(&error) {
-                        return Err(error);
-                    }
-                    thread::sleep(&self.system, Duration::from_millis(REST));
-                }
-            }
-        }
-        Err(ErrorKind::Other.into())
+        self.entrance.get()?.next(&self.system)
     }
 }
 
@@ -107,11 +84,7 @@ fn linger<R: Clock>(system: &R, stream: &Shared<TcpStream>) -> io::Result<()> {
     Ok(())
 }
 
-fn is_shortage(error: &io::Error) -> bool {
-    matches!(error.raw_os_error(), Some(EMFILE | ENFILE))
-}
-
-impl<R: Clock + Copy + Drop> Door for TcpDoor<R> {
+impl<R: Clock + Wait + Copy + Drop> Door for TcpDoor<R> {
     type In = ReaderSource<TcpHalf<R>>;
 
     type Out = WriterSink<TcpHalf<R>>;
@@ -160,7 +133,7 @@ impl<R: Clock + Copy + Drop> Door for TcpDoor<R> {
     }
 
     fn share(&self) -> Result<Self, NoMemory> {
-        let listener = self.listener.share()?;
-        Ok(TcpDoor::of(self.alloc, self.system, listener))
+        let entrance = self.entrance.share()?;
+        Ok(TcpDoor::of(self.alloc, self.system, entrance))
     }
 }

@@ -2,6 +2,7 @@
 ghost use Rattle.std.specs.Prelude.{◌≡◌, None};
 
 use crate::counts::HostCounts;
+use crate::entrance::{Entrance, Guests};
 use crate::place::place_of;
 use crate::shared::Shared;
 use crate::{SystemClock, SystemNonces, TcpDoor, TcpLink, files};
@@ -14,6 +15,7 @@ use std::io;
 use std::io::ErrorKind;
 use std::net::{Net, TcpListener, TcpStream};
 use std::random::RandomSource;
+use std::sync::Wait;
 use std::time::{Clock, Duration};
 
 /// The machine that the program runs on.
@@ -23,6 +25,7 @@ pub struct SystemHost<
         + Net<Listener = TcpListener, Stream = TcpStream>
         + Clock
         + RandomSource
+        + Wait
         + Copy
         + Drop,
 > {
@@ -36,6 +39,7 @@ impl<
         + Net<Listener = TcpListener, Stream = TcpStream>
         + Clock
         + RandomSource
+        + Wait
         + Copy
         + Drop,
 > SystemHost<R> {
@@ -64,6 +68,7 @@ impl<
         + Net<Listener = TcpListener, Stream = TcpStream>
         + Clock
         + RandomSource
+        + Wait
         + Copy
         + Drop,
 > Host for SystemHost<R> {
@@ -123,16 +128,20 @@ impl<
     }
 
     fn open_door(&mut self, address: &str) -> Result<TcpDoor<R>, HostRefusal> {
-        let Ok(listener) = Shared::room(self.alloc) else {
+        let Ok(entrance) = Shared::room(self.alloc) else {
             return Err(HostRefusal::NoMemory);
         };
-        match listen(&self.system, address) {
+        let Ok(guests) = Guests::room(self.alloc) else {
+            drop(entrance);
+            return Err(HostRefusal::NoMemory);
+        };
+        match listen(&self.system, address, guests) {
             Ok(made) => {
-                listener.put(made);
-                Ok(TcpDoor::of(self.alloc, self.system, listener))
+                entrance.put(made);
+                Ok(TcpDoor::of(self.alloc, self.system, entrance))
             }
             Err(_) => {
-                drop(listener);
+                drop(entrance);
                 self.counts.fail();
                 Err(HostRefusal::HostFailed)
             }
@@ -180,9 +189,10 @@ impl<
 fn listen<R: Net<Listener = TcpListener, Stream = TcpStream>>(
     net: &R,
     address: &str,
-) -> io::Result<TcpListener> {
-    match place_of(address) {
-        Some(place) => TcpListener::bind(net, place),
-        None => Err(ErrorKind::InvalidInput.into()),
-    }
+    guests: Guests,
+) -> io::Result<Entrance> {
+    let Some(place) = place_of(address) else {
+        return Err(ErrorKind::InvalidInput.into());
+    };
+    Entrance::of(TcpListener::bind(net, place)?, guests)
 }

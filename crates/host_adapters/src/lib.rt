@@ -4,6 +4,7 @@
 mod clock;
 mod counts;
 mod door;
+mod entrance;
 mod files;
 mod host;
 mod link;
