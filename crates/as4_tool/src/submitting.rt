@@ -28,7 +28,7 @@ pub(crate) fn submit<I: Source, O: Sink, H: Host>(
                 alloc,
                 host,
                 to.local,
-                to.conversation.as_bytes(),
+                to.mode.as_bytes(),
                 to.conversation.as_bytes(),
                 to.media.as_bytes(),
                 &document,
