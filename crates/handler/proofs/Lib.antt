@@ -11,3 +11,4 @@ mod RunningLemmas
 mod ServedLemmas
 mod WorkLemmas
 mod HandlingLemmas
+mod WholeLemmas

@@ -6,6 +6,7 @@ mod crew;
 mod dismissing;
 mod ending;
 mod handling;
+mod laws;
 mod modes_file;
 mod opening;
 mod running;
@@ -14,4 +15,5 @@ mod working;
 
 pub use ending::HandlerEnd;
 pub use handling::handle;
+pub use laws::a_whole_store_is_left_whole;
 pub use setup::Setup;
