@@ -78,7 +78,7 @@ pub struct Submission<'a> {
     pub local: &'a str,
     /// The mode, of 1 to 255 bytes.
     pub mode: &'a str,
-    /// The conversation, of at most 255 bytes. Empty for a new one.
+    /// The conversation, of at most 255 bytes. Empty for none.
     pub conversation: &'a str,
     /// The media text of the document.
     pub media: &'a str,

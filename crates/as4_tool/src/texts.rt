@@ -22,7 +22,7 @@ PEER, LOCAL   addresses of the form http://HOST:PORT/, at most 255 bytes; the po
 N             the number of workers at PEER, 1 to 11; 4 if it is missing
 T             the number of turns of each worker, 0 to 9223372036854775808, which it is if it is missing
 MODE          the mode to submit by, 1 to 255 bytes
-CONVERSATION  the conversation of the message, at most 255 bytes; empty for a new one
+CONVERSATION  the conversation of the message, at most 255 bytes; empty for none
 MEDIA         the media text of the document, such as text/plain: one line of at most 1024 bytes, or empty
 FIRST         the number of the first entry to collect, 0 to 9223372036854775808
 COUNT         of collect: the most entries to collect, 0 to 9223372036854775808
