@@ -33,11 +33,11 @@ left_whole modes end (Stop None halt ∷ calls) image (inr folded) = folded_whol
 
 reopened_whole : (before after : Image) (start : End) → OpensAs before start → ReopensAs before after → IsWhole after
 reopened_whole before after start opens reopens = elim (reopens.opens start opens) [
-    | inl (inl same) ↦ opened (HasPendingEnd before start) after start same
-    | inl (inr (old, folded)) ↦ folded_whole after start folded
-    | inr (next, pending, inl only) ↦ opened (λ n. ⊥) after next only
-    | inr (next, pending, inr (old, folded)) ↦ folded_whole after next folded
-  ]
+  | inl (inl same) ↦ opened (HasPendingEnd before start) after start same
+  | inl (inr (old, folded)) ↦ folded_whole after start folded
+  | inr (next, pending, inl only) ↦ opened (λ n. ⊥) after next only
+  | inr (next, pending, inr (old, folded)) ↦ folded_whole after next folded
+]
 
 pub becomes_whole : (may_be : List Mode → Type 0) (before after : Image) (start : End) → OpensAs before start → BecomesBy may_be before after
     → (end : End) × OpensAs after end
