@@ -5,7 +5,7 @@ use crate::samples::Sample;
 use as4_disk::{Files, MemoryDisk};
 use as4_flow::MemorySink;
 use as4_host::{Host, MemoryHost, Stack};
-use as4_values::{Octets, PlainData, Seq};
+use as4_values::{MessageId, Octets, PlainData, Seq};
 use exchange_model::{Event, Reply, What};
 use handler::{HandlerEnd, Setup, handle};
 use office::{Call, Office};
@@ -96,12 +96,15 @@ pub(crate) fn host_of(alloc: Global, given: &Given) -> Option<MemoryHost> {
 }
 
 /// Runs a handler on the host.
-pub(crate) fn left<R: Threads + Wait + Sync>(
+pub(crate) fn run_on<R: Threads + Wait + Sync>(
     rt: &R,
     alloc: Global,
     host: &mut MemoryHost,
     given: &Given,
 ) -> Option<Left> {
+    if given.workers == 0 || given.workers > 11 {
+        return None;
+    }
     let setup = Setup {
         modes: MODES,
         journal: JOURNAL,
@@ -122,7 +125,7 @@ pub(crate) fn left<R: Threads + Wait + Sync>(
         line,
         peers: waiting(host, PEER)?,
         locals: waiting(host, LOCAL)?,
-        store: store(alloc, host),
+        store: reopened(alloc, host),
     })
 }
 
@@ -149,7 +152,7 @@ fn bytes(alloc: Global, host: &MemoryHost, path: &str) -> Option<Octets> {
     }
 }
 
-fn store(alloc: Global, host: &MemoryHost) -> Option<Store> {
+fn reopened(alloc: Global, host: &MemoryHost) -> Option<Store> {
     let selector = bytes(alloc, host, "j.s")?;
     let second = selector.bytes().first() == Some(&1);
     let files = Files {
@@ -195,16 +198,21 @@ fn tries(alloc: Global, office: &mut Office<'_, MemoryDisk>, pass: &mut Pass<'_,
     let Ok(id) = first.header.id.try_clone(alloc) else {
         return 0;
     };
-    let event = Event {
-        stamp: 0,
-        nonce: 0,
-        what: What::Status { id },
-    };
-    match office.step(pass, event) {
+    match office.step(pass, status_of(id)) {
         Ok(Reply::Pending { tries, .. }) => tries,
         other => {
             drop(other);
             0
         }
+    }
+}
+
+// The question what became of a submission.
+#[tactic(auto, unfolding(exchange_model::specs::Coming::may_come))]
+fn status_of(id: MessageId) -> Event {
+    Event {
+        stamp: 0,
+        nonce: 0,
+        what: What::Status { id },
     }
 }

@@ -1,6 +1,6 @@
 //! Runs of a handler.
 
-use crate::rig::{Given, Left, Store, host_of, left};
+use crate::rig::{Given, Left, Store, host_of, run_on};
 use crate::samples::Sample;
 use handler::HandlerEnd;
 use std::alloc::Global;
@@ -245,7 +245,7 @@ fn runs_as<R: Threads + Wait + Sync>(rt: &R, alloc: Global, given: &Given, wante
     let Some(mut host) = host_of(alloc, given) else {
         return false;
     };
-    let left = left(rt, alloc, &mut host, given);
+    let left = run_on(rt, alloc, &mut host, given);
     drop(host);
     left == Some(*wanted)
 }
@@ -275,8 +275,8 @@ fn is_tried_once<R: Threads + Wait + Sync>(rt: &R, alloc: Global) -> bool {
     let Some(mut host) = host_of(alloc, &given) else {
         return false;
     };
-    let first = left(rt, alloc, &mut host, &given);
-    let again = left(rt, alloc, &mut host, &given);
+    let first = run_on(rt, alloc, &mut host, &given);
+    let again = run_on(rt, alloc, &mut host, &given);
     drop(host);
     match (first, again) {
         (Some(first), Some(again)) => {
@@ -313,7 +313,7 @@ fn first_lost<R: Threads + Wait + Sync>(rt: &R, alloc: Global, calls: u64) -> Op
         let Some(mut host) = host_of(alloc, &given) else {
             return Some(call);
         };
-        let left = left(rt, alloc, &mut host, &given);
+        let left = run_on(rt, alloc, &mut host, &given);
         drop(host);
         match left {
             Some(left) if left.end == HandlerEnd::HostFault && left.store.is_some() => {}
