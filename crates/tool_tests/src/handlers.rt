@@ -33,7 +33,7 @@ struct Row {
 
 const HANDLER: &str = "handler modes j http://p:1/ http://l:1/ --workers 1 --turns 0";
 
-const ROWS: [Row; 8] = [
+const ROWS: [Row; 7] = [
     Row {
         modes: Some(MODES),
         journal: None,
@@ -89,14 +89,6 @@ const ROWS: [Row; 8] = [
         line: "--version",
         status: 0,
         told: b"",
-    },
-    Row {
-        modes: None,
-        journal: None,
-        failing: 1,
-        line: "collect http://h:1/ 0 1 F",
-        status: 9,
-        told: b"host fault\n",
     },
 ];
 
