@@ -128,7 +128,7 @@ judged_cause file Stored before after HostFault result (inr (rose, is)) cause = 
 judged_cause file Stored before after ModesRefused result (inr (rose, is)) cause = subst (IsCause file Stored before after) (sym is) rose
 judged_cause file Stored before after (NotJournal at) result (inr (rose, is)) cause = subst (IsCause file Stored before after) (sym is) rose
 
--- an end that is neither want of memory nor a failing machine says that the count hasn't risen
+-- any other end than `NoMemory` and `HostFault` says that the count has not risen
 pub judged_calm : (before after : ℕ) (end result : HandlerEnd) → IsJudged end before after result → result ≢ NoMemory → result ≢ HostFault → HasNotRisen before after
 judged_calm before after end result (inl same) memory fault = same.0
 judged_calm before after NoMemory result (inr (rose, is)) memory fault = absurd (memory is)

@@ -125,7 +125,7 @@ module _ {H Store Door Dialer Time Dice DoorIn DoorOut DialerIn DialerOut : Type
         writes = omega (arith, serves.reads.counts.writes, at_peer.writes, at_local.writes, store.writes, hires.writes);
       }
 
-  -- and behind the two doors
+  -- the same from where the two workers at the doors are given back
   counts_from_middle : {pulls : List (List ℕ)} {peer local : Door} {office : OfficeState Store} {opened : H} (middle : Gathering H) (new : H)
       (works : Works M G K S setup pulls peer local office opened new Served) (rest : List (Worker Door Dialer Time Dice))
       → AllRetire M G K setup rest middle works.last → CountsOn M middle.host new

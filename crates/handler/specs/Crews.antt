@@ -26,7 +26,7 @@ jobs_of pulls peers =
 abbrev pub IsNew : {W In Out : Type 0} → DoorMeaning W In Out → W → Type 0
 IsNew G door = (G.faults door ≡ 0) × (G.reads door ≡ 0) × (G.writes door ≡ 0)
 
--- a pass that gave up this many stakes, one to each of so many passes
+-- a pass gave away this many of its stakes
 abbrev pub Splits : ℕ → PassState Call → PassState Call → Type 0
 Splits count old new = (new ≡ record old { stake = new.stake }) × (new.stake + count ≡ old.stake)
 

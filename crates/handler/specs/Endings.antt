@@ -40,7 +40,7 @@ EndsUnread (Ok modes) result = result ≡ Ok modes
 EndsUnread (Err modes.NoMemory) result = result ≡ Err NoMemory
 EndsUnread (Err refusal) result = result ≡ Err ModesRefused
 
--- the end if the machine failed meanwhile: want of memory comes first
+-- the end if the machine failed in the meantime; `NoMemory` stays
 abbrev pub if_failed : HandlerEnd → HandlerEnd
 if_failed NoMemory = NoMemory
 if_failed other = HostFault
