@@ -10,6 +10,10 @@
 //                                                 the microseconds of both, and those until all were submitted
 //     hand-off single PORT COUNT SIZE             submits one document after another, each when the one before is
 //                                                 receipted, and prints the mean of their microseconds
+//     hand-off statuses PORT COUNT HOW            asks for COUNT statuses, one after another, at the local service of a
+//                                                 handler, and prints the microseconds of all; HOW is `kept` for one
+//                                                 connection, and `fresh` for a connection each
+//     hand-off documents PORT COUNT HOW           the same, and submits documents of 1,024 bytes
 //     hand-off idle PORT COUNT                    opens connections and sends nothing, until it is killed
 //     hand-off slow PORT COUNT                    the same, and sends a byte a second on each
 #define _GNU_SOURCE
@@ -325,6 +329,38 @@ static int one_by_one(int count) {
     return 0;
 }
 
+// Sends a request so many times, one after another, and reads each response.
+static int repeat(const char *request, size_t size, int count, int is_kept) {
+    static struct message m;
+    double start = now();
+    int s = -1;
+    for (int n = 0; n < count; n++) {
+        if (s < 0) s = connect_to(service);
+        send_all(s, request, size);
+        receive(s, &m);
+        must(strncmp(m.bytes, "HTTP/1.1 200 ", 13) == 0 || strncmp(m.bytes, "HTTP/1.1 404 ", 13) == 0, m.bytes);
+        if (is_kept) continue;
+        close(s);
+        s = -1;
+    }
+    printf("%.0f\n", now() - start);
+    return 0;
+}
+
+static int ask_statuses(int count, int is_kept) {
+    char request[256];
+    int size = sprintf(request, "GET /status/none@x HTTP/1.1\r\nHost: h\r\n%s\r\n", is_kept ? "" : "Connection: close\r\n");
+    return repeat(request, size, count, is_kept);
+}
+
+static int submit_documents(int count, int is_kept) {
+    char request[2048];
+    int head = sprintf(request, "POST /submit/invoice/ HTTP/1.1\r\nHost: h\r\nContent-Type: text/plain\r\nContent-Length: 1024\r\n%s\r\n",
+        is_kept ? "" : "Connection: close\r\n");
+    memset(request + head, 'x', 1024);
+    return repeat(request, head + 1024, count, is_kept);
+}
+
 // Connections that the other side doesn't accept yet wait in the system; past its limit a connect waits, and isn't waited
 // for here.
 static _Noreturn void hold(int port, int count, int is_slow) {
@@ -365,6 +401,9 @@ int main(int argc, char **argv) {
         make_document(strtoul(argv[4], NULL, 10));
         return one_by_one(atoi(argv[3]));
     }
+    int is_kept = argc == 5 && strcmp(argv[4], "kept") == 0;
+    if (argc == 5 && strcmp(what, "statuses") == 0) return ask_statuses(atoi(argv[3]), is_kept);
+    if (argc == 5 && strcmp(what, "documents") == 0) return submit_documents(atoi(argv[3]), is_kept);
     if (argc == 4 && strcmp(what, "idle") == 0) hold(service, atoi(argv[3]), 0);
     if (argc == 4 && strcmp(what, "slow") == 0) hold(service, atoi(argv[3]), 1);
     return 64;

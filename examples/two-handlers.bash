@@ -3,6 +3,7 @@
 #     program    the program as4
 #     room       a folder for the files of both: END.toml (modes), END.journal, END.err (what END writes to its errors)
 #     workers    optional: how many workers of each handler serve the other one
+#     keep       optional: how many requests of one connection a handler answers
 #
 # and calls `stop_both` on each way out. END is a or b. a submits and b receives, by the mode `invoice`.
 declare -A peer_port local_port pid=([a]='' [b]='')
@@ -52,7 +53,7 @@ TOML
 start() {
     : > "$room/$1.err"
     "$program" handler "$room/$1.toml" "$room/$1.journal" "http://127.0.0.1:${peer_port[$1]}/" "http://127.0.0.1:${local_port[$1]}/" \
-        --workers "${workers:-4}" 2> "$room/$1.err" &
+        --workers "${workers:-4}" --keep "${keep:-1}" 2> "$room/$1.err" &
     pid[$1]=$!
 }
 
@@ -78,6 +79,16 @@ stop() {
 stop_both() {
     stop a TERM
     stop b TERM
+}
+
+# Ends both handlers and audits their journals. 1 if one isn't right.
+audit_both() {
+    local end
+    stop_both
+    for end in a b; do
+        "$program" audit "$room/$end.toml" "$room/$end.journal" > "$room/$end.audit" || return 1
+        echo "journal of $end: $(tail -n 1 "$room/$end.audit")"
+    done
 }
 
 # END TARGET: sends a GET request to the local service of a handler, and prints the body of the response.

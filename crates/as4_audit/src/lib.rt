@@ -19,4 +19,6 @@ mod walk;
 pub use auditing::audit;
 pub use finding::{Audit, AuditRefusal};
 pub use laws::{a_leaf_has_one_answer, what_a_step_gives_is_made};
+pub use records::records_of;
 pub use stamp::stamp_ms;
+pub use start::start_of;

@@ -20,7 +20,7 @@ use Rattle.as4_tool.proofs.ClapLemmas.{alone, as4_is_simple, as4_is_simple_and_f
 use Rattle.as4_tool.specs.Words.{Names, as4}
 use Rattle.as4_tool.specs.declared.command.WordsRefusal.{WordsRefusal}
 use Rattle.as4_tool.specs.declared.command.WordsRefusal.TheVariants as refusal
-use Rattle.as4_tool.specs.Command.{Asks, Gives, IsTurns, IsWithin, IsWorkers, Spells, Task, answer, check, collect, drill, generate, handler, help, name_of, submit, task_of, version}
+use Rattle.as4_tool.specs.Command.{Asks, Gives, IsKeep, IsTurns, IsWithin, IsWorkers, Spells, Task, answer, audit, check, collect, drill, generate, handler, help, name_of, relay, submit, task_of, version}
 use Rattle.as4_tool.specs.declared.command.Command.{Command}
 
 -- texts with different first bytes differ
@@ -36,9 +36,11 @@ only_answer rows P one (answer stamp nonce) named gives = one stamp nonce gives
 only_answer rows P one check named gives = absurd (differ (codes "check") (codes "answer") (λ same. omega (arith, same)) named)
 only_answer rows P one drill named gives = absurd (differ (codes "drill") (codes "answer") (λ same. omega (arith, same)) named)
 only_answer rows P one (generate seed count) named gives = absurd (differ (codes "drill") (codes "answer") (λ same. omega (arith, same)) named)
-only_answer rows P one (handler modes journal peer local workers turns) named gives = absurd (differ (codes "handler") (codes "answer") (λ same. omega (arith, same)) named)
+only_answer rows P one (handler modes journal peer local workers turns keep) named gives = absurd (differ (codes "handler") (codes "answer") (λ same. omega (arith, same)) named)
 only_answer rows P one (submit local mode conversation media) named gives = absurd (differ (codes "submit") (codes "answer") (λ same. omega (arith, same)) named)
 only_answer rows P one (collect local first count folder) named gives = absurd (differ (codes "collect") (codes "answer") (λ same. omega (arith, same)) named)
+only_answer rows P one (audit modes journal) named gives = cc named
+only_answer rows P one (relay modes journal mode count) named gives = absurd (differ (codes "relay") (codes "answer") (λ same. omega (arith, same)) named)
 
 pub only_check : (rows : List Row) (P : Task → Type 0)
     → (Gives rows check → P check)
@@ -49,9 +51,11 @@ only_check rows P one (answer stamp nonce) named gives = absurd (differ (codes "
 only_check rows P one check named gives = one gives
 only_check rows P one drill named gives = absurd (differ (codes "drill") (codes "check") (λ same. omega (arith, same)) named)
 only_check rows P one (generate seed count) named gives = absurd (differ (codes "drill") (codes "check") (λ same. omega (arith, same)) named)
-only_check rows P one (handler modes journal peer local workers turns) named gives = absurd (differ (codes "handler") (codes "check") (λ same. omega (arith, same)) named)
+only_check rows P one (handler modes journal peer local workers turns keep) named gives = absurd (differ (codes "handler") (codes "check") (λ same. omega (arith, same)) named)
 only_check rows P one (submit local mode conversation media) named gives = absurd (differ (codes "submit") (codes "check") (λ same. omega (arith, same)) named)
 only_check rows P one (collect local first count folder) named gives = cc named
+only_check rows P one (audit modes journal) named gives = absurd (differ (codes "audit") (codes "check") (λ same. omega (arith, same)) named)
+only_check rows P one (relay modes journal mode count) named gives = absurd (differ (codes "relay") (codes "check") (λ same. omega (arith, same)) named)
 
 pub only_drill : (rows : List Row) (P : Task → Type 0)
     → (Gives rows drill → P drill)
@@ -63,12 +67,14 @@ only_drill rows P one other (answer stamp nonce) named gives = absurd (differ (c
 only_drill rows P one other check named gives = absurd (differ (codes "check") (codes "drill") (λ same. omega (arith, same)) named)
 only_drill rows P one other drill named gives = one gives
 only_drill rows P one other (generate seed count) named gives = other seed count gives
-only_drill rows P one other (handler modes journal peer local workers turns) named gives = absurd (differ (codes "handler") (codes "drill") (λ same. omega (arith, same)) named)
+only_drill rows P one other (handler modes journal peer local workers turns keep) named gives = absurd (differ (codes "handler") (codes "drill") (λ same. omega (arith, same)) named)
 only_drill rows P one other (submit local mode conversation media) named gives = absurd (differ (codes "submit") (codes "drill") (λ same. omega (arith, same)) named)
 only_drill rows P one other (collect local first count folder) named gives = absurd (differ (codes "collect") (codes "drill") (λ same. omega (arith, same)) named)
+only_drill rows P one other (audit modes journal) named gives = absurd (differ (codes "audit") (codes "drill") (λ same. omega (arith, same)) named)
+only_drill rows P one other (relay modes journal mode count) named gives = absurd (differ (codes "relay") (codes "drill") (λ same. omega (arith, same)) named)
 
 pub only_handler : (rows : List Row) (P : Task → Type 0)
-    → ((modes journal peer local : List ℕ) (workers turns : ℕ) → Gives rows (handler modes journal peer local workers turns) → P (handler modes journal peer local workers turns))
+    → ((modes journal peer local : List ℕ) (workers turns keep : ℕ) → Gives rows (handler modes journal peer local workers turns keep) → P (handler modes journal peer local workers turns keep))
     → (task : Task) → name_of task ≡ codes "handler" → Gives rows task → P task
 only_handler rows P one help named gives = absurd gives
 only_handler rows P one version named gives = absurd gives
@@ -76,9 +82,11 @@ only_handler rows P one (answer stamp nonce) named gives = absurd (differ (codes
 only_handler rows P one check named gives = absurd (differ (codes "check") (codes "handler") (λ same. omega (arith, same)) named)
 only_handler rows P one drill named gives = absurd (differ (codes "drill") (codes "handler") (λ same. omega (arith, same)) named)
 only_handler rows P one (generate seed count) named gives = absurd (differ (codes "drill") (codes "handler") (λ same. omega (arith, same)) named)
-only_handler rows P one (handler modes journal peer local workers turns) named gives = one modes journal peer local workers turns gives
+only_handler rows P one (handler modes journal peer local workers turns keep) named gives = one modes journal peer local workers turns keep gives
 only_handler rows P one (submit local mode conversation media) named gives = absurd (differ (codes "submit") (codes "handler") (λ same. omega (arith, same)) named)
 only_handler rows P one (collect local first count folder) named gives = absurd (differ (codes "collect") (codes "handler") (λ same. omega (arith, same)) named)
+only_handler rows P one (audit modes journal) named gives = absurd (differ (codes "audit") (codes "handler") (λ same. omega (arith, same)) named)
+only_handler rows P one (relay modes journal mode count) named gives = absurd (differ (codes "relay") (codes "handler") (λ same. omega (arith, same)) named)
 
 pub only_submit : (rows : List Row) (P : Task → Type 0)
     → ((local mode conversation media : List ℕ) → Gives rows (submit local mode conversation media) → P (submit local mode conversation media))
@@ -89,9 +97,11 @@ only_submit rows P one (answer stamp nonce) named gives = absurd (differ (codes 
 only_submit rows P one check named gives = absurd (differ (codes "check") (codes "submit") (λ same. omega (arith, same)) named)
 only_submit rows P one drill named gives = absurd (differ (codes "drill") (codes "submit") (λ same. omega (arith, same)) named)
 only_submit rows P one (generate seed count) named gives = absurd (differ (codes "drill") (codes "submit") (λ same. omega (arith, same)) named)
-only_submit rows P one (handler modes journal peer local workers turns) named gives = absurd (differ (codes "handler") (codes "submit") (λ same. omega (arith, same)) named)
+only_submit rows P one (handler modes journal peer local workers turns keep) named gives = absurd (differ (codes "handler") (codes "submit") (λ same. omega (arith, same)) named)
 only_submit rows P one (submit local mode conversation media) named gives = one local mode conversation media gives
 only_submit rows P one (collect local first count folder) named gives = absurd (differ (codes "collect") (codes "submit") (λ same. omega (arith, same)) named)
+only_submit rows P one (audit modes journal) named gives = absurd (differ (codes "audit") (codes "submit") (λ same. omega (arith, same)) named)
+only_submit rows P one (relay modes journal mode count) named gives = absurd (differ (codes "relay") (codes "submit") (λ same. omega (arith, same)) named)
 
 pub only_collect : (rows : List Row) (P : Task → Type 0)
     → ((local : List ℕ) (first count : ℕ) (folder : List ℕ) → Gives rows (collect local first count folder) → P (collect local first count folder))
@@ -102,9 +112,41 @@ only_collect rows P one (answer stamp nonce) named gives = absurd (differ (codes
 only_collect rows P one check named gives = cc named
 only_collect rows P one drill named gives = absurd (differ (codes "drill") (codes "collect") (λ same. omega (arith, same)) named)
 only_collect rows P one (generate seed count) named gives = absurd (differ (codes "drill") (codes "collect") (λ same. omega (arith, same)) named)
-only_collect rows P one (handler modes journal peer local workers turns) named gives = absurd (differ (codes "handler") (codes "collect") (λ same. omega (arith, same)) named)
+only_collect rows P one (handler modes journal peer local workers turns keep) named gives = absurd (differ (codes "handler") (codes "collect") (λ same. omega (arith, same)) named)
 only_collect rows P one (submit local mode conversation media) named gives = absurd (differ (codes "submit") (codes "collect") (λ same. omega (arith, same)) named)
 only_collect rows P one (collect local first count folder) named gives = one local first count folder gives
+only_collect rows P one (audit modes journal) named gives = absurd (differ (codes "audit") (codes "collect") (λ same. omega (arith, same)) named)
+only_collect rows P one (relay modes journal mode count) named gives = absurd (differ (codes "relay") (codes "collect") (λ same. omega (arith, same)) named)
+
+pub only_audit : (rows : List Row) (P : Task → Type 0)
+    → ((modes journal : List ℕ) → Gives rows (audit modes journal) → P (audit modes journal))
+    → (task : Task) → name_of task ≡ codes "audit" → Gives rows task → P task
+only_audit rows P one help named gives = absurd gives
+only_audit rows P one version named gives = absurd gives
+only_audit rows P one (answer stamp nonce) named gives = cc named
+only_audit rows P one check named gives = absurd (differ (codes "check") (codes "audit") (λ same. omega (arith, same)) named)
+only_audit rows P one drill named gives = absurd (differ (codes "drill") (codes "audit") (λ same. omega (arith, same)) named)
+only_audit rows P one (generate seed count) named gives = absurd (differ (codes "drill") (codes "audit") (λ same. omega (arith, same)) named)
+only_audit rows P one (handler modes journal peer local workers turns keep) named gives = absurd (differ (codes "handler") (codes "audit") (λ same. omega (arith, same)) named)
+only_audit rows P one (submit local mode conversation media) named gives = absurd (differ (codes "submit") (codes "audit") (λ same. omega (arith, same)) named)
+only_audit rows P one (collect local first count folder) named gives = absurd (differ (codes "collect") (codes "audit") (λ same. omega (arith, same)) named)
+only_audit rows P one (audit modes journal) named gives = one modes journal gives
+only_audit rows P one (relay modes journal mode count) named gives = absurd (differ (codes "relay") (codes "audit") (λ same. omega (arith, same)) named)
+
+pub only_relay : (rows : List Row) (P : Task → Type 0)
+    → ((modes journal mode : List ℕ) (count : ℕ) → Gives rows (relay modes journal mode count) → P (relay modes journal mode count))
+    → (task : Task) → name_of task ≡ codes "relay" → Gives rows task → P task
+only_relay rows P one help named gives = absurd gives
+only_relay rows P one version named gives = absurd gives
+only_relay rows P one (answer stamp nonce) named gives = absurd (differ (codes "answer") (codes "relay") (λ same. omega (arith, same)) named)
+only_relay rows P one check named gives = absurd (differ (codes "check") (codes "relay") (λ same. omega (arith, same)) named)
+only_relay rows P one drill named gives = absurd (differ (codes "drill") (codes "relay") (λ same. omega (arith, same)) named)
+only_relay rows P one (generate seed count) named gives = absurd (differ (codes "drill") (codes "relay") (λ same. omega (arith, same)) named)
+only_relay rows P one (handler modes journal peer local workers turns keep) named gives = absurd (differ (codes "handler") (codes "relay") (λ same. omega (arith, same)) named)
+only_relay rows P one (submit local mode conversation media) named gives = absurd (differ (codes "submit") (codes "relay") (λ same. omega (arith, same)) named)
+only_relay rows P one (collect local first count folder) named gives = absurd (differ (codes "collect") (codes "relay") (λ same. omega (arith, same)) named)
+only_relay rows P one (audit modes journal) named gives = absurd (differ (codes "audit") (codes "relay") (λ same. omega (arith, same)) named)
+only_relay rows P one (relay modes journal mode count) named gives = one modes journal mode count gives
 
 -- words of a command, with its values, spell its task
 pub spelled : (words : List (List ℕ)) (task : Task) (rows : List Row) → Names words (name_of task) rows → Gives rows task → Spells words task
@@ -114,9 +156,11 @@ spelled words (answer stamp nonce) rows named gives = (rows, named, gives)
 spelled words check rows named gives = (rows, named, gives)
 spelled words drill rows named gives = (rows, named, gives)
 spelled words (generate seed count) rows named gives = (rows, named, gives)
-spelled words (handler modes journal peer local workers turns) rows named gives = (rows, named, gives)
+spelled words (handler modes journal peer local workers turns keep) rows named gives = (rows, named, gives)
 spelled words (submit local mode conversation media) rows named gives = (rows, named, gives)
 spelled words (collect local first count folder) rows named gives = (rows, named, gives)
+spelled words (audit modes journal) rows named gives = (rows, named, gives)
+spelled words (relay modes journal mode count) rows named gives = (rows, named, gives)
 
 -- and only they do, if `clap` has no error
 pub unspelled : (words : List (List ℕ)) (task : Task) → fault_of as4 words ≡ [] → Spells words task
@@ -127,9 +171,11 @@ unspelled words (answer stamp nonce) right spells = (spells.0, spells.1.named, s
 unspelled words check right spells = (spells.0, spells.1.named, spells.2)
 unspelled words drill right spells = (spells.0, spells.1.named, spells.2)
 unspelled words (generate seed count) right spells = (spells.0, spells.1.named, spells.2)
-unspelled words (handler modes journal peer local workers turns) right spells = (spells.0, spells.1.named, spells.2)
+unspelled words (handler modes journal peer local workers turns keep) right spells = (spells.0, spells.1.named, spells.2)
 unspelled words (submit local mode conversation media) right spells = (spells.0, spells.1.named, spells.2)
 unspelled words (collect local first count folder) right spells = (spells.0, spells.1.named, spells.2)
+unspelled words (audit modes journal) right spells = (spells.0, spells.1.named, spells.2)
+unspelled words (relay modes journal mode count) right spells = (spells.0, spells.1.named, spells.2)
 
 -- the matches that `clap` has at a command's words
 pub right_task : (words : List (List ℕ)) (app : App) (m : ArgMatches) (task : Task) → app ≡ as4
@@ -204,9 +250,11 @@ only_asked words app k r is kinds only memory task spells =
     go check has spells = right check has spells.1.right
     go drill has spells = right drill has spells.1.right
     go (generate seed count) has spells = right (generate seed count) has spells.1.right
-    go (handler modes journal peer local workers turns) has spells = right (handler modes journal peer local workers turns) has spells.1.right
+    go (handler modes journal peer local workers turns keep) has spells = right (handler modes journal peer local workers turns keep) has spells.1.right
     go (submit local mode conversation media) has spells = right (submit local mode conversation media) has spells.1.right
     go (collect local first count folder) has spells = right (collect local first count folder) has spells.1.right
+    go (audit modes journal) has spells = right (audit modes journal) has spells.1.right
+    go (relay modes journal mode count) has spells = right (relay modes journal mode count) has spells.1.right
 
 -- one text more, that of the next word
 pub texts_more : (words : List (List ℕ)) (texts later : List (Bor (List ℕ))) (i : ℕ) (word : List ℕ) (text : Bor (List ℕ))
@@ -228,6 +276,10 @@ workers_within : (text : Option (List ℕ)) (n : ℕ) → IsWorkers text n → (
 workers_within None n is = (omega (arith, is), omega (arith, is))
 workers_within (Some text) n is = (is.1, is.2)
 
+keep_within : (text : Option (List ℕ)) (n : ℕ) → IsKeep text n → (1 ≤ n) × (n ≤ 1000)
+keep_within None n is = (omega (arith, is), omega (arith, is))
+keep_within (Some text) n is = (is.1, is.2)
+
 -- the numbers of a task that is spelled are within their bounds
 pub spelled_within : (words : List (List ℕ)) (task : Task) → Spells words task → IsWithin task
 spelled_within words help spells = tt
@@ -236,10 +288,12 @@ spelled_within words (answer stamp nonce) spells = spells.2.2
 spelled_within words check spells = tt
 spelled_within words drill spells = tt
 spelled_within words (generate seed count) spells = spells.2.2
-spelled_within words (handler modes journal peer local workers turns) spells =
-    workers_within (first_of (codes "workers") spells.0) workers spells.2.3
+spelled_within words (handler modes journal peer local workers turns keep) spells =
+    (workers_within (first_of (codes "workers") spells.0) workers spells.2.3, keep_within (first_of (codes "keep") spells.0) keep spells.2.5)
 spelled_within words (submit local mode conversation media) spells = tt
 spelled_within words (collect local first count folder) spells = (spells.2.1.1, spells.2.2.1)
+spelled_within words (audit modes journal) spells = tt
+spelled_within words (relay modes journal mode count) spells = tt
 
 -- a number of 128 bits has at most 64 digits
 short : (n : ℕ) → n < 2 ^ 128 → n < 10 ^ 64
@@ -266,6 +320,11 @@ turns_once None one other first second = first ∙ sym second
 turns_once (Some text) one other first second =
     decimal_once one other (omega (arith, first.1)) (omega (arith, second.1)) (sym first.0 ∙ second.0)
 
+keep_once : (o : Option (List ℕ)) (one other : ℕ) → IsKeep o one → IsKeep o other → one ≡ other
+keep_once None one other first second = first ∙ sym second
+keep_once (Some text) one other first second =
+    decimal_once one other (omega (arith, first.2)) (omega (arith, second.2)) (sym first.0 ∙ second.0)
+
 two_once : (o : Option (List (List ℕ))) (a b c d : List ℕ) → o ≡ Some (a ∷ b ∷ []) → o ≡ Some (c ∷ d ∷ []) → (a ≡ c) × (b ≡ d)
 two_once o a b c d first second =
     let lists : a ∷ b ∷ [] ≡ c ∷ d ∷ [] = ap (λ (q : Option (List (List ℕ))). unwrap_or q (a ∷ b ∷ [])) (sym first ∙ second) in
@@ -286,9 +345,11 @@ reads_of words (answer stamp nonce) right spells = spells
 reads_of words check right spells = spells
 reads_of words drill right spells = spells
 reads_of words (generate seed count) right spells = spells
-reads_of words (handler modes journal peer local workers turns) right spells = spells
+reads_of words (handler modes journal peer local workers turns keep) right spells = spells
 reads_of words (submit local mode conversation media) right spells = spells
 reads_of words (collect local first count folder) right spells = spells
+reads_of words (audit modes journal) right spells = spells
+reads_of words (relay modes journal mode count) right spells = spells
 
 -- words spell at most one task
 pub spells_once : (words : List (List ℕ)) (one other : Task) → Spells words one → Spells words other → one ≡ other
@@ -298,18 +359,22 @@ spells_once words help (answer stamp nonce) first second = cc (first, second.1.r
 spells_once words help check first second = cc (first, second.1.right)
 spells_once words help drill first second = cc (first, second.1.right)
 spells_once words help (generate seed count) first second = cc (first, second.1.right)
-spells_once words help (handler modes journal peer local workers turns) first second = cc (first, second.1.right)
+spells_once words help (handler modes journal peer local workers turns keep) first second = cc (first, second.1.right)
 spells_once words help (submit local mode conversation media) first second = cc (first, second.1.right)
 spells_once words help (collect local start count folder) first second = cc (first, second.1.right)
+spells_once words help (audit modes journal) first second = cc (first, second.1.right)
+spells_once words help (relay modes journal mode count) first second = cc (first, second.1.right)
 spells_once words version help first second = cc (first, second)
 spells_once words version version first second = refl
 spells_once words version (answer stamp nonce) first second = cc (first, second.1.right)
 spells_once words version check first second = cc (first, second.1.right)
 spells_once words version drill first second = cc (first, second.1.right)
 spells_once words version (generate seed count) first second = cc (first, second.1.right)
-spells_once words version (handler modes journal peer local workers turns) first second = cc (first, second.1.right)
+spells_once words version (handler modes journal peer local workers turns keep) first second = cc (first, second.1.right)
 spells_once words version (submit local mode conversation media) first second = cc (first, second.1.right)
 spells_once words version (collect local start count folder) first second = cc (first, second.1.right)
+spells_once words version (audit modes journal) first second = cc (first, second.1.right)
+spells_once words version (relay modes journal mode count) first second = cc (first, second.1.right)
 spells_once words (answer stamp nonce) other first second =
     let reads = reads_of words other first.1.right second in
     let same = same_name words (codes "answer") (name_of other) first.0 reads.0 first.1 reads.1 in
@@ -343,18 +408,19 @@ spells_once words (generate seed count) other first second =
     let counts : count ≡ count2 = decimal_once count count2 (omega (arith, first.2.2)) (omega (arith, gives.2)) both.1 in
     cc (seeds, counts))
     other same.0 (subst (λ (rows : List Row). Gives rows other) same.1 reads.2)
-spells_once words (handler modes journal peer local workers turns) other first second =
+spells_once words (handler modes journal peer local workers turns keep) other first second =
     let reads = reads_of words other first.1.right second in
     let same = same_name words (codes "handler") (name_of other) first.0 reads.0 first.1 reads.1 in
-    only_handler first.0 (λ t. handler modes journal peer local workers turns ≡ t)
-    (λ modes2 journal2 peer2 local2 workers2 turns2 gives.
+    only_handler first.0 (λ t. handler modes journal peer local workers turns keep ≡ t)
+    (λ modes2 journal2 peer2 local2 workers2 turns2 keep2 gives.
     let modes_same = text_once (first_of (codes "MODES") first.0) modes modes2 first.2.0.0 gives.0.0 in
     let journal_same = text_once (first_of (codes "JOURNAL") first.0) journal journal2 first.2.0.1 gives.0.1 in
     let peer_same = text_once (first_of (codes "PEER") first.0) peer peer2 first.2.1.0 gives.1.0 in
     let local_same = text_once (first_of (codes "LOCAL") first.0) local local2 first.2.2.0 gives.2.0 in
     let workers_same = workers_once (first_of (codes "workers") first.0) workers workers2 first.2.3 gives.3 in
     let turns_same = turns_once (first_of (codes "turns") first.0) turns turns2 first.2.4 gives.4 in
-    cc (modes_same, journal_same, peer_same, local_same, workers_same, turns_same))
+    let keep_same = keep_once (first_of (codes "keep") first.0) keep keep2 first.2.5 gives.5 in
+    cc (modes_same, journal_same, peer_same, local_same, workers_same, turns_same, keep_same))
     other same.0 (subst (λ (rows : List Row). Gives rows other) same.1 reads.2)
 spells_once words (submit local mode conversation media) other first second =
     let reads = reads_of words other first.1.right second in
@@ -377,6 +443,26 @@ spells_once words (collect local first count folder) other spells second =
     let count_same = number_once (first_of (codes "COUNT") spells.0) count count2 spells.2.2.0 gives.2.0 (omega (arith, spells.2.2.1)) (omega (arith, gives.2.1)) in
     let folder_same = text_once (first_of (codes "FOLDER") spells.0) folder folder2 spells.2.3 gives.3 in
     cc (local_same, first_same, count_same, folder_same))
+    other same.0 (subst (λ (rows : List Row). Gives rows other) same.1 reads.2)
+spells_once words (audit modes journal) other spells second =
+    let reads = reads_of words other spells.1.right second in
+    let same = same_name words (codes "audit") (name_of other) spells.0 reads.0 spells.1 reads.1 in
+    only_audit spells.0 (λ t. audit modes journal ≡ t)
+    (λ modes2 journal2 gives.
+    let modes_same = text_once (first_of (codes "MODES") spells.0) modes modes2 spells.2.0 gives.0 in
+    let journal_same = text_once (first_of (codes "JOURNAL") spells.0) journal journal2 spells.2.1 gives.1 in
+    cc (modes_same, journal_same))
+    other same.0 (subst (λ (rows : List Row). Gives rows other) same.1 reads.2)
+spells_once words (relay modes journal mode count) other spells second =
+    let reads = reads_of words other spells.1.right second in
+    let same = same_name words (codes "relay") (name_of other) spells.0 reads.0 spells.1 reads.1 in
+    only_relay spells.0 (λ t. relay modes journal mode count ≡ t)
+    (λ modes2 journal2 mode2 count2 gives.
+    let modes_same = text_once (first_of (codes "MODES") spells.0) modes modes2 spells.2.0.0 gives.0.0 in
+    let journal_same = text_once (first_of (codes "JOURNAL") spells.0) journal journal2 spells.2.0.1 gives.0.1 in
+    let mode_same = text_once (first_of (codes "MODE") spells.0) mode mode2 spells.2.1.0 gives.1.0 in
+    let count_same = number_once (first_of (codes "COUNT") spells.0) count count2 spells.2.2.0 gives.2.0 (omega (arith, spells.2.2.1)) (omega (arith, gives.2.1)) in
+    cc (modes_same, journal_same, mode_same, count_same))
     other same.0 (subst (λ (rows : List Row). Gives rows other) same.1 reads.2)
 
 -- the one word for the help, and that for the version

@@ -21,9 +21,11 @@ pub data Task : Type 0 where
   check : Task
   drill : Task
   generate : ℕ → ℕ → Task
-  handler : List ℕ → List ℕ → List ℕ → List ℕ → ℕ → ℕ → Task
+  handler : List ℕ → List ℕ → List ℕ → List ℕ → ℕ → ℕ → ℕ → Task
   submit : List ℕ → List ℕ → List ℕ → List ℕ → Task
   collect : List ℕ → ℕ → ℕ → List ℕ → Task
+  audit : List ℕ → List ℕ → Task
+  relay : List ℕ → List ℕ → List ℕ → ℕ → Task
 
 -- a command, whose texts are borrowed, as a task
 abbrev pub task_of : Command → Task
@@ -33,9 +35,11 @@ task_of (command.Answer stamp nonce) = answer stamp nonce
 task_of command.Check = check
 task_of command.Drill = drill
 task_of (command.Generate seed count) = generate seed count
-task_of (command.Handler s) = handler s.modes.now s.journal.now s.peer.now s.local.now s.workers s.turns
+task_of (command.Handler s) = handler s.modes.now s.journal.now s.peer.now s.local.now s.workers s.turns s.keep
 task_of (command.Submit s) = submit s.local.now s.mode.now s.conversation.now s.media.now
 task_of (command.Collect c) = collect c.local.now c.first c.count c.folder.now
+task_of (command.Audit j) = audit j.modes.now j.journal.now
+task_of (command.Relay r) = relay r.from.modes.now r.from.journal.now r.mode.now r.count
 
 -- an address of a service: its target is `/`
 abbrev pub IsService : List ℕ → Type 0
@@ -59,6 +63,11 @@ abbrev pub IsTurns : Option (List ℕ) → ℕ → Type 0
 IsTurns None n = n ≡ 2 ^ 63
 IsTurns (Some text) n = (text ≡ decimal n) × IsCount n
 
+-- the number of requests of a connection, 1 if none is given
+abbrev pub IsKeep : Option (List ℕ) → ℕ → Type 0
+IsKeep None n = n ≡ 1
+IsKeep (Some text) n = (text ≡ decimal n) × (1 ≤ n) × (n ≤ 1000)
+
 -- the value of this name is this text
 abbrev pub Has : List Row → List ℕ → List ℕ → Type 0
 Has rows name text = first_of name rows ≡ Some text
@@ -73,12 +82,13 @@ Gives rows check = Unit {0}
 Gives rows drill = all_of (codes "generate") rows ≡ None
 Gives rows (generate seed count) =
     (all_of (codes "generate") rows ≡ Some (decimal seed ∷ decimal count ∷ [])) × (seed < 2 ^ 64) × (count ≤ 1000)
-Gives rows (handler modes journal peer local workers turns) =
+Gives rows (handler modes journal peer local workers turns keep) =
     (Has rows (codes "MODES") modes × Has rows (codes "JOURNAL") journal)
     × (Has rows (codes "PEER") peer × IsService peer)
     × (Has rows (codes "LOCAL") local × IsService local)
     × IsWorkers (first_of (codes "workers") rows) workers
     × IsTurns (first_of (codes "turns") rows) turns
+    × IsKeep (first_of (codes "keep") rows) keep
 Gives rows (submit local mode conversation media) =
     (Has rows (codes "LOCAL") local × IsService local)
     × (Has rows (codes "MODE") mode × IsMode mode)
@@ -89,6 +99,11 @@ Gives rows (collect local first count folder) =
     × (Has rows (codes "FIRST") (decimal first) × IsCount first)
     × (Has rows (codes "COUNT") (decimal count) × IsCount count)
     × Has rows (codes "FOLDER") folder
+Gives rows (audit modes journal) = Has rows (codes "MODES") modes × Has rows (codes "JOURNAL") journal
+Gives rows (relay modes journal mode count) =
+    (Has rows (codes "MODES") modes × Has rows (codes "JOURNAL") journal)
+    × (Has rows (codes "MODE") mode × IsMode mode)
+    × (Has rows (codes "COUNT") (decimal count) × (count ≤ 1_048_576))
 
 -- the name of the command that does a task
 abbrev pub name_of : Task → List ℕ
@@ -98,9 +113,11 @@ name_of (answer stamp nonce) = codes "answer"
 name_of check = codes "check"
 name_of drill = codes "drill"
 name_of (generate seed count) = codes "drill"
-name_of (handler modes journal peer local workers turns) = codes "handler"
+name_of (handler modes journal peer local workers turns keep) = codes "handler"
 name_of (submit local mode conversation media) = codes "submit"
 name_of (collect local first count folder) = codes "collect"
+name_of (audit modes journal) = codes "audit"
+name_of (relay modes journal mode count) = codes "relay"
 
 -- an error of this kind asks for a task
 abbrev pub Asks : ErrorKind → Task → Type 0
@@ -116,13 +133,13 @@ Spells words task = (rows : List Row) × Names words (name_of task) rows × Give
 abbrev pub IsWithin : Task → Type 0
 IsWithin (answer stamp nonce) = stamp ≤ MAX_MOMENT
 IsWithin (generate seed count) = count ≤ 1000
-IsWithin (handler modes journal peer local workers turns) = (1 ≤ workers) × (workers ≤ 11)
+IsWithin (handler modes journal peer local workers turns keep) = ((1 ≤ workers) × (workers ≤ 11)) × ((1 ≤ keep) × (keep ≤ 1000))
 IsWithin (collect local first count folder) = IsCount first × IsCount count
 IsWithin other = Unit {0}
 
 -- a run that takes one thread alone does each task but that of a handler
 abbrev pub IsAlone : Task → Type 0
-IsAlone (handler modes journal peer local workers turns) = ⊥
+IsAlone (handler modes journal peer local workers turns keep) = ⊥
 IsAlone other = Unit {0}
 
 -- these words are texts and spell a task that is done alone

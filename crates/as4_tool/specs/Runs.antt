@@ -3,9 +3,12 @@ use Rattle.std.specs.Prelude.{◌≡◌, ◌≢◌, ℕ, ◌+◌, ◌≤◌, ◌
 use Rattle.as4_flow.specs.Flow.{LosesFront, Rose, Streams, Told, between, flow}
 use Rattle.as4_flow.specs.declared.source.Source.{Ghosts as SourceMeaning}
 use Rattle.as4_flow.specs.declared.sink.Sink.{Ghosts as SinkMeaning}
+use Rattle.as4_disk.specs.declared.disk.Disk.{Ghosts as DiskMeaning}
 use Rattle.as4_host.specs.Lists.{first_of}
 use Rattle.as4_host.specs.declared.host.Host.{Ghosts as HostMeaning}
 use Rattle.as4_host.specs.declared.link.Link.{Ghosts as LinkMeaning}
+use Rattle.auditor.specs.Auditing.{AuditsBy, ReadsAmong}
+use Rattle.auditor.specs.declared.ending.AuditEnd.{AuditEnd}
 use Rattle.clients.specs.Answered.{IsAnswerTo, IsLastAnswer}
 use Rattle.clients.specs.Lines.{KeepsOthers, WritesLines, answer_of}
 use Rattle.clients.specs.Requests.{submit_request}
@@ -14,10 +17,15 @@ use Rattle.clients.specs.Sent.{SendsOnce, SendsRequests}
 use Rattle.clients.specs.declared.ending.CollectEnd.{CollectEnd}
 use Rattle.clients.specs.declared.ending.SubmitEnd.{SubmitEnd}
 use Rattle.clients.specs.declared.ending.SubmitEnd.TheVariants as submit_end
+use Rattle.handler.specs.Hosts.{files_of}
+use Rattle.handler.specs.Stores.{AreModesOf, LeavesStore}
+use Rattle.relayer.specs.Ends.{IsJudged}
+use Rattle.relayer.specs.Running.{RelaysBy, Touches}
+use Rattle.relayer.specs.declared.ending.RelayerEnd.{RelayerEnd}
 use Rattle.as4_tool.specs.Answer.{IsSignalFile}
-use Rattle.as4_tool.specs.Command.{IsAlone, Spells, Task, answer, check, collect, drill, generate, handler, help, submit, version}
+use Rattle.as4_tool.specs.Command.{IsAlone, Spells, Task, answer, check, audit, collect, drill, generate, handler, help, relay, submit, version}
 use Rattle.as4_tool.specs.Ends.{Ends, TellsFaults, WritesAs}
-use Rattle.as4_tool.specs.Status.{IsOneOf, code_of, status_of_collection, status_of_submission}
+use Rattle.as4_tool.specs.Status.{IsOneOf, code_of, status_of_audit, status_of_collection, status_of_relaying, status_of_submission}
 use Rattle.as4_tool.specs.declared.limit.TheConstants.{LIMIT}
 use Rattle.as4_tool.specs.declared.status.Status.{Status}
 use Rattle.as4_tool.specs.declared.status.Status.TheVariants.{BadWords, Done, HostFault, NoMemory, NotUser, ReadFault, Refused, TooLong, WriteFault}
@@ -119,25 +127,49 @@ module _ {H Store Door Dialer Time Dice DoorIn DoorOut DialerIn DialerOut : Type
       pub write_faults : TellsEither WriteFault (code_of status) (S.faults before) (S.faults after) (M.writes old) (M.writes new)
       pub host_faults : TellsFaults HostFault (code_of status) (M.fault_count old) (M.fault_count new)
 
+module _ {H Store Door Dialer Time Dice DoorIn DoorOut DialerIn DialerOut : Type 0} (M : HostMeaning H Store Door Dialer Time Dice DoorIn DoorOut DialerIn DialerOut)
+    {O : Type 0} (S : SinkMeaning O) where
+  pub record RunsAudit (modes journal : List ℕ) (status : Status) (old new : H) (before after : O) : Type 0 where
+    pub end : AuditEnd
+    pub status_is : status ≡ status_of_audit end
+    pub audits : AuditsBy M modes journal old new (S.taken before) (S.taken after) end
+    pub reads : ReadsAmong M (modes ∷ files_of journal) old new
+    pub write_faults : TellsFaults WriteFault (code_of status) (S.faults before) (S.faults after)
+    pub host_faults : TellsFaults HostFault (code_of status) (M.fault_count old) (M.fault_count new)
+
+  pub record RunsRelay (D : DiskMeaning Store) (modes journal mode : List ℕ) (count : ℕ) (status : Status) (old new : H) (before after : O) : Type 0 where
+    pub end : RelayerEnd
+    pub status_is : status ≡ status_of_relaying end
+    pub relays : (found : RelayerEnd) × RelaysBy M D modes journal mode count old new (S.taken before) (S.taken after) found
+        × IsJudged found (M.fault_count old) (M.fault_count new) end
+    pub touches : Touches M (modes ∷ files_of journal) journal old new
+    pub store : LeavesStore M (AreModesOf (M.file old modes)) journal old new
+    pub write_faults : TellsFaults WriteFault (code_of status) (S.faults before) (S.faults after)
+
 -- the input of a task that reads none is as it was
 abbrev pub LeavesInput : {I : Type 0} → Task → I → I → Type 0
 LeavesInput help input later = later ≡ input
 LeavesInput version input later = later ≡ input
 LeavesInput (generate seed count) input later = later ≡ input
 LeavesInput (collect local first count folder) input later = later ≡ input
-LeavesInput (handler modes journal peer local workers turns) input later = later ≡ input
+LeavesInput (audit modes journal) input later = later ≡ input
+LeavesInput (relay modes journal mode count) input later = later ≡ input
+LeavesInput (handler modes journal peer local workers turns keep) input later = later ≡ input
 LeavesInput other input later = Unit {0}
 
 module _ {I O : Type 0} (S : SourceMeaning I) (W : SinkMeaning O)
     {H Store Door Dialer Time Dice DoorIn DoorOut DialerIn DialerOut : Type 0} (M : HostMeaning H Store Door Dialer Time Dice DoorIn DoorOut DialerIn DialerOut)
-    {L In Out : Type 0} (K : LinkMeaning L In Out) where
+    {L In Out : Type 0} (K : LinkMeaning L In Out) (D : DiskMeaning Store) where
   -- what a run of each task does
   abbrev pub Does : Task → Status → I → I → O → O → H → H → Type 0
   Does (submit local mode conversation media) status input later output after old new =
       RunsSubmit M K local mode conversation media status (ran S W input later output after) old new
   Does (collect local first count folder) status input later output after old new =
       RunsCollect M K W local first count folder status old new output after
-  Does (handler modes journal peer local workers turns) status input later output after old new =
+  Does (audit modes journal) status input later output after old new = RunsAudit M W modes journal status old new output after
+  Does (relay modes journal mode count) status input later output after old new =
+      RunsRelay M W D modes journal mode count status old new output after
+  Does (handler modes journal peer local workers turns keep) status input later output after old new =
       (status ≡ BadWords) × (after ≡ output) × (new ≡ old)
   Does task status input later output after old new = RunsOver task status (ran S W input later output after) × (new ≡ old)
 

@@ -31,7 +31,7 @@ drill_command = command (codes "drill") (option_of_two (codes "generate") ∷ []
 
 abbrev pub handler_command : Shape
 handler_command = command (codes "handler") (value (codes "MODES") ∷ value (codes "JOURNAL") ∷ value (codes "PEER")
-    ∷ value (codes "LOCAL") ∷ option (codes "workers") ∷ option (codes "turns") ∷ [])
+    ∷ value (codes "LOCAL") ∷ option (codes "workers") ∷ option (codes "turns") ∷ option (codes "keep") ∷ [])
 
 abbrev pub submit_command : Shape
 submit_command = command (codes "submit") (value (codes "LOCAL") ∷ value (codes "MODE") ∷ value (codes "CONVERSATION")
@@ -40,6 +40,13 @@ submit_command = command (codes "submit") (value (codes "LOCAL") ∷ value (code
 abbrev pub collect_command : Shape
 collect_command = command (codes "collect") (value (codes "LOCAL") ∷ value (codes "FIRST") ∷ value (codes "COUNT")
     ∷ value (codes "FOLDER") ∷ [])
+
+abbrev pub audit_command : Shape
+audit_command = command (codes "audit") (value (codes "MODES") ∷ value (codes "JOURNAL") ∷ [])
+
+abbrev pub relay_command : Shape
+relay_command = command (codes "relay") (value (codes "MODES") ∷ value (codes "JOURNAL") ∷ value (codes "MODE")
+    ∷ value (codes "COUNT") ∷ [])
 
 -- the program: its name isn't among the words, it has a version, and one of its commands is required
 abbrev pub program : Shape
@@ -53,7 +60,8 @@ program = record (new_shape (codes "as4")) {
 abbrev pub as4 : App
 as4 = record {
   top = record program { is_leaf = false };
-  subs = answer_command ∷ check_command ∷ drill_command ∷ handler_command ∷ submit_command ∷ collect_command ∷ [];
+  subs = answer_command ∷ check_command ∷ drill_command ∷ handler_command ∷ submit_command ∷ collect_command ∷ audit_command
+      ∷ relay_command ∷ [];
 }
 
 -- the words are those of the command of this name, and its values are in these rows

@@ -7,9 +7,11 @@
 //!     drill                                       runs a script of two endpoints, and writes a line for each reply
 //!     drill --generate SEED COUNT                 runs a generated script, and writes the totals of both endpoints
 //!     handler MODES JOURNAL PEER LOCAL            serves two addresses over a journal
-//!         [--workers N] [--turns T]
+//!         [--workers N] [--turns T] [--keep L]
 //!     submit LOCAL MODE CONVERSATION MEDIA        submits the input to a handler, and writes its response
 //!     collect LOCAL FIRST COUNT FOLDER            writes what a handler has received to files
+//!     audit MODES JOURNAL                         checks a journal, and writes a line for each change
+//!     relay MODES JOURNAL MODE COUNT              submits what a journal has received onwards
 
 ghost use Rattle.std.specs.Prelude.{◌≡◌, ℕ, List, All, Err, Some, IfOk, IfSome, MatchResult, map, option_map};
 ghost use Rattle.std.specs.Str.{IsUtf8};
@@ -18,7 +20,7 @@ ghost use Rattle.clap.specs.Simple.{subcommand_rows_of};
 ghost use Rattle.clap.specs.Walk.{Row, rows_of};
 
 use crate::parser::parser;
-use crate::values::{answer_of, collect_of, drill_of, handler_of, submit_of};
+use crate::values::{answer_of, audit_of, collect_of, drill_of, handler_of, relay_of, submit_of};
 use as4_values::{Octets, Seq};
 use clap::ArgMatches;
 use clap::error::ErrorKind;
@@ -52,6 +54,8 @@ pub enum Command<'a> {
     Handler(Service<'a>),
     Submit(Submission<'a>),
     Collect(Collection<'a>),
+    Audit(Journal<'a>),
+    Relay(Relaying<'a>),
 }
 
 /// What a handler serves.
@@ -69,6 +73,8 @@ pub struct Service<'a> {
     pub workers: u64,
     /// The turns of each worker, at most 2^63.
     pub turns: u64,
+    /// The most requests of one connection that are answered, 1 to 1,000.
+    pub keep: u64,
 }
 
 /// What is submitted, and to whom.
@@ -95,6 +101,25 @@ pub struct Collection<'a> {
     pub count: u64,
     /// The folder of the files.
     pub folder: &'a str,
+}
+
+/// A journal, and the modes of its endpoint.
+#[derive(Clone, Copy, Debug, PartialEq, Eq)]
+pub struct Journal<'a> {
+    /// The file of the modes.
+    pub modes: &'a str,
+    /// The path of the journal, without the ends of its three files.
+    pub journal: &'a str,
+}
+
+/// What is relayed, and how.
+#[derive(Clone, Copy, Debug, PartialEq, Eq)]
+pub struct Relaying<'a> {
+    pub from: Journal<'a>,
+    /// The mode to submit by, of 1 to 255 bytes.
+    pub mode: &'a str,
+    /// The most messages to relay, at most 1,048,576.
+    pub count: u64,
 }
 
 /// Why words aren't a command.
@@ -190,6 +215,8 @@ fn named<'a>(name: &str, found: &ArgMatches<'a>) -> Option<Command<'a>>
         "handler" => handler_of(found),
         "submit" => submit_of(found),
         "collect" => collect_of(found),
+        "audit" => audit_of(found),
+        "relay" => relay_of(found),
         _ => None,
     }
 }

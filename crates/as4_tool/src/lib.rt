@@ -3,6 +3,7 @@
 
 mod answering;
 mod answers;
+mod auditing;
 mod checking;
 mod collecting;
 mod command;
@@ -11,6 +12,7 @@ mod laws;
 mod limit;
 mod numbers;
 mod parser;
+mod relaying;
 mod running;
 mod services;
 mod serving;
@@ -21,8 +23,8 @@ mod values;
 mod writing;
 
 pub use command::{
-    Collection, Command, MAX_COUNT, Service, Submission, WordsRefusal, command_of, one_spelling,
-    texts_of,
+    Collection, Command, Journal, MAX_COUNT, Relaying, Service, Submission, WordsRefusal,
+    command_of, one_spelling, texts_of,
 };
 pub use laws::{a_signal_has_no_answer, one_answer, one_line};
 pub use limit::LIMIT;

@@ -2,7 +2,7 @@
 ghost use Rattle.std.specs.Prelude.{◌≡◌, IfOk, codes, false};
 ghost use Rattle.clap.specs.Walk.{rule_of};
 ghost use Rattle.clap.specs.Simple.{Shape};
-ghost use Rattle.as4_tool.specs.Words.{as4, program, value, option, option_of_two, answer_command, drill_command, handler_command, submit_command, collect_command};
+ghost use Rattle.as4_tool.specs.Words.{as4, program, value, option, option_of_two, answer_command, drill_command, handler_command, submit_command, collect_command, audit_command, relay_command};
 ghost use Rattle.as4_tool.specs.Adds.{AddsRule, AddsShape, IsApp, alone};
 
 use clap::{Arg, Command};
@@ -17,7 +17,9 @@ pub(crate) fn parser<'a>(alloc: Global) -> Result<Command<'a>, AllocError>
     let top = with_command(top, drill(alloc)?)?;
     let top = with_command(top, handler(alloc)?)?;
     let top = with_command(top, submit(alloc)?)?;
-    with_command(top, collect(alloc)?)
+    let top = with_command(top, collect(alloc)?)?;
+    let top = with_command(top, audit(alloc)?)?;
+    with_command(top, relay(alloc)?)
 }
 
 // The program without its commands.
@@ -59,7 +61,8 @@ fn handler<'a>(alloc: Global) -> Result<Command<'a>, AllocError>
     let handler = with_value(alloc, handler, "PEER")?;
     let handler = with_value(alloc, handler, "LOCAL")?;
     let handler = with_option(alloc, handler, "workers")?;
-    with_option(alloc, handler, "turns")
+    let handler = with_option(alloc, handler, "turns")?;
+    with_option(alloc, handler, "keep")
 }
 
 fn submit<'a>(alloc: Global) -> Result<Command<'a>, AllocError>
@@ -78,6 +81,22 @@ fn collect<'a>(alloc: Global) -> Result<Command<'a>, AllocError>
     let collect = with_value(alloc, collect, "FIRST")?;
     let collect = with_value(alloc, collect, "COUNT")?;
     with_value(alloc, collect, "FOLDER")
+}
+
+fn audit<'a>(alloc: Global) -> Result<Command<'a>, AllocError>
+    ensures { IfOk result (IsApp (alone audit_command)) }
+{
+    let audit = with_value(alloc, Command::new(alloc, "audit"), "MODES")?;
+    with_value(alloc, audit, "JOURNAL")
+}
+
+fn relay<'a>(alloc: Global) -> Result<Command<'a>, AllocError>
+    ensures { IfOk result (IsApp (alone relay_command)) }
+{
+    let relay = with_value(alloc, Command::new(alloc, "relay"), "MODES")?;
+    let relay = with_value(alloc, relay, "JOURNAL")?;
+    let relay = with_value(alloc, relay, "MODE")?;
+    with_value(alloc, relay, "COUNT")
 }
 
 // Adds a value that has to be there.

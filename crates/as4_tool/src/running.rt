@@ -7,6 +7,8 @@
 //!     drill --generate SEED COUNT             the totals of a generated script             0, 4, 5
 //!     submit LOCAL MODE CONVERSATION MEDIA    the handler's response to the input          0, 1, 3, 4, 5, 9, 11, 12
 //!     collect LOCAL FIRST COUNT FOLDER        a line for each document that is collected   0, 1, 3, 4, 5, 9, 12
+//!     audit MODES JOURNAL                     a line for each change, and the answer       0, 1, 4, 5, 8, 9, 10, 11
+//!     relay MODES JOURNAL MODE COUNT          a line for each message that is relayed      0, 4, 5, 8, 9, 10, 14
 //!     other words                                                                          5, 64
 ghost use Rattle.std.specs.Prelude.{◌≡◌, ◌≢◌, ◌⊎◌, ◌≤◌, All, IfNone, IfSome, ℕ, Option, List};
 ghost use Rattle.std.specs.Str.{IsUtf8};
@@ -15,10 +17,12 @@ ghost use Rattle.as4_tool.specs.Runs.{Does, Obeys, Runs, RunsOver, wrote};
 ghost use Rattle.as4_tool.specs.Status.{Tells, code_of, line_of, status_of_words};
 
 use crate::answering::answer;
+use crate::auditing::audit;
 use crate::checking::check;
 use crate::collecting::collect;
 use crate::command::{Command, WordsRefusal, command_of, texts_of};
 use crate::drilling::{generate, play};
+use crate::relaying::relay;
 use crate::status::Status;
 use crate::submitting::submit;
 use crate::texts::{HELP, VERSION};
@@ -47,7 +51,7 @@ pub fn run_alone<I: Source, O: Sink, E: Sink, H: Host>(
     // The exit status is that of some end, the errors get the line of that end, and the run of the words has that end.
     ensures ends { (status : Status) × (result ≡ code_of status)
         × Tells (line_of status) (E.taken errors.old) (E.taken errors.new) (E.faults errors.old) (E.faults errors.new)
-        × Obeys I.Source O.Sink H.Host H.Dialer.Link words.now status input.old input.new output.old output.new host.old host.new }
+        × Obeys I.Source O.Sink H.Host H.Dialer.Link H.Store.Disk words.now status input.old input.new output.old output.new host.old host.new }
     ensures counted { E.faults errors.old ≤ E.faults errors.new }
 {
     let status = read_and_obey(alloc, words, input, output, host);
@@ -66,7 +70,7 @@ fn read_and_obey<I: Source, O: Sink, H: Host>(
     ensures bad_words { code_of result ≡ code_of Status.BadWords → ¬ SpellAlone words.now }
     ensures command { code_of result ≢ code_of Status.BadWords → SpellAlone words.now ⊎ (code_of result ≡ code_of Status.NoMemory) }
     ensures shows { AsksForText words.now → code_of result ≢ code_of Status.NoMemory }
-    ensures obeys { Obeys I.Source O.Sink H.Host H.Dialer.Link words.now result input.old input.new output.old output.new host.old host.new }
+    ensures obeys { Obeys I.Source O.Sink H.Host H.Dialer.Link H.Store.Disk words.now result input.old input.new output.old output.new host.old host.new }
 {
     if let Some(command) = text_asked(words) {
         return obey(alloc, command, input, output, host);
@@ -118,7 +122,7 @@ pub(crate) fn obey<I: Source, O: Sink, H: Host>(
     host: &mut H,
 ) -> Status
     requires { IsWithin (task_of command) }
-    ensures runs { Runs I.Source O.Sink H.Host H.Dialer.Link (task_of command.entry) result input.old input.new output.old output.new host.old host.new }
+    ensures runs { Runs I.Source O.Sink H.Host H.Dialer.Link H.Store.Disk (task_of command.entry) result input.old input.new output.old output.new host.old host.new }
     ensures alone { code_of result ≡ code_of Status.BadWords → ¬ IsAlone (task_of command.entry) }
     ensures right { code_of result ≢ code_of Status.BadWords → IsAlone (task_of command.entry) }
 {
@@ -132,6 +136,8 @@ pub(crate) fn obey<I: Source, O: Sink, H: Host>(
         Command::Handler(_) => Status::BadWords,
         Command::Submit(to) => submit(alloc, to, input, output, host),
         Command::Collect(from) => collect(alloc, from, output, host),
+        Command::Audit(of) => audit(alloc, of, output, host),
+        Command::Relay(by) => relay(alloc, by, output, host),
     }
 }
 

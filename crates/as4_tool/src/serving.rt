@@ -1,10 +1,10 @@
 //! The whole program, whose handler needs threads:
 //!
-//!     handler MODES JOURNAL PEER LOCAL [--workers N] [--turns T]   serves both addresses   0, 5, 8, 9, 10
+//!     handler MODES JOURNAL PEER LOCAL [--workers N] [--turns T] [--keep L]   serves both addresses   0, 5, 8, 9, 10
 //!     any other words                                              as a run without threads
 ghost use Rattle.std.specs.Prelude.{◌≡◌, ◌≢◌, ◌⊎◌, ◌≤◌};
 ghost use Rattle.as4_tool.specs.Command.{AsksForText};
-ghost use Rattle.as4_tool.specs.Service.{ObeysAny, RunsHandler, SpellTask, WritesLine};
+ghost use Rattle.as4_tool.specs.Service.{ObeysAny, RunsHandler, SpellTask};
 ghost use Rattle.as4_tool.specs.Status.{Tells, code_of, line_of};
 
 use crate::command::{Command, Service, command_of, texts_of};
@@ -47,7 +47,7 @@ where
 
     // The exit status is that of some end, the run of the words has that end, and then the errors get the line of that end.
     ensures ends { (status : Status) × (result ≡ code_of status) × (told : E)
-        × ObeysAny H.Host H.Entrance.Door H.Dialer.Link H.Store.Disk I.Source O.Sink E.Sink words.now status
+        × ObeysAny H.Host H.Entrance.Door H.Dialer.Link H.Store.Disk H.Time.Clock H.Dice.Nonces I.Source O.Sink E.Sink words.now status
         input.old input.new output.old output.new errors.old told host.old host.new
         × Tells (line_of status) (E.taken told) (E.taken errors.new) (E.faults told) (E.faults errors.new) }
     ensures counted { E.faults errors.old ≤ E.faults errors.new }
@@ -80,7 +80,7 @@ where
     ensures bad_words { code_of result ≡ code_of Status.BadWords → ¬ SpellTask words.now }
     ensures command { code_of result ≢ code_of Status.BadWords → SpellTask words.now ⊎ (code_of result ≡ code_of Status.NoMemory) }
     ensures shows { AsksForText words.now → code_of result ≢ code_of Status.NoMemory }
-    ensures obeys { ObeysAny H.Host H.Entrance.Door H.Dialer.Link H.Store.Disk I.Source O.Sink E.Sink words.now result
+    ensures obeys { ObeysAny H.Host H.Entrance.Door H.Dialer.Link H.Store.Disk H.Time.Clock H.Dice.Nonces I.Source O.Sink E.Sink words.now result
         input.old input.new output.old output.new errors.old errors.new host.old host.new }
     ensures counted { E.faults errors.old ≤ E.faults errors.new }
 {
@@ -117,10 +117,11 @@ where
     H::Time: Send,
     H::Dice: Send,
     requires workers { (1 ≤ service.workers) × (service.workers ≤ 11) }
-    ensures runs { RunsHandler H.Host H.Entrance.Door H.Dialer.Link H.Store.Disk
+    requires keep { (1 ≤ service.keep) × (service.keep ≤ 1000) }
+    ensures runs { RunsHandler H.Host H.Entrance.Door H.Dialer.Link H.Store.Disk H.Time.Clock H.Dice.Nonces
         service.entry.modes.now service.entry.journal.now service.entry.peer.now service.entry.local.now service.entry.workers
-        service.entry.turns result host.old host.new }
-    ensures line { WritesLine E.Sink errors.old errors.new }
+        service.entry.turns service.entry.keep result (E.taken errors.old) (E.taken errors.new) host.old host.new }
+    ensures counted { E.faults errors.old ≤ E.faults errors.new }
     ensures words { code_of result ≢ code_of Status.BadWords }
 {
     let setup = Setup {
@@ -130,6 +131,7 @@ where
         local: service.local,
         workers: service.workers,
         turns: service.turns,
+        keep: service.keep,
     };
     Status::of_handler(handle(rt, alloc, host, setup, errors))
 }

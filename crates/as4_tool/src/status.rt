@@ -6,22 +6,26 @@
 //!      3  read fault              10  not a journal at N
 //!      4  write fault             11  input too long
 //!      5  no memory               12  bad response
-//!      6  more than 100000 events 64  bad words
+//!      6  more than 100000 events 14  not relayed, see the errors
+//!                                 64  bad words
 ghost use Rattle.std.specs.Prelude.{◌≡◌, ◌≤◌, ◌++◌, codes};
 ghost use Rattle.std.specs.Fmt.{decimal};
-ghost use Rattle.as4_tool.specs.Status.{Tells};
+ghost use Rattle.as4_tool.specs.Status.{Tells, text_of_refusal};
 
 use as4_flow::{SendFailed, Sink, send_all};
+use auditor::AuditEnd;
 use clients::{CollectEnd, SubmitEnd};
 use drill::DrillEnd;
 use handler::HandlerEnd;
 use itoa::Buffer;
+use relayer::{RelayRefusal, RelayerEnd};
 
 /// The end of a run.
 #[derive(Clone, Copy, Debug, PartialEq, Eq)]
 pub enum Status {
     Done,
-    /// The checked message is refused, and the output names the error. Or a handler has refused a request.
+    /// The checked message is refused, and the output names the error. Or a handler has refused a request. Or a record of
+    /// the audited journal isn't right, and the output names it.
     Refused,
     /// This line of the script (the first is 1) isn't a valid line, or isn't allowed at its place. The replies to the
     /// lines before it were written.
@@ -48,12 +52,14 @@ pub enum Status {
     TooLong,
     /// What came ended inside a response, is none, or is over a limit.
     BadResponse,
+    /// The next message isn't relayed. The lines of the messages before it were written.
+    NotRelayed(RelayRefusal),
     /// The words name no command. Nothing was read or written.
     BadWords,
 }
 
 impl Status {
-    ghost use Rattle.as4_tool.specs.Status.{code_of, line_of, status_of, status_of_submission, status_of_collection, status_of_handler};
+    ghost use Rattle.as4_tool.specs.Status.{code_of, line_of, status_of, status_of_submission, status_of_collection, status_of_handler, status_of_audit, status_of_relaying};
 
     /// The status of a drill's end.
     pub fn of_drill(end: DrillEnd) -> Status
@@ -112,6 +118,37 @@ impl Status {
         }
     }
 
+    /// The status of an audit's end.
+    pub fn of_audit(end: AuditEnd) -> Status
+        ensures { result ≡ status_of_audit end }
+    {
+        match end {
+            AuditEnd::Yes => Status::Done,
+            AuditEnd::No => Status::Refused,
+            AuditEnd::NoMemory => Status::NoMemory,
+            AuditEnd::WriteFault => Status::WriteFault,
+            AuditEnd::ModesRefused => Status::ModesRefused,
+            AuditEnd::HostFault => Status::HostFault,
+            AuditEnd::NotJournal { at } => Status::NotJournal { at },
+            AuditEnd::TooLong => Status::TooLong,
+        }
+    }
+
+    /// The status of a relaying's end.
+    pub fn of_relaying(end: RelayerEnd) -> Status
+        ensures { result ≡ status_of_relaying end }
+    {
+        match end {
+            RelayerEnd::Done => Status::Done,
+            RelayerEnd::Refused(refusal) => Status::NotRelayed(refusal),
+            RelayerEnd::NoMemory => Status::NoMemory,
+            RelayerEnd::WriteFault => Status::WriteFault,
+            RelayerEnd::ModesRefused => Status::ModesRefused,
+            RelayerEnd::HostFault => Status::HostFault,
+            RelayerEnd::NotJournal { at } => Status::NotJournal { at },
+        }
+    }
+
     /// The exit status of the program.
     pub fn code(self) -> u8
         ensures { result ≡ code_of self }
@@ -130,6 +167,7 @@ impl Status {
             Status::NotJournal { .. } => 10,
             Status::TooLong => 11,
             Status::BadResponse => 12,
+            Status::NotRelayed(_) => 14,
             Status::BadWords => 64,
         }
     }
@@ -153,8 +191,22 @@ impl Status {
             Status::NotJournal { at } => tell_number(errors, b"not a journal at ", at),
             Status::TooLong => tell_text(errors, b"input too long\n"),
             Status::BadResponse => tell_text(errors, b"bad response\n"),
+            Status::NotRelayed(refusal) => tell_text(errors, text_of_refusal(refusal)),
             Status::BadWords => tell_text(errors, b"bad words\n"),
         }
+    }
+}
+
+// The line of a message that isn't relayed.
+fn text_of_refusal(refusal: RelayRefusal) -> &'static [u8]
+    ensures { result.now ≡ text_of_refusal refusal }
+{
+    match refusal {
+        RelayRefusal::NoMode => b"no mode\n",
+        RelayRefusal::Gone => b"gone\n",
+        RelayRefusal::OutboxFull => b"outbox full\n",
+        RelayRefusal::TooLarge => b"too large\n",
+        RelayRefusal::JournalFull => b"journal full\n",
     }
 }
 

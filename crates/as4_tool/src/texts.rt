@@ -6,9 +6,11 @@ pub const HELP: &[u8] =
 
 usage:
   as4 handler MODES JOURNAL PEER LOCAL      serves other handlers at PEER and your own programs at LOCAL
-      [--workers N] [--turns T]
+      [--workers N] [--turns T] [--keep L]
   as4 submit LOCAL MODE CONVERSATION MEDIA  submits the input to the handler at LOCAL, writes its response
   as4 collect LOCAL FIRST COUNT FOLDER      writes the documents that the handler at LOCAL received to files
+  as4 audit MODES JOURNAL                   checks that a journal could have come about, writes its changes
+  as4 relay MODES JOURNAL MODE COUNT        submits the documents that a journal has received onwards by MODE
   as4 answer STAMP NONCE                    reads a message file from the input, writes the answer to it
   as4 check                                 reads a message file from the input, writes a line that says what it is
   as4 drill                                 runs the script in the input, writes what each line leads to
@@ -21,6 +23,7 @@ JOURNAL       the path of the journal; the names of its three files begin with i
 PEER, LOCAL   addresses of the form http://HOST:PORT/, at most 255 bytes; the port is 80 if it is missing
 N             the number of workers at PEER, 1 to 11; 4 if it is missing
 T             the number of turns of each worker, 0 to 9223372036854775808, which it is if it is missing
+L             how many requests of one connection are answered, 1 to 1000; 1 if it is missing
 MODE          the mode to submit by, 1 to 255 bytes
 CONVERSATION  the conversation of the message, at most 255 bytes; empty for none
 MEDIA         the media text of the document, such as text/plain: one line of at most 1024 bytes, or empty
@@ -31,11 +34,23 @@ STAMP         the moment of the answer: milliseconds since 1970-01-01T00:00:00Z,
 NONCE         makes the answer's identifiers unique: 0 to 340282366920938463463374607431768211455
 SEED          what the sizes of the generated messages follow from: 0 to 18446744073709551615; 0 makes all of 40960 bytes
 COUNT         of drill: how many messages the generated script submits: 0 to 1000
+COUNT         of relay: the most documents to relay, 0 to 1048576
 All numbers are decimal, without sign and without leading zeros. After -- a word that begins with - is a value.
 
 The input of submit has at most 67174400 bytes. collect confirms an entry, and all entries before it, after it has
 written its file, and writes a line for each: N collected, or N gone if the handler doesn't have the document any more.
 It ends at the first number that the handler has no entry of. So FIRST is the first number that isn't collected yet.
+
+audit reads the files of the journal, each of at most 1073741824 bytes, and locks and changes none. It writes a line for
+each change that isn't part of a compaction, and last yes and the number of events, or no and the place of the first
+record, from 0, that no event can have made:
+  submitted NUMBER ID, tried NUMBER, receipted NUMBER, refused NUMBER EBMS:CODE   a message that was submitted here
+  delivered NUMBER ID, confirmed NUMBER                                           a message that was received here
+  ticked MOMENT                                                                   the clock was set
+
+relay opens the journal, so no handler may run on it. Each received document that isn't relayed yet is submitted by the
+mode, with a line for each: relayed NUMBER ID. The handler that is started next sends them. The number of submissions
+says where relay goes on; so submit nothing else on that journal.
 
 A message file has one header field, Content-Type: and the media text, then an empty line, and then the body. Both lines
 end by CR LF. A message file has at most 67174400 bytes. The line of check is one of
@@ -72,7 +87,7 @@ events: each line but mode, crash and fold makes one, if the package or the subm
 
 exit statuses, each but 0 and 1 with one line on the errors, as it is here up to the colon:
    0  done
-   1  check: the message is refused, as the output says; submit, collect: the handler refused the request
+   1  check: the message is refused, as the output says; submit, collect: the handler refused the request; audit: no
    2  line N: this line of the script, the first being 1, isn't one of a script, or not in its place
    3  read fault: the input or a response can't be read to its end
    4  write fault: the output, or a request, has only a prefix of what was to be written
@@ -82,11 +97,13 @@ exit statuses, each but 0 and 1 with one line on the errors, as it is here up to
    8  modes refused: the file of the modes is missing, too long or not one of modes
    9  host fault: a file, a connection or the journal failed, or another process has it
   10  not a journal at N: the files of the journal aren't one from byte N on
-  11  input too long: the input has more bytes
+  11  input too long: the input, or a file of an audited journal, has more bytes
   12  bad response: the handler's response is cut off, too long or none
+  14  relay: the next document isn't relayed, for one of these reasons. no mode: no mode has that name; gone: it was
+      confirmed before; outbox full: no number is left; too large: it can't be submitted; journal full
   64  bad words: none of the usages above, or a number out of range
 If several apply, 3, 4, 5, 9 and 11 come first, in this order. On all but 0, 1 and 4 nothing is written to the output,
-except by a drill of a script and by collect: they write the lines before.
+except by a drill of a script, by collect and by relay: they write the lines before.
 ";
 
 /// The output of `--version`.

@@ -4,9 +4,9 @@ ghost use Rattle.std.specs.Fmt.{decimal};
 ghost use Rattle.clap.specs.Matches.{found_of};
 ghost use Rattle.clap.specs.Walk.{all_of, first_of, rows_of};
 ghost use Rattle.as4_values.specs.Payload.{is_media_text};
-ghost use Rattle.as4_tool.specs.Command.{Gives, IsCount, IsMode, IsService, IsWorkers, IsTurns, Task, name_of, task_of};
+ghost use Rattle.as4_tool.specs.Command.{Gives, IsCount, IsMode, IsKeep, IsService, IsWorkers, IsTurns, Task, name_of, task_of};
 
-use crate::command::{Collection, Command, MAX_COUNT, Service, Submission};
+use crate::command::{Collection, Command, Journal, MAX_COUNT, Relaying, Service, Submission};
 use crate::numbers::{number_within, wide_number};
 use crate::services::is_service;
 use as4_values::{MAX_MOMENT, is_media_text};
@@ -16,6 +16,16 @@ use clap::ArgMatches;
 const MOST: u64 = 9_223_372_036_854_775_808;
 
 const _: () = prove!(MOST == 9223372036854775808);
+
+/// The most requests of one connection.
+const MOST_KEPT: u64 = 1_000;
+
+const _: () = prove!(MOST_KEPT == 1000);
+
+/// The most messages of one relaying.
+const MOST_RELAYED: u64 = 1_048_576;
+
+const _: () = prove!(MOST_RELAYED == 1048576);
 
 /// Reads the values of `answer`.
 pub(crate) fn answer_of<'a>(found: &ArgMatches<'a>) -> Option<Command<'a>>
@@ -49,9 +59,9 @@ pub(crate) fn drill_of<'a>(found: &ArgMatches<'a>) -> Option<Command<'a>>
 /// Reads the values of `handler`.
 pub(crate) fn handler_of<'a>(found: &ArgMatches<'a>) -> Option<Command<'a>>
     ensures found { IfSome result (λ c. (name_of (task_of c) ≡ codes "handler") × Gives (rows_of (found_of found.now)) (task_of c)) }
-    ensures only { (modes journal peer local : List ℕ) (workers turns : ℕ)
-        → Gives (rows_of (found_of found.now)) (Task.handler modes journal peer local workers turns)
-        → option_map task_of result ≡ Some (Task.handler modes journal peer local workers turns) }
+    ensures only { (modes journal peer local : List ℕ) (workers turns keep : ℕ)
+        → Gives (rows_of (found_of found.now)) (Task.handler modes journal peer local workers turns keep)
+        → option_map task_of result ≡ Some (Task.handler modes journal peer local workers turns keep) }
 {
     let modes = text_in(found, "MODES")?;
     let journal = text_in(found, "JOURNAL")?;
@@ -59,6 +69,7 @@ pub(crate) fn handler_of<'a>(found: &ArgMatches<'a>) -> Option<Command<'a>>
     let local = service_in(found, "LOCAL")?;
     let workers = workers_of(text_in(found, "workers"))?;
     let turns = turns_of(text_in(found, "turns"))?;
+    let keep = keep_of(text_in(found, "keep"))?;
     Some(Command::Handler(Service {
         modes,
         journal,
@@ -66,6 +77,7 @@ pub(crate) fn handler_of<'a>(found: &ArgMatches<'a>) -> Option<Command<'a>>
         local,
         workers,
         turns,
+        keep,
     }))
 }
 
@@ -93,6 +105,21 @@ fn turns_of(text: Option<&str>) -> Option<u64>
         Some(text) => number_within(text, MOST),
         None => Some(MOST),
     }
+}
+
+// The most requests of a connection, 1 if no number is given.
+fn keep_of(text: Option<&str>) -> Option<u64>
+    ensures found { IfSome result (IsKeep (option_map (λ s. s.now) text.entry)) }
+    ensures only { (n : ℕ) → IsKeep (option_map (λ s. s.now) text.entry) n → result ≡ Some n }
+{
+    let Some(text) = text else {
+        return Some(1);
+    };
+    let keep = number_within(text, MOST_KEPT)?;
+    if keep == 0 {
+        return None;
+    }
+    Some(keep)
 }
 
 /// Reads the values of `submit`.
@@ -165,6 +192,40 @@ pub(crate) fn collect_of<'a>(found: &ArgMatches<'a>) -> Option<Command<'a>>
         count,
         folder,
     }))
+}
+
+/// Reads the values of `audit`.
+pub(crate) fn audit_of<'a>(found: &ArgMatches<'a>) -> Option<Command<'a>>
+    ensures found { IfSome result (λ c. (name_of (task_of c) ≡ codes "audit") × Gives (rows_of (found_of found.now)) (task_of c)) }
+    ensures only { (modes journal : List ℕ) → Gives (rows_of (found_of found.now)) (Task.audit modes journal)
+        → option_map task_of result ≡ Some (Task.audit modes journal) }
+{
+    Some(Command::Audit(journal_in(found)?))
+}
+
+/// Reads the values of `relay`.
+pub(crate) fn relay_of<'a>(found: &ArgMatches<'a>) -> Option<Command<'a>>
+    ensures found { IfSome result (λ c. (name_of (task_of c) ≡ codes "relay") × Gives (rows_of (found_of found.now)) (task_of c)) }
+    ensures only { (modes journal mode : List ℕ) (count : ℕ) → Gives (rows_of (found_of found.now)) (Task.relay modes journal mode count)
+        → option_map task_of result ≡ Some (Task.relay modes journal mode count) }
+{
+    let from = journal_in(found)?;
+    let mode = mode_in(found)?;
+    let count = number_within(text_in(found, "COUNT")?, MOST_RELAYED)?;
+    Some(Command::Relay(Relaying { from, mode, count }))
+}
+
+// A modes file and a journal.
+fn journal_in<'a>(found: &ArgMatches<'a>) -> Option<Journal<'a>>
+    ensures found { IfSome result (λ j. (first_of (codes "MODES") (rows_of (found_of found.now)) ≡ Some j.modes.now)
+        × (first_of (codes "JOURNAL") (rows_of (found_of found.now)) ≡ Some j.journal.now)) }
+    ensures only { (modes journal : List ℕ) → first_of (codes "MODES") (rows_of (found_of found.now)) ≡ Some modes
+        → first_of (codes "JOURNAL") (rows_of (found_of found.now)) ≡ Some journal
+        → IsSomeAnd result (λ j. (j.modes.now ≡ modes) × (j.journal.now ≡ journal)) }
+{
+    let modes = text_in(found, "MODES")?;
+    let journal = text_in(found, "JOURNAL")?;
+    Some(Journal { modes, journal })
 }
 
 // The number of this name, at most 2^63.

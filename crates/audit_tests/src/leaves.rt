@@ -3,8 +3,10 @@ ghost use Rattle.std.specs.Prelude.{◌≡◌};
 
 use crate::deeds::{Deed, event_of};
 use crate::said::{MODES, Said, said_of};
+use as4_audit::{Audit, AuditRefusal, audit};
 use as4_disk::{Files, MemoryDisk, Part};
 use as4_values::{Octets, Seq};
+use exchange_model::Event;
 use office::{Call, Office};
 use pass_book::Pass;
 use pmodes::Modes;
@@ -142,7 +144,19 @@ fn events_after_a_compaction_are_found(rt: HostRuntime) {
     assert!(rt; said_after(rt.alloc(), GOES_ON) == Some(Said::Yes(3, 2)));
 }
 
-/// The number of single changed bytes, out of `count`, after which the leaf isn't audited as right.
+/// What becomes of a leaf with a changed byte.
+#[derive(Clone, Copy, PartialEq, Eq)]
+enum Changed {
+    /// It isn't audited as right.
+    Refused,
+    /// It is right, and its events make exactly its records at a new office.
+    MadeAgain,
+    /// It is right, and they don't.
+    MadeOtherwise,
+}
+
+/// The number of single changed bytes, out of `count`, after which the leaf isn't audited as right. None if its events
+/// don't make its records after one of the others.
 fn refused_changes(alloc: Global, count: u64) -> Option<u64> {
     let leaf = leaf_after(alloc, ALL)?;
     let refused = refused_among(alloc, leaf.bytes(), count);
@@ -161,29 +175,93 @@ fn refused_among(alloc: Global, leaf: &[u8], count: u64) -> Option<u64> {
             return None;
         }
         let place = (state >> 33) as usize % leaf.len();
-        let said = said_of_changed(alloc, leaf, place, (state >> 56) as u8)?;
-        match said {
-            Said::Yes(_, _) => {}
-            Said::NoMemory => return None,
-            _ => refused = refused.saturating_add(1),
+        match change(alloc, leaf, place, (state >> 56) as u8)? {
+            Changed::Refused => refused = refused.saturating_add(1),
+            Changed::MadeAgain => {}
+            Changed::MadeOtherwise => return None,
         }
     }
     Some(refused)
 }
 
-/// What is said of the leaf with another byte at this place.
-fn said_of_changed(alloc: Global, leaf: &[u8], place: usize, change: u8) -> Option<Said> {
+/// Audits the leaf with another byte at this place.
+fn change(alloc: Global, leaf: &[u8], place: usize, by: u8) -> Option<Changed> {
     let mut changed = Vec::from_slice(alloc, leaf).ok()?;
     if place < changed.len() {
-        changed[place] ^= change | 1;
+        changed[place] ^= by | 1;
     }
-    let said = said_of(alloc, changed.as_slice());
+    let became = audit_again(alloc, changed.as_slice());
     drop(changed);
-    said
+    became
+}
+
+fn audit_again(alloc: Global, leaf: &[u8]) -> Option<Changed> {
+    let modes = Modes::read(alloc, MODES).ok()?;
+    let said = audit(alloc, &modes, leaf);
+    drop(modes);
+    match said {
+        Ok(Audit::Yes { events, .. }) => {
+            let made = leaf_of(alloc, events.into_vec())?;
+            let is_same = has_records(leaf, made.bytes());
+            drop(made);
+            Some(if is_same {
+                Changed::MadeAgain
+            } else {
+                Changed::MadeOtherwise
+            })
+        }
+        Ok(Audit::No { .. }) | Err(AuditRefusal::NotJournal { .. }) => Some(Changed::Refused),
+        Err(AuditRefusal::NoMemory) => None,
+    }
+}
+
+/// Whether a leaf has the records of another one, whose last byte is the closed gate.
+fn has_records(leaf: &[u8], other: &[u8]) -> bool {
+    match other {
+        [front @ .., _] => leaf.starts_with(front),
+        [] => true,
+    }
+}
+
+/// The leaf of a new office at which these events come.
+fn leaf_of(alloc: Global, events: Vec<Event>) -> Option<Octets> {
+    let modes = Modes::read(alloc, MODES).ok()?;
+    match Office::open(alloc, empty_disk(alloc), modes) {
+        Ok((mut office, mut pass)) => {
+            let is_done = step_all(&mut office, &mut pass, events);
+            drop(pass);
+            let disk = office.into_disk();
+            let leaf = if is_done { picked(alloc, &disk) } else { None };
+            drop(disk);
+            leaf
+        }
+        Err((_, disk)) => {
+            drop(events);
+            drop(disk);
+            None
+        }
+    }
+}
+
+fn step_all(
+    office: &mut Office<'_, MemoryDisk>,
+    pass: &mut Pass<'_, Call>,
+    events: Vec<Event>,
+) -> bool
+    requires book { pass.old.book ≡ office.old.book }
+{
+    let mut is_done = true;
+    for event in events {
+        match office.step(pass, event) {
+            Ok(reply) => drop(reply),
+            Err(_) => is_done = false,
+        }
+    }
+    is_done
 }
 
 #[test]
-fn most_changed_bytes_are_found(rt: HostRuntime) {
-    let refused = refused_changes(rt.alloc(), 200);
-    assert!(rt; refused.is_some_and(|refused| refused > 100));
+fn changed_bytes_are_found_or_change_no_event(rt: HostRuntime) {
+    let refused = refused_changes(rt.alloc(), 1_000);
+    assert!(rt; refused.is_some_and(|refused| refused > 500));
 }

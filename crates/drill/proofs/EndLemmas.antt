@@ -8,7 +8,7 @@ use Rattle.as4_flow.proofs.FlowLemmas.{before_nil, before_append, appended_nil, 
 use Rattle.drill.specs.Ends.{Ends, IsOutside, IsTooMuch, Played}
 use Rattle.drill.specs.Next.{HoldsNoLine}
 use Rattle.drill.specs.Running.{SoFar}
-use Rattle.drill.specs.Transcript.{DrillState, Plays, PlaysAll, doing_of, new_state, script_text, end_lines, is_right, is_too_many, is_placed, lines_limit}
+use Rattle.drill_world.specs.Transcript.{DrillState, Plays, PlaysAll, doing_of, new_state, script_text, end_lines, is_right, is_too_many, is_placed, lines_limit}
 use Rattle.drill.specs.declared.script.DrillEnd.TheVariants as ends
 use Rattle.byte_forms.specs.Parted.{parted}
 use Rattle.drill_script.specs.LineText.{line_text, is_line, line_limit}

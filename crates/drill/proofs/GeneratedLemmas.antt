@@ -6,13 +6,13 @@ use Rattle.std.proofs.lemmas.Bool.{and_from, eq-eqb, ne_eqb, le-leb, lt-ltb, leb
 use Rattle.std.proofs.lemmas.Fmt.{length-decimal-le}
 use Rattle.std.proofs.lemmas.List.{append-nil}
 use Rattle.std.proofs.Math.Nat.{mod-add-mod}
-use Rattle.drill.specs.Events.{Doing}
+use Rattle.drill_world.specs.Events.{Doing}
 use Rattle.drill.specs.Generated.{IsGenerated, Leads, Pushes, PlaysRound, Rounds, Taken, transmission, carried, carried_both, counted, submissions, ticks_a, invoice, next_number, size_by}
 use Rattle.drill.specs.Generating.{Grows, PlaysTransmission}
-use Rattle.drill.specs.Transcript.{Plays, PlaysAll, DrillState, doing_of, events_limit, is_right, is_too_many, new_state, running_of}
+use Rattle.drill_world.specs.Transcript.{Plays, PlaysAll, DrillState, doing_of, events_limit, is_right, is_too_many, new_state, running_of}
 use Rattle.drill.proofs.EndLemmas.{Delivers}
 use Rattle.drill.proofs.SpendLemmas.{line_events, submits_grow}
-use Rattle.drill.proofs.StateLemmas.{right_at_end}
+use Rattle.drill_world.proofs.StateLemmas.{right_at_end}
 use Rattle.drill_script.specs.LineText.{line_text, line_limit, is_line, is_name, is_stoppable, load_text}
 use Rattle.drill_script.specs.declared.line.EndName.{EndName}
 use Rattle.drill_script.specs.declared.line.EndName.TheVariants as name

@@ -1,12 +1,6 @@
-pub mod DiskLemmas
 pub mod EndLemmas
-pub mod EndpointLemmas
 pub mod GeneratedLemmas
-pub mod NameLemmas
 pub mod NextLemmas
-pub mod OneTranscript
 pub mod PushLemmas
 pub mod SpendLemmas
-pub mod StateLemmas
 pub mod UnbrokenLemmas
-pub mod WorldLemmas

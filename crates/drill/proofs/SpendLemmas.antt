@@ -4,10 +4,10 @@ use Rattle.std.specs.Prelude.{nat_eq, not}
 use Rattle.std.proofs.lemmas.Bool.Decides.{nat_tests}
 use Rattle.std.proofs.lemmas.List.Sums.{count_by-le-length}
 use Rattle.as4_values.specs.declared.message.Message.{Message}
-use Rattle.drill.specs.Events.{Doing, Sets, Does, Stops, Reopens, Folds, Says, comes, package_for}
+use Rattle.drill_world.specs.Events.{Doing, Sets, Does, Stops, Reopens, Folds, Says, comes, package_for}
 use Rattle.drill.specs.Generated.{Leads, Pushes, PushesNone, carried, carried_both, transmission, ticks_a}
 use Rattle.drill.specs.Generating.{Grows, IsPushed, handed, may_be_pushed, to_push}
-use Rattle.drill.specs.Transcript.{Acts, Plays, PlaysAll, DrillState, doing_of, events_limit, running_of}
+use Rattle.drill_world.specs.Transcript.{Acts, Plays, PlaysAll, DrillState, doing_of, events_limit, running_of}
 use Rattle.drill.proofs.PushLemmas.{IsCalm, TakeResult, Is_pushed, None_pushed, calm_none, came_calm, submit_hands, take_calm, take_result, tick_hands}
 use Rattle.drill_script.specs.declared.line.EndName.{EndName}
 use Rattle.drill_script.specs.declared.line.EndName.TheVariants as name

@@ -1,7 +1,7 @@
 -- How a drill ends: what it has read, and what it has written then.
-use Rattle.std.specs.Prelude.{◌≡◌, ℕ, ◌+◌, ◌<◌, ◌≤◌, ◌⊎◌, List, [], ◌∷◌, ◌++◌, true, false, Option, length}
+use Rattle.std.specs.Prelude.{◌≡◌, ℕ, ◌+◌, ◌<◌, ◌≤◌, ◌⊎◌, List, [], ◌∷◌, ◌++◌, true, false, length}
 use Rattle.as4_flow.specs.Flow.{Rose, Streams, Told, appended, LosesFront, TakesFront}
-use Rattle.drill.specs.Transcript.{DrillState, PlaysAll, new_state, script_text, end_lines, is_right, is_too_many, lines_limit}
+use Rattle.drill_world.specs.Transcript.{DrillState, PlaysAll, new_state, script_text, end_lines, is_right, is_too_many, lines_limit}
 use Rattle.drill.specs.declared.script.DrillEnd.{DrillEnd}
 use Rattle.drill.specs.declared.script.DrillEnd.TheVariants as ends
 use Rattle.drill_script.specs.LineText.{line_text}

@@ -11,7 +11,7 @@ use Rattle.as4_flow.specs.Flow.{Streams, appended, TakesFront}
 use Rattle.as4_effects.specs.declared.effect.Effect.TheVariants as effect
 use Rattle.as4_effects.specs.declared.queue.Queue.TheVariants as queue
 use Rattle.drill.specs.Ends.{CountsAt}
-use Rattle.drill.specs.Transcript.{DrillState, PlaysAll, new_state, end_lines}
+use Rattle.drill_world.specs.Transcript.{DrillState, PlaysAll, new_state, end_lines}
 use Rattle.drill.specs.declared.script.DrillEnd.{DrillEnd}
 use Rattle.drill.specs.declared.script.DrillEnd.TheVariants as ends
 use Rattle.drill_script.specs.declared.line.EndName.{EndName}

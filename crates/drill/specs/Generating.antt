@@ -3,7 +3,7 @@ use Rattle.std.specs.Prelude.{◌≡◌, ℕ, ◌+◌, ◌≤◌, [], ◌∷◌,
 use Rattle.std.specs.List.{count_by}
 use Rattle.as4_effects.specs.declared.queue.Queue.TheVariants as queue
 use Rattle.drill.specs.Generated.{Leads, Pushes, PushesNone, counted, transmission}
-use Rattle.drill.specs.Transcript.{DrillState}
+use Rattle.drill_world.specs.Transcript.{DrillState}
 use Rattle.drill_script.specs.declared.line.EndName.TheVariants as name
 use Rattle.drill_script.specs.declared.line.Line.TheVariants as line
 use Rattle.drill_script.specs.declared.line.Stoppable.TheVariants as run

@@ -1,10 +1,6 @@
-pub mod Disks
-pub mod Endpoints
+-- The specs of drill.
 pub mod Ends
-pub mod Events
 pub mod Generated
 pub mod Generating
 pub mod Next
 pub mod Running
-pub mod States
-pub mod Transcript

@@ -1,7 +1,7 @@
 -- How far a drill has come.
-use Rattle.std.specs.Prelude.{◌≡◌, ℕ, ◌≤◌, List, Option, length}
+use Rattle.std.specs.Prelude.{◌≡◌, ℕ, ◌≤◌, List, length}
 use Rattle.as4_flow.specs.Flow.{Flow, before, appended}
-use Rattle.drill.specs.Transcript.{DrillState, PlaysAll, new_state, script_text, lines_limit}
+use Rattle.drill_world.specs.Transcript.{DrillState, PlaysAll, new_state, script_text, lines_limit}
 use Rattle.drill_script.specs.Lines.{ahead_limit}
 use Rattle.drill_script.specs.declared.line.Line.{Line}
 

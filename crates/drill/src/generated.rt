@@ -3,7 +3,7 @@ ghost use Rattle.std.specs.Prelude.{◌≡◌, ℕ, ◌+◌, ◌*◌, ◌%◌, �
 ghost use Rattle.drill.specs.Ends.{CountsAt};
 ghost use Rattle.drill.specs.Generated.{GeneratedEnds, IsGenerated, Leads, PlaysRound, Rounds, TakesAll, carried, carried_both, counted, invoice, next_number, size_by, submissions, ticks_a};
 ghost use Rattle.drill.specs.Generating.{Grows, IsPushed, PlaysTransmission, handed, to_push};
-ghost use Rattle.drill.specs.Transcript.{DrillState as StateValue, events_limit, is_right, new_state};
+ghost use Rattle.drill_world.specs.Transcript.{DrillState as StateValue, events_limit, is_right, new_state};
 ghost use Rattle.drill_script.specs.LineText.{is_line, line_limit, line_text};
 ghost use Rattle.drill_script.specs.declared.line.EndName.TheVariants as name;
 ghost use Rattle.drill_script.specs.declared.line.Line.TheVariants as line;
@@ -11,13 +11,11 @@ ghost use Rattle.drill_script.specs.declared.line.Stoppable.TheVariants as run;
 ghost use Rattle.drill_script.specs.declared.line.ScriptLoad.TheVariants.{Size as Sized};
 ghost use Rattle.drill_script.specs.declared.line.Way.TheVariants.{Push as Pushed};
 
-use crate::laws::a_drill_delivers_once;
-use crate::refused::Refused;
 use crate::script::DrillEnd;
-use crate::state::DrillState;
 use as4_flow::{Sink, send_all};
 use as4_values::{NoMemory, Octets};
 use drill_script::{EndName, Line, ScriptLoad, Stoppable, Way};
+use drill_world::{DrillState, Refused, a_drill_delivers_once};
 use std::alloc::Global;
 
 // The line is played, where the script may still make an event.

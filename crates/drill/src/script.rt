@@ -3,16 +3,14 @@ ghost use Rattle.std.specs.Prelude.{◌⊎◌, Some, false, true, ◌≡◌, ℕ
 ghost use Rattle.as4_flow.specs.Flow.{Flow, between, flow, Told, before};
 ghost use Rattle.drill.specs.Ends.{Ends};
 ghost use Rattle.drill.specs.Running.{SoFar};
-ghost use Rattle.drill.specs.Transcript.{is_right, is_too_many, lines_limit};
+ghost use Rattle.drill_world.specs.Transcript.{is_right, is_too_many, lines_limit};
 ghost use Rattle.byte_forms.specs.Parted.{parted};
 ghost use Rattle.drill_script.specs.LineText.{is_line, line_limit, line_text};
 
-use crate::laws::a_drill_delivers_once;
 use crate::next::{Next, next_line};
-use crate::refused::Refused;
-use crate::state::DrillState;
 use as4_flow::{Sink, Source, send_all};
 use drill_script::{Line, LineReader};
+use drill_world::{DrillState, Refused, a_drill_delivers_once};
 use std::alloc::Global;
 
 /// The most lines that a script has.

@@ -71,11 +71,6 @@ module _ {H Store Door Dialer Time Dice DoorIn DoorOut DialerIn DialerOut : Type
   all_retire_split (x ∷ xs) ys old new (middle, first, last) =
       let parts = all_retire_split xs ys old middle first in (parts.0, parts.1, (middle, parts.2, last))
 
-  -- one more that is given back last stands first
-  pub all_retire_more : (xs ys : List (Worker Door Dialer Time Dice)) (x : Worker Door Dialer Time Dice) (old middle new : Gathering H)
-      → AllRetire M G K setup ys old middle → Retires M G K setup x middle new → AllRetire M G K setup (x ∷ ys) old new
-  all_retire_more xs ys x old middle new all retires = (middle, all, retires)
-
 -- the addresses of both doors are known
 pub knows_address : (setup : Setup) (j : Job) (all : List (List ℕ)) → All (Contains all) (doors_of setup) → All (Contains all) (address_of setup j ∷ [])
 knows_address setup job.Peer all known = All-cons (Contains all) setup.peer.now [] (All-head (Contains all) setup.peer.now (setup.local.now ∷ []) known) (All-nil (Contains all))

@@ -1,10 +1,13 @@
 -- The lemmas of handler.
-mod HostLemmas
-mod StoreLemmas
+mod AnnouncingLemmas
+pub mod HostLemmas
+pub mod StoreLemmas
 mod DismissalLemmas
-mod OpeningLemmas
+pub mod OpeningLemmas
 mod CrewLemmas
+mod GuestLemmas
 mod HiringLemmas
+mod KeptLemmas
 mod DeliveryLemmas
 mod ModesLemmas
 mod RunningLemmas

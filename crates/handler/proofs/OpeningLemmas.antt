@@ -176,14 +176,15 @@ module _ {H Store Door Dialer Time Dice DoorIn DoorOut DialerIn DialerOut : Type
       → M.reads new ≡ M.reads old → M.writes new ≡ M.writes old
       → ((p : List ℕ) → ((q : Part) → p ≢ file_of setup.journal.now q) → M.file new p ≡ M.file old p)
       → ((q : Part) → bytes_in (M.file new (file_of setup.journal.now q)) ≡ bytes_in (M.file old (file_of setup.journal.now q)))
-      → ((a : List ℕ) → a ≢ setup.peer.now → a ≢ setup.local.now → M.guests new a ≡ M.guests old a) → FailsToOpen M setup old new end
+      → ((a : List ℕ) → M.guests new a ≡ M.guests old a) → FailsToOpen M setup old new end
   fails_refused T names old new refusal end all is names_are cause reads writes files bytes guests = record {
     touches = record {
       asks = refused_asks T names old new refusal all names_are;
       counts = refused_counts T old new refusal cause reads writes;
       files = files;
-      guests = guests;
+      guests = λ a not_peer not_local. guests a;
     };
+    guests = guests;
     store = leaves_same M (λ modes. ⊥) setup.journal.now old new bytes;
     cause = refused_cause T (Stores M setup.journal.now old) (M.fault_count old) (M.fault_count new) refusal end is cause;
   }
@@ -192,9 +193,11 @@ module _ {H Store Door Dialer Time Dice DoorIn DoorOut DialerIn DialerOut : Type
   pub fails_around : (old first second new : H) (end : HandlerEnd) → Touches M setup old first
       → ((q : Part) → bytes_in (M.file first (file_of setup.journal.now q)) ≡ bytes_in (M.file old (file_of setup.journal.now q)))
       → FailsToOpen M setup first second end → Touches M setup second new
-      → ((q : Part) → bytes_in (M.file new (file_of setup.journal.now q)) ≡ bytes_in (M.file second (file_of setup.journal.now q))) → FailsToOpen M setup old new end
-  fails_around old first second new end before before_same fails after after_same = record {
+      → ((q : Part) → bytes_in (M.file new (file_of setup.journal.now q)) ≡ bytes_in (M.file second (file_of setup.journal.now q)))
+      → ((a : List ℕ) → M.guests new a ≡ M.guests old a) → FailsToOpen M setup old new end
+  fails_around old first second new end before before_same fails after after_same guests = record {
     touches = touches_then M setup old second new (touches_then M setup old first second before fails.touches) after;
+    guests = guests;
     store = leaves_from M (λ modes. ⊥) setup.journal.now old first new before_same (leaves_to M (λ modes. ⊥) setup.journal.now first second new after_same fails.store);
     cause = cause_within (Stores M setup.journal.now old) (Stores M setup.journal.now first) (M.fault_count old) (M.fault_count first) (M.fault_count second) (M.fault_count new) end
         before.counts.faults after.counts.faults (λ image stored q. before_same q ∙ stored q) fails.cause;

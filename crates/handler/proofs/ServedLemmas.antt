@@ -15,6 +15,8 @@ use Rattle.as4_host.specs.declared.door.Door.{Ghosts as DoorMeaning}
 use Rattle.as4_host.specs.declared.host.Host.{Ghosts as HostMeaning}
 use Rattle.as4_host.specs.declared.link.Link.{Ghosts as LinkMeaning}
 use Rattle.as4_disk.specs.declared.part.Part.{Part}
+use Rattle.as4_flow.specs.declared.clock.Clock.{Ghosts as ClockMeaning}
+use Rattle.as4_flow.specs.declared.nonces.Nonces.{Ghosts as NoncesMeaning}
 use Rattle.as4_host.specs.Files.{bytes_in}
 use Rattle.office.specs.State.{OfficeState}
 use Rattle.handler.specs.Crews.{AllMadeTurns, IsAside, IsHired, MadeTurns}
@@ -31,6 +33,7 @@ use Rattle.handler.proofs.DeliveryLemmas.{Laws, all_delivered, all_entered_on, l
 use Rattle.handler.proofs.HostLemmas.{counts_then}
 use Rattle.handler.proofs.DismissalLemmas.{all_retire_split, all_retire_touches, retires_touches}
 use Rattle.handler.proofs.StoreLemmas.{reads_stored, settled_bytes, still_seen}
+use Rattle.handler.proofs.WorkLemmas.{end_served, own_few}
 use Rattle.office.specs.Calls.{LeadsWhere, stop_of}
 use Rattle.office.specs.Left.{IsLeft}
 use Rattle.office.specs.declared.call.Call.{Call}
@@ -53,7 +56,7 @@ all_front P xs ys all k d lt =
 zero_quiet : (count later : ℕ) → count ≡ 0 → later ≡ 0 → HasNotRisen count later
 zero_quiet count later none still = omega (arith, none, still)
 
-module _ {H Store Door Dialer Time Dice DoorIn DoorOut DialerIn DialerOut : Type 0} (M : HostMeaning H Store Door Dialer Time Dice DoorIn DoorOut DialerIn DialerOut) (G : DoorMeaning Door DoorIn DoorOut) (K : LinkMeaning Dialer DialerIn DialerOut) (S : DiskMeaning Store) (setup : Setup) where
+module _ {H Store Door Dialer Time Dice DoorIn DoorOut DialerIn DialerOut : Type 0} (M : HostMeaning H Store Door Dialer Time Dice DoorIn DoorOut DialerIn DialerOut) (G : DoorMeaning Door DoorIn DoorOut) (K : LinkMeaning Dialer DialerIn DialerOut) (S : DiskMeaning Store) (T : ClockMeaning Time) (R : NoncesMeaning Dice) (setup : Setup) (told later : Option (List ℕ)) where
   -- one door's guests were served
   served_at : (kind : DoorKind) (address : List ℕ) (all : List (List ℕ)) (w later : Worker Door Dialer Time Dice) (start before after : Gathering H) (old new : H) (calls : List Call)
       → (gives : GivesBack M G K setup kind address all w later before after) → IsQuiet M old new → CountsOn M old before.host → CountsOn M after.host new
@@ -85,18 +88,18 @@ module _ {H Store Door Dialer Time Dice DoorIn DoorOut DialerIn DialerOut : Type
     rest : List (Worker Door Dialer Time Dice)
     between : Gathering H
     middle : Gathering H
-    first : MadeTurns G local one
-    second : MadeTurns G peer two
-    firsts : AllMadeTurns G others rest
+    first : MadeTurns G setup.keep local one
+    second : MadeTurns G setup.keep peer two
+    firsts : AllMadeTurns G setup.keep others rest
     at_peer : Retires M G K setup two start between
     at_local : Retires M G K setup one between middle
     aside : AllRetire M G K setup rest middle last
 
   last_two : (local peer : Worker Door Dialer Time Dice) (done others : List (Worker Door Dialer Time Dice)) (start last : Gathering H)
-      → AllMadeTurns G (others ++ local ∷ peer ∷ []) done → AllRetire M G K setup done start last → LastTwo local peer done others start last
+      → AllMadeTurns G setup.keep (others ++ local ∷ peer ∷ []) done → AllRetire M G K setup done start last → LastTwo local peer done others start last
   last_two local peer done others start last made retire =
-      let parts = made_parts G others (local ∷ peer ∷ []) done made in
-      let pair = made_pair G local peer parts.last parts.lasts in
+      let parts = made_parts G setup.keep others (local ∷ peer ∷ []) done made in
+      let pair = made_pair G setup.keep local peer parts.last parts.lasts in
       let split = all_retire_split M G K setup parts.first parts.last start last (subst (λ l. AllRetire M G K setup l start last) parts.are retire) in
       let two = subst (λ l. AllRetire M G K setup l start split.0) pair.are split.1 in record {
         one = pair.one;
@@ -113,7 +116,7 @@ module _ {H Store Door Dialer Time Dice DoorIn DoorOut DialerIn DialerOut : Type
       }
 
   -- the counts up to where the workers begin
-  counts_to_start : (old new : H) → (serves : Serves M G K S setup old new) → CountsOn M old serves.works.works.first
+  counts_to_start : (old new : H) → (serves : Serves M G K S T R setup told later old new) → CountsOn M old serves.works.works.first
   counts_to_start old new serves =
       let by = serves.works in
       let at_peer = by.opens.at_doors.at_peer in
@@ -127,7 +130,7 @@ module _ {H Store Door Dialer Time Dice DoorIn DoorOut DialerIn DialerOut : Type
 
   -- the same from where the two workers at the doors are given back
   counts_from_middle : {pulls : List (List ℕ)} {peer local : Door} {office : OfficeState Store} {opened : H} (middle : Gathering H) (new : H)
-      (works : Works M G K S setup pulls peer local office opened new Served) (rest : List (Worker Door Dialer Time Dice))
+      (works : Works M G K S T R setup told later pulls peer local office opened new Served) (rest : List (Worker Door Dialer Time Dice))
       → AllRetire M G K setup rest middle works.last → CountsOn M middle.host new
   counts_from_middle middle new works rest aside =
       let counts = (all_retire_touches M G K setup rest middle works.last aside).counts in record {
@@ -137,16 +140,16 @@ module _ {H Store Door Dialer Time Dice DoorIn DoorOut DialerIn DialerOut : Type
       }
 
   -- the files before the store is opened
-  read_same : (old : H) {new : H} (serves : Serves M G K S setup old new) (q : Part)
+  read_same : (old : H) {new : H} (serves : Serves M G K S T R setup told later old new) (q : Part)
       → bytes_in (M.file serves.works.opens.middle (file_of setup.journal.now q)) ≡ bytes_in (M.file old (file_of setup.journal.now q))
   read_same old serves q =
       let doors = serves.works.opens.at_doors in
       ap bytes_in (doors.at_local.files (file_of setup.journal.now q) ∙ doors.at_peer.files (file_of setup.journal.now q) ∙ serves.reads.files (file_of setup.journal.now q))
 
-  pub delivers : ((d : Store) → Told (S.seen d) (S.may_leave d)) → (laws : Laws) (old new : H) (peers locals : List (List ℕ)) (before : Image) → Serves M G K S setup old new → IsQuiet M old new
-      → setup.turns ≤ 2 ^ 49 → setup.peer.now ≢ setup.local.now → M.guests old setup.peer.now ≡ Some peers → M.guests old setup.local.now ≡ Some locals
+  pub delivers : ((d : Store) → Told (S.seen d) (S.may_leave d)) → (laws : Laws) (old new : H) (peers locals : List (List ℕ)) (before : Image) → Serves M G K S T R setup told later old new → IsQuiet M old new
+      → setup.keep ≤ 1000 → setup.turns ≤ 2 ^ 49 → setup.peer.now ≢ setup.local.now → M.guests old setup.peer.now ≡ Some peers → M.guests old setup.local.now ≡ Some locals
       → Stores M setup.journal.now old before → Delivers M setup old new peers locals before
-  delivers reads_now laws old new peers locals before serves quiet few apart told_peers told_locals stored =
+  delivers reads_now laws old new peers locals before serves quiet kept few apart told_peers told_locals stored =
       let P = setup.peer.now in
       let L = setup.local.now in
       let by = serves.works in
@@ -167,8 +170,9 @@ module _ {H Store Door Dialer Time Dice DoorIn DoorOut DialerIn DialerOut : Type
       let none_at_local : M.guests works.first L ≡ Some [] =
       works.hires.guests L ∙ store.guests L ∙ at_local.taken ∙ ap none_of read_locals in
       -- the workers
-      let made = (works.served refl).0 in
-      let two = last_two crew.local crew.peer works.done crew.others start works.last (subst (λ l. AllMadeTurns G l works.done) crew.are made) works.retires in
+      let both = end_served works.how works.last.starved (sym works.ends) in
+      let made = (works.served both.0).0 in
+      let two = last_two crew.local crew.peer works.done crew.others start works.last (subst (λ l. AllMadeTurns G setup.keep l works.done) crew.are made) works.retires in
       let to_peer = gives_back_peer M G K setup (G.guests by.peer) peers crew.peer two.two start two.between crew.at_peer of_peer two.second two.at_peer in
       let to_local = gives_back_local M G K setup (G.guests by.local) locals crew.local two.one two.between two.middle crew.at_local of_local two.first two.at_local in
       let aside = subst (λ told. All (IsAside G told) crew.others) of_peer crew.aside in
@@ -181,17 +185,17 @@ module _ {H Store Door Dialer Time Dice DoorIn DoorOut DialerIn DialerOut : Type
       (left_there M G K setup door.Local L locals [] crew.local two.one two.between two.middle to_local
       (left_elsewhere M G K setup door.Peer P peers crew.peer two.two start two.between to_peer L (λ is. apart (sym is)) ∙ none_at_local)) in
       -- the sums
-      let total = sums M G K setup by.office.book setup.turns works.crew works.done start works.last crew.hired made works.retires in
+      let total = sums M G K setup by.office.book setup.turns works.crew works.done start works.last kept crew.hired made works.retires in
       let hired_others = subst (All (IsHired by.office.book setup.turns)) crew.are crew.hired in
-      let rest = sums M G K setup by.office.book setup.turns crew.others two.rest two.middle works.last (all_front (IsHired by.office.book setup.turns) crew.others (crew.local ∷ crew.peer ∷ []) hired_others) two.firsts two.aside in
+      let rest = sums M G K setup by.office.book setup.turns crew.others two.rest two.middle works.last kept (all_front (IsHired by.office.book setup.turns) crew.others (crew.local ∷ crew.peer ∷ []) hired_others) two.firsts two.aside in
       let local_is = All-contains (IsHired by.office.book setup.turns) (crew.others ++ crew.local ∷ crew.peer ∷ []) crew.local hired_others (Contains-append_right crew.others (crew.local ∷ crew.peer ∷ []) crew.local (0, omega arith, refl)) in
       let peer_is = All-contains (IsHired by.office.book setup.turns) (crew.others ++ crew.local ∷ crew.peer ∷ []) crew.peer hired_others (Contains-append_right crew.others (crew.local ∷ crew.peer ∷ []) crew.peer (1, omega arith, refl)) in
-      let product : length works.crew * (setup.turns * 3) ≤ 16 * (setup.turns * 3) = mul-le-mul_right (setup.turns * 3) works.many in
+      let product : length works.crew * (setup.turns * 1000) ≤ 16 * (setup.turns * 1000) = mul-le-mul_right (setup.turns * 1000) works.many in
+      let own = own_few by.office.end works.how works.pass.list works.own in
       let whole = works.alone (total.stake ∙ works.stakes) in
-      let room : length works.calls < 2 ^ 63 = omega (arith, whole, total.share, works.few, product, few) in
+      let room : length works.calls < 2 ^ 63 = omega (arith, whole, total.share, works.share, own, product, few) in
       -- the counts
-      let starved = (works.served refl).2 in
-      let middle_starved = rest.starved starved in
+      let middle_starved = rest.starved both.1 in
       let local_starved = two.at_local.starved middle_starved in
       let peer_starved = two.at_peer.starved local_starved.0 in
       let to_start = counts_to_start old new serves in
@@ -219,7 +223,7 @@ module _ {H Store Door Dialer Time Dice DoorIn DoorOut DialerIn DialerOut : Type
         calls = works.calls;
         end = works.close;
         leads = leads;
-        compacted = works.compacted refl told;
+        compacted = works.compacted both.0 told;
         after = now.0;
         stored = settled_bytes M S setup.journal.now works.last.host new works.disk now.0 works.settles now.1;
         is = left_at serves.modes works.close works.calls now.0 none left;

@@ -80,10 +80,6 @@ module _ {H Store Door Dialer Time Dice DoorIn DoorOut DialerIn DialerOut : Type
     settled_bytes journal old new disk after settles is q =
         ap bytes_in (settles.kept q ∙ ap (λ seen. option_map Some (part_of q seen)) is)
 
-    pub opens_same : (journal : List ℕ) (old new : H) (disk : Store) → OpensStore M S journal old new disk
-        → (q : Part) → bytes_in (M.file new (file_of journal q)) ≡ bytes_in (M.file old (file_of journal q))
-    opens_same journal old new disk opens q = ap bytes_in (opens.files_are q) ∙ made_bytes (M.file old (file_of journal q))
-
     -- what a crash in an opening leaves of a disk that reads so
     left_by_opening : ((d : Store) → Told (S.seen d) (S.may_leave d)) → ((d : Store) (t : ℕ) (c : Image) → t ≤ S.moment d → S.may_leave d c → S.left_since d t c) → (disk later : Store) (before after : Image) → FirstThen S disk later (S.may_leave disk) (ReopensAs before) → S.seen later ≡ Some after
         → S.may_leave disk after ⊎ ReopensAs before after

@@ -1,13 +1,23 @@
 -- The workers of a handler, and what their turns make.
-use Rattle.std.specs.Prelude.{◌≡◌, ◌⊎◌, ◌+◌, ◌-◌, ◌≤◌, ◌<◌, ◌^◌, ℕ, List, [], ◌∷◌, ◌++◌, Option, Some, None, All, length, map, replicate}
+use Rattle.std.specs.Prelude.{◌≡◌, ◌≢◌, ◌⊎◌, ◌+◌, ◌-◌, ◌≤◌, ◌<◌, ◌^◌, ℕ, List, [], ◌∷◌, ◌++◌, Option, Some, None, All, is_some, length, map, replicate}
+use Rattle.std.specs.declared.marker.Brand.{Brand}
+use Rattle.as4_disk.specs.declared.disk.Disk.{Ghosts as DiskMeaning}
 use Rattle.as4_doors.specs.declared.door.DoorKind.{DoorKind}
 use Rattle.as4_doors.specs.declared.door.DoorKind.TheVariants as door
+use Rattle.as4_flow.specs.declared.clock.Clock.{Ghosts as ClockMeaning}
+use Rattle.as4_flow.specs.declared.nonces.Nonces.{Ghosts as NoncesMeaning}
 use Rattle.as4_host.specs.Lists.{none_of}
 use Rattle.as4_host.specs.declared.door.Door.{Ghosts as DoorMeaning}
+use Rattle.as4_host.specs.declared.link.Link.{Ghosts as LinkMeaning}
+use Rattle.as4_keep.specs.KeptBounds.{GrowsKept}
+use Rattle.as4_keep.specs.KeptTurns.{KeptWorked}
 use Rattle.office.specs.declared.call.Call.{Call}
 use Rattle.pass_book.specs.States.{Book, PassState}
+use Rattle.office.specs.State.{OfficeState}
 use Rattle.sessions.specs.Answering.{IsSamePass}
-use Rattle.workers.specs.Bounds.{Grows, IsKept, Took, door_of}
+use Rattle.sessions.specs.declared.naming.Opening.{Ghosts as OpeningMeaning}
+use Rattle.workers.specs.Bounds.{IsKept, Took, door_of}
+use Rattle.workers.specs.Turns.{Worked}
 use Rattle.workers.specs.declared.job.Job.{Job}
 use Rattle.workers.specs.declared.job.Job.TheVariants as job
 use Rattle.workers.specs.declared.job.Worker.{Worker}
@@ -79,9 +89,10 @@ module _ {W L C N : Type 0} where
       pub at_local : StandsAt door.Local locals local
       pub at_peer : StandsAt door.Peer peers peer
 
-    -- what a worker's turns made, whatever the office was
-    pub record MadeTurns (old new : Worker W L C N) : Type 0 where
-      pub grows : Grows old.turns old new
+    -- what a worker's turns made, whatever the office was, where at most `keep` requests of one connection are answered
+    pub record MadeTurns (keep : ℕ) (old new : Worker W L C N) : Type 0 where
+      -- at a door a turn makes at most `keep` calls
+      pub grows : GrowsKept keep old.turns old new
       pub kept : IsKept old new
       pub pass : IsSamePass old.pass new.pass
       -- one that pushes, pulls or sets the clock made a call in each turn, but for those that are counted as starved
@@ -92,8 +103,28 @@ module _ {W L C N : Type 0} where
           → G.guests from ≡ Some all → (later : W) × (new.door ≡ Some later) × Took G kind old.turns all from later old new
 
     -- each of them did
-    abbrev pub AllMadeTurns : List (Worker W L C N) → List (Worker W L C N) → Type 0
-    AllMadeTurns [] [] = Unit {0}
-    AllMadeTurns [] (new ∷ news) = ⊥
-    AllMadeTurns (old ∷ olds) [] = ⊥
-    AllMadeTurns (old ∷ olds) (new ∷ news) = MadeTurns old new × AllMadeTurns olds news
+    abbrev pub AllMadeTurns : ℕ → List (Worker W L C N) → List (Worker W L C N) → Type 0
+    AllMadeTurns keep [] [] = Unit {0}
+    AllMadeTurns keep [] (new ∷ news) = ⊥
+    AllMadeTurns keep (old ∷ olds) [] = ⊥
+    AllMadeTurns keep (old ∷ olds) (new ∷ news) = MadeTurns keep old new × AllMadeTurns keep olds news
+
+module _ {D W In Out L From To C N : Type 0} (S : DiskMeaning D) (G : DoorMeaning W In Out) (K : LinkMeaning L From To) (T : ClockMeaning C) (R : NoncesMeaning N) (keep : ℕ) where
+  -- a worker took its turns: with one request of each guest as in `workers`, and with more as in `as4_keep`
+  abbrev pub TookTurns : {J : Type 0} → OpeningMeaning J → Worker W L C N → Worker W L C N → Type 0
+  TookTurns O old new = ((keep ≡ 1) × Worked S O G K T R old new) ⊎ ((keep ≢ 1) × KeptWorked S O G K T R keep old new)
+
+  -- each of them did
+  abbrev pub AllTookTurns : {J : Type 0} → OpeningMeaning J → List (Worker W L C N) → List (Worker W L C N) → Type 0
+  AllTookTurns O [] [] = Unit {0}
+  AllTookTurns O [] (new ∷ news) = ⊥
+  AllTookTurns O (old ∷ olds) [] = ⊥
+  AllTookTurns O (old ∷ olds) (new ∷ news) = TookTurns O old new × AllTookTurns O olds news
+
+  -- the opening that this office is of, where it was just opened
+  abbrev pub opening_of : OfficeState D → OpeningMeaning Brand
+  opening_of office = record { book = office.book; modes = office.modes; start = office.end; observable = is_some (S.seen office.disk) }
+
+  -- each of them did, over this office
+  abbrev pub WorkedOver : OfficeState D → List (Worker W L C N) → List (Worker W L C N) → Type 0
+  WorkedOver office olds news = AllTookTurns (opening_of office) olds news

@@ -50,6 +50,14 @@ abbrev pub IsJudged : HandlerEnd → ℕ → ℕ → HandlerEnd → Type 0
 IsJudged end before after result =
     (HasNotRisen before after × (result ≡ end)) ⊎ (Rose before after × (result ≡ if_failed end))
 
+-- an end before any worker began
+abbrev pub IsUnserved : HandlerEnd → Type 0
+IsUnserved Served = ⊥
+IsUnserved NoMemory = ⊥
+IsUnserved HostFault = ⊥
+IsUnserved ModesRefused = Unit {0}
+IsUnserved (NotJournal at) = Unit {0}
+
 -- why a handler ended without modes
 abbrev pub IsReadingCause : Option (Option (List ℕ)) → ℕ → ℕ → HandlerEnd → Type 0
 IsReadingCause file before after Served = ⊥

@@ -1,5 +1,6 @@
 -- The specs of handler.
 pub mod Hosts
+pub mod Announcing
 pub mod Stores
 pub mod Crews
 pub mod Dismissal

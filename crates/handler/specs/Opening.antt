@@ -35,6 +35,7 @@ module _ {H Store Door Dialer Time Dice DoorIn DoorOut DialerIn DialerOut : Type
   -- a handler's call for something left it unopened, for a cause, and all that was opened was given back
   pub record FailsToOpen (setup : Setup) (old new : H) (end : HandlerEnd) : Type 0 where
     pub touches : Touches M setup old new
+    pub guests : (a : List ℕ) → M.guests new a ≡ M.guests old a
     pub store : LeavesStore M (λ modes. ⊥) setup.journal.now old new
     pub cause : IsOpeningCause (Stores M setup.journal.now old) (M.fault_count old) (M.fault_count new) end
 

@@ -3,13 +3,15 @@ ghost use Rattle.std.specs.Prelude.{◌≡◌, ◌≢◌, ◌≤◌, ◌^◌, �
 ghost use Rattle.as4_disk.specs.Image.{Image};
 ghost use Rattle.as4_flow.specs.Flow.{TakesFront, Told};
 ghost use Rattle.as4_host.specs.Counts.{HasNotRisen};
-ghost use Rattle.handler.specs.Endings.{IsCause, IsJudged};
+ghost use Rattle.exchange_model.specs.End.{End};
+ghost use Rattle.handler.specs.Announcing.{head_of, line_of};
+ghost use Rattle.handler.specs.Endings.{IsCause, IsJudged, IsUnserved};
 ghost use Rattle.handler.specs.Handling.{Ends, Handles, Serves, pulled};
 ghost use Rattle.handler.specs.Hosts.{Touches};
 ghost use Rattle.handler.specs.Served.{Delivers, IsQuiet};
 ghost use Rattle.handler.specs.Stores.{AreModesOf, LeavesStore, Stores};
 
-use crate::announcing::head_of;
+use crate::announcing::begin_line;
 use crate::crew::MOST_WORKERS;
 use crate::ending::{HandlerEnd, judged};
 use crate::modes_file::{pulled_modes, read_modes};
@@ -32,7 +34,8 @@ use stranger_laws::{what_comes_is_taken, what_is_sent_belongs_to_its_event};
 /// serves by workers until each has made its turns or found its door closed, and gives everything back to the host.
 ///
 /// The workers: one pulls by each of the first two modes with `collect`, one pushes, one sets the clock, one serves
-/// local applications, and `setup.workers` serve partners.
+/// local applications, and `setup.workers` serve partners. A guest who sends several requests on one connection gets at
+/// most `setup.keep` answers.
 ///
 /// Once the journal is compacted, it writes one line to `errors`: the addresses, the journal and its size, and how many
 /// messages are pending and how many were received. It writes nothing else. If `errors` fails, it serves all the same.
@@ -63,21 +66,26 @@ where
     H::Time: Send,
     H::Dice: Send,
     requires peers { (1 ≤ setup.workers) × (setup.workers ≤ 11) }
+    requires keep { (1 ≤ setup.keep) × (setup.keep ≤ 1000) }
     // What was done, and how it ended, before the machine's failures are counted.
-    ensures ends { (end : HandlerEnd) × Ends H.Host H.Entrance.Door H.Dialer.Link H.Store.Disk setup.entry host.old host.new end
-        × IsJudged end (H.fault_count host.old) (H.fault_count host.new) result }
+    ensures ends { (end : HandlerEnd) × Ends H.Host H.Entrance.Door H.Dialer.Link H.Store.Disk H.Time.Clock H.Dice.Nonces setup.entry
+        (E.taken errors.old) (E.taken errors.new) host.old host.new end × IsJudged end (H.fault_count host.old) (H.fault_count host.new) result }
     ensures touches { Touches H.Host setup.entry host.old host.new }
     ensures store { LeavesStore H.Host (AreModesOf (H.file host.old setup.entry.modes.now)) setup.entry.journal.now host.old host.new }
     ensures cause { IsCause (H.file host.old setup.entry.modes.now) (Stores H.Host setup.entry.journal.now host.old)
         (H.fault_count host.old) (H.fault_count host.new) result }
     ensures calm { result ≢ HandlerEnd.NoMemory → result ≢ HandlerEnd.HostFault → HasNotRisen (H.fault_count host.old) (H.fault_count host.new) }
-    ensures serves { result ≡ HandlerEnd.Served → Serves H.Host H.Entrance.Door H.Dialer.Link H.Store.Disk setup.entry host.old host.new }
+    // What was opened is given back: if no worker began, each address has the guests that it had.
+    ensures guests { IsUnserved result → (a : List ℕ) → H.guests host.new a ≡ H.guests host.old a }
+    ensures serves { result ≡ HandlerEnd.Served → Serves H.Host H.Entrance.Door H.Dialer.Link H.Store.Disk H.Time.Clock H.Dice.Nonces setup.entry
+        (E.taken errors.old) (E.taken errors.new) host.old host.new }
     // Over an observable host on which nothing failed: the messages of the partners who were served are in the inbox.
     ensures delivers { result ≡ HandlerEnd.Served → IsQuiet H.Host host.old host.new → setup.entry.turns ≤ 2 ^ 49
         → setup.entry.peer.now ≢ setup.entry.local.now → (peers locals : List (List ℕ)) (before : Image)
         → H.guests host.old setup.entry.peer.now ≡ Some peers → H.guests host.old setup.entry.local.now ≡ Some locals
         → Stores H.Host setup.entry.journal.now host.old before → Delivers H.Host setup.entry host.old host.new peers locals before }
-    ensures line { (line : List ℕ) × TakesFront line (E.taken errors.old) (E.taken errors.new) }
+    ensures line { (end : End) × TakesFront (line_of setup.entry end) (E.taken errors.old) (E.taken errors.new) }
+    ensures silent { IsUnserved result → E.taken errors.new ≡ E.taken errors.old }
     ensures counted { E.faults errors.old ≤ E.faults errors.new }
 {
     // Laws that the proofs of `store` and `delivers` cite. They do nothing.
@@ -115,8 +123,9 @@ where
     H::Time: Send,
     H::Dice: Send,
     requires peers { (1 ≤ setup.workers) × (setup.workers ≤ 11) }
-    ensures ends { Handles H.Host H.Entrance.Door H.Dialer.Link H.Store.Disk setup.entry modes host.old host.new result }
-    ensures line { (line : List ℕ) × TakesFront line (E.taken errors.old) (E.taken errors.new) }
+    requires keep { (1 ≤ setup.keep) × (setup.keep ≤ 1000) }
+    ensures ends { Handles H.Host H.Entrance.Door H.Dialer.Link H.Store.Disk H.Time.Clock H.Dice.Nonces setup.entry modes
+        (E.taken errors.old) (E.taken errors.new) host.old host.new result }
     ensures counted { E.faults errors.old ≤ E.faults errors.new }
 {
     match (
@@ -151,11 +160,12 @@ fn kit_of<'a, W: Drop, L: Drop, C: Drop, N: Drop>(
     setup: Setup<'_>,
 ) -> Result<Kit<'a, W, L, C, N>, NoMemory>
     ensures pulls { IfOk result (λ kit. kit.pulls.items ≡ pulled modes.now) }
+    ensures head { IfOk result (λ kit. kit.head.items ≡ head_of setup.entry) }
     ensures crew { IfOk result (λ kit. (kit.crew.items ≡ []) × (16 ≤ vec_capacity kit.crew)) }
 {
     match (
         pulled_modes(alloc, modes),
-        head_of(alloc, setup.peer, setup.local, setup.journal),
+        begin_line(alloc, setup),
         Vec::with_capacity(alloc, MOST_WORKERS),
     ) {
         (Ok(pulls), Ok(head), Ok(crew)) => Ok(Kit { pulls, head, crew }),

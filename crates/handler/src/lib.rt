@@ -16,4 +16,5 @@ mod working;
 pub use ending::HandlerEnd;
 pub use handling::handle;
 pub use laws::a_whole_store_is_left_whole;
+pub use modes_file::read_modes;
 pub use setup::Setup;

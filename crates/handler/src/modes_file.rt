@@ -1,5 +1,5 @@
 //! The modes file.
-ghost use Rattle.std.specs.Prelude.{◌≡◌, IfErr, IfOk};
+ghost use Rattle.std.specs.Prelude.{◌≡◌, ◌≢◌, Err, IfErr, IfOk};
 ghost use Rattle.handler.specs.Endings.{EndsUnread, IsReadingCause};
 ghost use Rattle.handler.specs.Handling.{Reads, pulled};
 ghost use Rattle.handler.specs.Stores.{AreModesOf};
@@ -21,13 +21,10 @@ pub(crate) const MOST_PULLED: usize = 2;
 const _: () = prove!(MOST_PULLED == 2);
 
 /// Reads the modes file. It is refused if it is missing, is longer than the limit, or isn't one.
-pub(crate) fn read_modes<H: Host>(
-    alloc: Global,
-    host: &mut H,
-    path: &str,
-) -> Result<Modes, HandlerEnd>
+pub fn read_modes<H: Host>(alloc: Global, host: &mut H, path: &str) -> Result<Modes, HandlerEnd>
     ensures reads { Reads H.Host path.now host.old host.new }
     ensures modes { IfOk result (AreModesOf (H.file host.old path.now)) }
+    ensures faults { result ≢ Err HandlerEnd.HostFault → H.fault_count host.new ≡ H.fault_count host.old }
     ensures cause { IfErr result (IsReadingCause (H.file host.old path.now) (H.fault_count host.old) (H.fault_count host.new)) }
 {
     match host.read_file(path, MODES_LIMIT) {

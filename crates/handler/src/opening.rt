@@ -1,5 +1,5 @@
 //! What a handler opens. If something isn't opened, it gives back what it opened before.
-ghost use Rattle.std.specs.Prelude.{◌≡◌, ℕ, List, IfErr, IfOk};
+ghost use Rattle.std.specs.Prelude.{IfErr, IfOk};
 ghost use Rattle.handler.specs.Hosts.{AreOf, Knows, doors_of, files_of};
 ghost use Rattle.handler.specs.Opening.{FailsToOpen, OpensAll, OpensDoors, OpensOfficeOn};
 
@@ -54,8 +54,8 @@ pub(crate) fn open_all<'a, H: Host>(
         }),
         Err(end) => {
             let Doors { peer, local } = doors;
-            host.settle_door(setup.peer, peer);
             host.settle_door(setup.local, local);
+            host.settle_door(setup.peer, peer);
             Err(end)
         }
     }
@@ -91,7 +91,6 @@ fn open_office<'a, H: Host>(
     requires paths { AreOf setup.journal.now journal }
     ensures opens { IfOk result (λ o. OpensOfficeOn H.Host H.Store.Disk setup.entry.journal.now modes host.old host.new o.0 o.1) }
     ensures fails { IfErr result (FailsToOpen H.Host setup.entry host.old host.new) }
-    ensures guests { IfErr result (λ _. (a : List ℕ) → H.guests host.new a ≡ H.guests host.old a) }
     ensures names { IfOk result (λ _. Knows H.Host (files_of setup.entry.journal.now) host.new) }
 {
     let disk = match host.open_disk(journal) {

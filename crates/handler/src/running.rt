@@ -1,7 +1,8 @@
 //! How the workers run over the office that was opened.
-ghost use Rattle.std.specs.Prelude.{◌≡◌, ◌≤◌, ◌<◌, ℕ, List, [], All, length, true, slice_index_or};
-ghost use Rattle.as4_flow.specs.Flow.{TakesFront};
-ghost use Rattle.handler.specs.Crews.{AllMadeTurns};
+ghost use Rattle.std.specs.Prelude.{◌≡◌, ◌≢◌, ◌≤◌, ◌<◌, ℕ, [], All, length, true, slice_index_or};
+ghost use Rattle.as4_keep.specs.KeptTurns.{KeptWorked};
+ghost use Rattle.handler.specs.Announcing.{Announces};
+ghost use Rattle.handler.specs.Crews.{AllMadeTurns, AllTookTurns, WorkedOver};
 ghost use Rattle.handler.specs.Working.{RunsOver, ran_by};
 ghost use Rattle.sessions.specs.Shared.{IsOpened};
 ghost use Rattle.workers.specs.Turns.{IsReady, Worked};
@@ -10,6 +11,7 @@ use crate::announcing::announce;
 use as4_disk::Disk;
 use as4_flow::{Clock, Nonces, Sink};
 use as4_host::{Door, Link};
+use as4_keep::{kept_workers_make_their_turns, serve_kept};
 use office::{Call, Office, OfficeFault};
 use pass_book::Pass;
 use sessions::{Opening, SharedOffice};
@@ -30,8 +32,9 @@ pub(crate) enum Ran {
     DiskFault,
 }
 
-/// Runs the workers over an office that was just opened, if all of them were hired. `Brand` is a type of its own for
-/// this opening, by which the shared office and the workers' contracts name it.
+/// Runs the workers over an office that was just opened, if all of them were hired. At most `keep` requests of one
+/// connection are answered. `Brand` is a type of its own for this opening, by which the shared office and the workers'
+/// contracts name it.
 pub(crate) fn run_if<
     'a,
     R: Threads + Wait + Sync,
@@ -50,6 +53,7 @@ pub(crate) fn run_if<
     errors: &mut E,
     head: Vec<u8>,
     is_whole: bool,
+    keep: u64,
 ) -> (Office<'a, D>, Ran)
 where
     W::In: Send,
@@ -58,16 +62,19 @@ where
     L::Out: Send,
     requires list { office.list ≡ [] }
     requires fresh { D.fault_count office.disk ≡ 0 }
-    requires pass { (pass.old.book ≡ office.book) × (pass.old.share ≡ 0) }
+    requires pass { (pass.old.book ≡ office.book) × (pass.old.share ≡ 0) × (pass.old.list ≡ []) }
     requires ready { All (IsReady office.book) crew.old.items }
-    ensures runs { RunsOver D.Disk W.Door office.entry result.0 pass.old pass.new crew.old.items crew.new.items result.1 }
+    requires keep { (1 ≤ keep) × (keep ≤ 1000) }
+    ensures runs { RunsOver D.Disk W.Door keep office.entry result.0 pass.old pass.new crew.old.items crew.new.items result.1 }
+    ensures worked { result.1 ≡ Ran.Served → WorkedOver D.Disk W.Door L.Link C.Clock N.Nonces keep office.entry crew.old.items crew.new.items }
     ensures whole { result.1 ≡ Ran.Served → is_whole ≡ true }
-    ensures line { (line : List ℕ) × TakesFront line (E.taken errors.old) (E.taken errors.new) }
+    ensures line { result.1 ≡ Ran.Served → Announces D.Disk office.entry pass.new.list head.items (E.taken errors.old) (E.taken errors.new) }
+    ensures silent { result.1 ≢ Ran.Served → E.taken errors.new ≡ E.taken errors.old }
     ensures counted { E.faults errors.old ≤ E.faults errors.new }
 {
     if is_whole {
         return run_office::<R, D, Brand, W, L, C, N, E>(
-            rt, alloc, office, pass, crew, errors, head,
+            rt, alloc, office, pass, crew, errors, head, keep,
         );
     }
     drop(head);
@@ -93,6 +100,7 @@ fn run_office<
     crew: &mut Vec<Worker<'a, W, L, C, N>>,
     errors: &mut E,
     head: Vec<u8>,
+    keep: u64,
 ) -> (Office<'a, D>, Ran)
 where
     W::In: Send,
@@ -102,10 +110,13 @@ where
     requires opened { IsOpened D.Disk J.Opening office }
     requires start { (office.list ≡ []) × (office.end ≡ J.start) }
     requires fresh { D.fault_count office.disk ≡ 0 }
-    requires pass { (pass.old.book ≡ office.book) × (pass.old.share ≡ 0) }
+    requires pass { (pass.old.book ≡ office.book) × (pass.old.share ≡ 0) × (pass.old.list ≡ []) }
     requires ready { All (IsReady J.book) crew.old.items }
-    ensures runs { RunsOver D.Disk W.Door office.entry result.0 pass.old pass.new crew.old.items crew.new.items result.1 }
-    ensures line { (line : List ℕ) × TakesFront line (E.taken errors.old) (E.taken errors.new) }
+    requires keep { (1 ≤ keep) × (keep ≤ 1000) }
+    ensures runs { RunsOver D.Disk W.Door keep office.entry result.0 pass.old pass.new crew.old.items crew.new.items result.1 }
+    ensures took { result.1 ≡ Ran.Served → AllTookTurns D.Disk W.Door L.Link C.Clock N.Nonces keep J.Opening crew.old.items crew.new.items }
+    ensures line { result.1 ≡ Ran.Served → Announces D.Disk office.entry pass.new.list head.items (E.taken errors.old) (E.taken errors.new) }
+    ensures silent { result.1 ≢ Ran.Served → E.taken errors.new ≡ E.taken errors.old }
     ensures counted { E.faults errors.old ≤ E.faults errors.new }
 {
     let mut office = office;
@@ -113,7 +124,7 @@ where
         Ok(size) => {
             announce(errors, head, size, office.totals());
             (
-                run_crew::<R, D, J, W, L, C, N>(rt, alloc, office, crew),
+                run_crew::<R, D, J, W, L, C, N>(rt, alloc, office, crew, keep),
                 Ran::Served,
             )
         }
@@ -149,6 +160,7 @@ fn run_crew<
     alloc: Global,
     office: Office<'a, D>,
     crew: &mut Vec<Worker<'a, W, L, C, N>>,
+    keep: u64,
 ) -> Office<'a, D>
 where
     W::In: Send,
@@ -157,16 +169,19 @@ where
     L::Out: Send,
     requires opened { IsOpened D.Disk J.Opening office }
     requires ready { All (IsReady J.book) crew.old.items }
+    requires keep { (1 ≤ keep) × (keep ≤ 1000) }
     ensures opened { IsOpened D.Disk J.Opening result }
-    ensures made { AllMadeTurns W.Door crew.old.items crew.new.items }
+    ensures made { AllMadeTurns W.Door keep crew.old.items crew.new.items }
+    ensures took { AllTookTurns D.Disk W.Door L.Link C.Clock N.Nonces keep J.Opening crew.old.items crew.new.items }
 {
     workers_make_their_turns::<D, J, W, L, C, N>();
+    kept_workers_make_their_turns::<D, J, W, L, C, N>();
     let office = Mutex::new(SharedOffice::<D, J>::new(office));
-    serve_all(rt, alloc, &office, crew);
+    serve_all(rt, alloc, &office, crew, keep);
     office.into_inner().into_office()
 }
 
-// Runs the workers of a list side by side.
+// Runs the workers of a list side by side. With `keep` 1, each connection is closed after one answer.
 fn serve_all<
     'a,
     R: Threads + Wait + Sync,
@@ -181,6 +196,7 @@ fn serve_all<
     alloc: Global,
     office: &Mutex<SharedOffice<'_, D, J>>,
     crew: &mut Vec<Worker<'a, W, L, C, N>>,
+    keep: u64,
 )
 where
     W::In: Send,
@@ -188,9 +204,16 @@ where
     L::In: Send,
     L::Out: Send,
     requires ready { All (IsReady J.book) crew.old.items }
+    requires keep { (1 ≤ keep) × (keep ≤ 1000) }
     ensures count { length crew.new.items ≡ length crew.old.items }
-    ensures worked { (i : ℕ) (w : _) → i < length crew.old.items
+    ensures once { keep ≡ 1 → (i : ℕ) (w : _) → i < length crew.old.items
         → Worked D.Disk J.Opening W.Door L.Link C.Clock N.Nonces (slice_index_or crew.old.items i w) (slice_index_or crew.new.items i w) }
+    ensures kept { keep ≢ 1 → (i : ℕ) (w : _) → i < length crew.old.items
+        → KeptWorked D.Disk J.Opening W.Door L.Link C.Clock N.Nonces keep (slice_index_or crew.old.items i w) (slice_index_or crew.new.items i w) }
 {
-    serve(rt, alloc, office, crew);
+    if keep == 1 {
+        serve(rt, alloc, office, crew);
+    } else {
+        serve_kept(rt, alloc, office, crew, keep);
+    }
 }

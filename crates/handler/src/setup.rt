@@ -21,6 +21,9 @@ pub struct Setup<'a> {
     pub workers: u64,
     /// How many turns each worker makes, at most 2^63.
     pub turns: u64,
+    /// How many requests of one connection are answered at most, 1 to 1,000. With 1, each connection is closed after one
+    /// answer.
+    pub keep: u64,
 }
 
 /// The paths of a journal's other two files.

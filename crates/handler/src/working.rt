@@ -1,6 +1,6 @@
 //! What a handler does with what it opened.
-ghost use Rattle.std.specs.Prelude.{◌≡◌, ◌≤◌, ◌^◌, ℕ, List, [], length, vec_capacity};
-ghost use Rattle.as4_flow.specs.Flow.{TakesFront};
+ghost use Rattle.std.specs.Prelude.{◌≡◌, ◌≤◌, ◌^◌, List, [], length, vec_capacity};
+ghost use Rattle.handler.specs.Announcing.{head_of};
 ghost use Rattle.handler.specs.Hosts.{AreOf, Knows, doors_of, files_of};
 ghost use Rattle.handler.specs.Opening.{OpensOffice};
 ghost use Rattle.handler.specs.Crews.{IsNew};
@@ -55,14 +55,15 @@ where
     H::Time: Send,
     H::Dice: Send,
     requires paths { AreOf setup.journal.now journal }
+    requires head { kit.head.items ≡ head_of setup }
     requires kit { (length kit.pulls.items ≤ 2) × (kit.crew.items ≡ []) × (16 ≤ vec_capacity kit.crew) }
     requires peers { (1 ≤ setup.workers) × (setup.workers ≤ 11) }
+    requires keep { (1 ≤ setup.keep) × (setup.keep ≤ 1000) }
     requires names { Knows H.Host (doors_of setup) host.old × Knows H.Host (files_of setup.journal.now) host.old }
     requires doors { IsNew H.Entrance.Door opened.doors.peer × IsNew H.Entrance.Door opened.doors.local }
     requires office { (modes : List Mode) × (disk : H.Store) × OpensOffice H.Store.Disk disk modes opened.office opened.pass × (H.Store.fault_count disk ≡ 0) }
-    ensures works { Works H.Host H.Entrance.Door H.Dialer.Link H.Store.Disk setup.entry kit.entry.pulls.items opened.entry.doors.peer opened.entry.doors.local
+    ensures works { Works H.Host H.Entrance.Door H.Dialer.Link H.Store.Disk H.Time.Clock H.Dice.Nonces setup.entry (E.taken errors.old) (E.taken errors.new) kit.entry.pulls.items opened.entry.doors.peer opened.entry.doors.local
         opened.entry.office host.old host.new result }
-    ensures line { (line : List ℕ) × TakesFront line (E.taken errors.old) (E.taken errors.new) }
     ensures counted { E.faults errors.old ≤ E.faults errors.new }
 {
     let Kit { pulls, head, crew } = kit;
@@ -83,7 +84,7 @@ where
         setup.turns,
     );
     let (office, ran) = run_if(
-        rt, alloc, office, &mut pass, &mut crew, errors, head, is_whole,
+        rt, alloc, office, &mut pass, &mut crew, errors, head, is_whole, setup.keep,
     );
     let is_starved = dismiss(host, setup, &mut pass, crew);
     let mut office = office;

@@ -41,6 +41,7 @@ pub(crate) struct Given {
     pub(crate) failing: [u64; 2],
     pub(crate) workers: u64,
     pub(crate) turns: u64,
+    pub(crate) keep: u64,
 }
 
 /// What a handler leaves: how it ended, the host's counts of faults, of reads and of writes, whether it wrote its line, how
@@ -53,17 +54,17 @@ pub(crate) struct Left {
     pub(crate) peers: u64,
     pub(crate) locals: u64,
     pub(crate) store: Option<Store>,
+    /// How often the first submission was tried.
+    pub(crate) tries: u32,
 }
 
-/// The numbers of submissions and of received messages, the moment, whether the second leaf is the current one, and how often
-/// the first submission was tried.
+/// The numbers of submissions and of received messages, the moment, and whether the second leaf is the current one.
 #[derive(Clone, Copy, Debug, PartialEq, Eq)]
 pub(crate) struct Store {
     pub(crate) submitted: u64,
     pub(crate) received: u64,
     pub(crate) moment: u64,
     pub(crate) second: bool,
-    pub(crate) tries: u32,
 }
 
 fn stack(alloc: Global, texts: &[Sample]) -> Option<Stack> {
@@ -102,7 +103,7 @@ pub(crate) fn run_on<R: Threads + Wait + Sync>(
     host: &mut MemoryHost,
     given: &Given,
 ) -> Option<Left> {
-    if given.workers == 0 || given.workers > 11 {
+    if given.workers == 0 || given.workers > 11 || given.keep == 0 || given.keep > 1000 {
         return None;
     }
     let setup = Setup {
@@ -112,6 +113,7 @@ pub(crate) fn run_on<R: Threads + Wait + Sync>(
         local: LOCAL,
         workers: given.workers,
         turns: given.turns,
+        keep: given.keep,
     };
     let mut errors = MemorySink::of(alloc, Vec::new(alloc), Vec::new(alloc));
     let end = handle(rt, alloc, host, setup, &mut errors);
@@ -119,13 +121,17 @@ pub(crate) fn run_on<R: Threads + Wait + Sync>(
         b"serving partners at http://p:1/ and applications at http://l:1/; journal j: ",
     );
     drop(errors);
+    let peers = waiting(host, PEER)?;
+    let locals = waiting(host, LOCAL)?;
+    let (store, tries) = reopened(alloc, host).unzip();
     Some(Left {
         end,
         counts: host.counts(),
         line,
-        peers: waiting(host, PEER)?,
-        locals: waiting(host, LOCAL)?,
-        store: reopened(alloc, host),
+        peers,
+        locals,
+        store,
+        tries: tries.unwrap_or(0),
     })
 }
 
@@ -152,7 +158,8 @@ fn bytes(alloc: Global, host: &MemoryHost, path: &str) -> Option<Octets> {
     }
 }
 
-fn reopened(alloc: Global, host: &MemoryHost) -> Option<Store> {
+// What the store opens to, and how often its first submission was tried.
+fn reopened(alloc: Global, host: &MemoryHost) -> Option<(Store, u32)> {
     let selector = bytes(alloc, host, "j.s")?;
     let second = selector.bytes().first() == Some(&1);
     let files = Files {
@@ -173,13 +180,13 @@ fn reopened(alloc: Global, host: &MemoryHost) -> Option<Store> {
             let tries = tries(alloc, &mut office, &mut pass);
             drop(pass);
             drop(office);
-            Some(Store {
+            let store = Store {
                 submitted: totals.submitted,
                 received: totals.inbox,
                 moment,
                 second,
-                tries,
-            })
+            };
+            Some((store, tries))
         }
         Err((_, disk)) => {
             drop(disk);

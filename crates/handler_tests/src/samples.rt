@@ -13,6 +13,7 @@ pub(crate) enum Sample {
     Package,
     NoRequest,
     Submission,
+    TwoSubmissions,
 }
 
 impl Sample {
@@ -28,6 +29,7 @@ impl Sample {
             Sample::Package => PACKAGE,
             Sample::NoRequest => b"x",
             Sample::Submission => SUBMISSION,
+            Sample::TwoSubmissions => TWO_SUBMISSIONS,
         }
     }
 }
@@ -73,3 +75,7 @@ const PACKAGE: &[u8] =
 /// A submission without contents.
 const SUBMISSION: &[u8] =
     b"POST /submit/invoice/c1 HTTP/1.1\r\nHost: h\r\nContent-Length: 0\r\n\r\n";
+
+/// Two submissions without contents, on one connection.
+const TWO_SUBMISSIONS: &[u8] =
+    b"POST /submit/invoice/c1 HTTP/1.1\r\nHost: h\r\nContent-Length: 0\r\n\r\nPOST /submit/invoice/c1 HTTP/1.1\r\nHost: h\r\nContent-Length: 0\r\n\r\n";

@@ -90,7 +90,7 @@ fn are_read(alloc: Global, line: &str, command: Option<Command>) -> bool {
     }
 }
 
-/// A handler with 4 workers and 2^63 turns.
+/// A handler with 4 workers, 2^63 turns and one request for each connection.
 const SERVICE: Service = Service {
     modes: "m.toml",
     journal: "j",
@@ -98,9 +98,10 @@ const SERVICE: Service = Service {
     local: "http://h:2",
     workers: 4,
     turns: 9_223_372_036_854_775_808,
+    keep: 1,
 };
 
-const COMMANDS: [(&str, Command); 16] = [
+const COMMANDS: [(&str, Command); 17] = [
     ("-h", Command::Help),
     ("-V", Command::Version),
     ("submit --help", Command::Help),
@@ -121,6 +122,13 @@ const COMMANDS: [(&str, Command); 16] = [
         "handler --turns=9223372036854775808 m.toml --workers=11 j http://h:1/ http://h:2",
         Command::Handler(Service {
             workers: 11,
+            ..SERVICE
+        }),
+    ),
+    (
+        "handler m.toml j http://h:1/ --keep 1000 http://h:2",
+        Command::Handler(Service {
+            keep: 1000,
             ..SERVICE
         }),
     ),

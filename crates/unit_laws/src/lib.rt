@@ -5,6 +5,7 @@ mod again;
 mod laws;
 mod reading;
 
+pub use again::Again;
 pub use laws::{
     header_is_read_again, pair_is_read_again, signal_is_read_again, tree_is_read_again,
     unit_is_read_again,

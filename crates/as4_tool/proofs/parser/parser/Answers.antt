@@ -1,7 +1,7 @@
 use Rattle.std.proofs.Common.{codes}
 use Rattle.std.proofs.lemmas.Result.{IfOk-weaker}
 use Rattle.clap.specs.Simple.{new_app}
-use Rattle.as4_tool.specs.Words.{collect_command, submit_command, handler_command, drill_command, check_command, answer_command}
+use Rattle.as4_tool.specs.Words.{relay_command, audit_command, collect_command, submit_command, handler_command, drill_command, check_command, answer_command}
 use Rattle.as4_tool.specs.Adds.{IsApp}
 use Rattle.as4_tool.proofs.parser.parser.Goals as goal
 
@@ -13,4 +13,6 @@ returns c =
     let three = c.in_ok-top-3.ensures drill_command c.in_ok-drill.ensures _ two in
     let four = c.in_ok-top-4.ensures handler_command c.in_ok-handler.ensures _ three in
     let five = c.in_ok-top-5.ensures submit_command c.in_ok-submit.ensures _ four in
-    IfOk-weaker c.with_command-6.result _ _ (λ r adds. adds _ five) (c.with_command-6.ensures collect_command c.in_ok-collect.ensures)
+    let six = c.in_ok-top-6.ensures collect_command c.in_ok-collect.ensures _ five in
+    let seven = c.in_ok-top-7.ensures audit_command c.in_ok-audit.ensures _ six in
+    IfOk-weaker c.with_command-8.result _ _ (λ r adds. adds _ seven) (c.with_command-8.ensures relay_command c.in_ok-relay.ensures)

@@ -24,3 +24,9 @@ returns-in-Generate-clause-alone g c is = absurd ((c.generate.ensures None 0).st
 
 pub returns-in-Collect-clause-runs : goal.returns-in-Collect-clause-runs
 returns-in-Collect-clause-runs g c = rw c.in-Collect.is (record { does = c.collect.ensures; untouched = refl })
+
+pub returns-in-Audit-clause-runs : goal.returns-in-Audit-clause-runs
+returns-in-Audit-clause-runs g c = rw c.in-Audit.is (record { does = c.audit.ensures; untouched = refl })
+
+pub returns-in-Relay-clause-runs : goal.returns-in-Relay-clause-runs
+returns-in-Relay-clause-runs g c = rw c.in-Relay.is (record { does = c.relay.ensures; untouched = refl })

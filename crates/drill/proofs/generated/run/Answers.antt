@@ -1,6 +1,6 @@
 use Rattle.std.proofs.Common.{◌∷◌, subst}
 use Rattle.drill.specs.Generated.{IsGenerated, Leads, Rounds, invoice, submissions, ticks_a}
-use Rattle.drill.specs.Transcript.{DrillState, new_state}
+use Rattle.drill_world.specs.Transcript.{DrillState, new_state}
 use Rattle.drill_script.specs.declared.line.Line.TheVariants as line
 use Rattle.drill_script.specs.declared.line.Way.TheVariants.{Push}
 use Rattle.drill.proofs.GeneratedLemmas.{on_ok}

@@ -1,5 +1,5 @@
 use Rattle.drill.specs.Generated.{Leads, Rounds, ticks_a}
-use Rattle.drill.specs.Transcript.{DrillState}
+use Rattle.drill_world.specs.Transcript.{DrillState}
 use Rattle.drill.proofs.GeneratedLemmas.{on_ok}
 use Rattle.drill.proofs.generated.run_on.Goals as goal
 

@@ -1,6 +1,6 @@
 use Rattle.std.proofs.Common.{◌+◌, ◌-◌, ◌*◌, ◌≤◌}
 use Rattle.drill.specs.Generating.{handed, to_push}
-use Rattle.drill.specs.Transcript.{events_limit}
+use Rattle.drill_world.specs.Transcript.{events_limit}
 use Rattle.drill.proofs.GeneratedLemmas.{TakenSome}
 use Rattle.drill.proofs.generated.take_all.Given as goal
 

@@ -1,6 +1,6 @@
 use Rattle.std.proofs.Common.{◌≡◌, ℕ, List, ap, ◌∙◌, refl, subst}
 use Rattle.as4_flow.specs.Flow.{TakesFront, appended}
-use Rattle.drill.specs.Transcript.{end_lines}
+use Rattle.drill_world.specs.Transcript.{end_lines}
 use Rattle.drill.proofs.GeneratedLemmas.{generated_once}
 use Rattle.drill.proofs.generated.write_ends.Goals as goal
 

@@ -1,6 +1,6 @@
 use Rattle.std.proofs.Common.{[], refl}
 use Rattle.as4_flow.specs.Flow.{flow}
-use Rattle.drill.specs.Transcript.{new_state}
+use Rattle.drill_world.specs.Transcript.{new_state}
 use Rattle.drill.proofs.EndLemmas.{ends_without_memory, so_far_none}
 use Rattle.drill.proofs.script.drill.Goals as goal
 

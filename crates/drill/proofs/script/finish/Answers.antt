@@ -1,6 +1,6 @@
 use Rattle.std.proofs.Common.{◌≡◌, ℕ, List, ap, ◌∙◌, subst}
 use Rattle.as4_flow.specs.Flow.{flow, TakesFront, appended}
-use Rattle.drill.specs.Transcript.{end_lines}
+use Rattle.drill_world.specs.Transcript.{end_lines}
 use Rattle.drill.proofs.EndLemmas.{ends_read, ends_unfinished, ends_without_memory}
 use Rattle.drill.proofs.script.finish.Goals as goal
 

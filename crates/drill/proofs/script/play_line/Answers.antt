@@ -1,6 +1,6 @@
 use Rattle.std.proofs.Common.{◌≡◌, ℕ, ◌<◌, List, ap, ◌∙◌, subst, arith}
 use Rattle.as4_flow.specs.Flow.{flow, TakesFront, appended}
-use Rattle.drill.specs.Transcript.{lines_limit}
+use Rattle.drill_world.specs.Transcript.{lines_limit}
 use Rattle.drill.proofs.EndLemmas.{Turn, so_far_played, ends_full, ends_too_many, ends_unwritten, ends_without_memory, ends_wrong}
 use Rattle.byte_forms.specs.Parted.{parted}
 use Rattle.drill_script.specs.LineText.{line_text}

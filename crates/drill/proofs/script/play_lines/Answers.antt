@@ -1,5 +1,5 @@
 use Rattle.std.proofs.Common.{◌≡◌, ◌<◌, None, arith, refl}
-use Rattle.drill.specs.Transcript.{lines_limit}
+use Rattle.drill_world.specs.Transcript.{lines_limit}
 use Rattle.drill.proofs.EndLemmas.{is_none}
 use Rattle.drill.proofs.script.play_lines.Goals as goal
 

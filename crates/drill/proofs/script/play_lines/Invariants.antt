@@ -1,7 +1,7 @@
 use Rattle.std.proofs.Common.{◌-◌, ◌≤◌}
 use Rattle.as4_flow.specs.Flow.{Flow, flow}
 use Rattle.drill.specs.Running.{SoFar}
-use Rattle.drill.specs.Transcript.{lines_limit}
+use Rattle.drill_world.specs.Transcript.{lines_limit}
 use Rattle.drill.proofs.script.play_lines.Given as goal
 
 abbrev pub invariant-lines : goal.invariant-lines

@@ -1,9 +1,7 @@
-use Rattle.std.proofs.Common.{◌≤◌, ℕ, List, inl, inr, length, sym, ap, subst, arith}
-use Rattle.as4_flow.specs.Flow.{TakesFront}
+use Rattle.std.proofs.Common.{◌≤◌, inl, inr, length, sym, ap, subst, arith}
 use Rattle.handler.specs.Handling.{Handles, OpensAndWorks}
 use Rattle.handler.specs.Working.{Works}
 use Rattle.handler.proofs.ModesLemmas.{few_pulled}
-use Rattle.handler.proofs.RunningLemmas.{takes_none}
 use Rattle.handler.proofs.handling.prepare.Goals as goal
 use Rattle.handler.proofs.handling.prepare.Goals.{in-Ok, in-Err}
 
@@ -21,27 +19,27 @@ returns-after-open_all-clause-ends g c =
     let G = g.H.Entrance.Door in
     let K = g.H.Dialer.Link in
     let S = g.H.Store.Disk in
+    let T = g.H.Time.Clock in
+    let R = g.H.Dice.Nonces in
+    let told = g.E.Sink.taken c.args.errors.now in
     elim c.match-open_all.branch [
       | in-Ok w ↦
           let o = w.in-Ok.opened in
-          let by : OpensAndWorks M G K S c.args.setup c.args.modes c.args.host.now w.work-end.new.host w.work-end.result = record {
+          let later = g.E.Sink.taken w.work-end.new.errors in
+          let by : OpensAndWorks M G K S T R c.args.setup c.args.modes told later c.args.host.now w.work-end.new.host w.work-end.result = record {
             opened = c.open_all.new.host;
             peer = o.doors.peer;
             local = o.doors.local;
             office = o.office;
             pass = o.pass;
             opens = w.in-Ok.ensures.opens;
-            works = subst (λ pulls. Works M G K S c.args.setup pulls o.doors.peer o.doors.local o.office c.open_all.new.host w.work-end.new.host w.work-end.result) c.in-Ok-Ok.ensures.pulls w.work-end.ensures.works;
+            works = subst (λ pulls. Works M G K S T R c.args.setup told later pulls o.doors.peer o.doors.local o.office c.open_all.new.host w.work-end.new.host w.work-end.result) c.in-Ok-Ok.ensures.pulls w.work-end.ensures.works;
           } in
-          subst (λ h. Handles M G K S c.args.setup c.args.modes c.args.host.now h c.match-open_all.end) (sym w.host-is)
-          (subst (λ e. Handles M G K S c.args.setup c.args.modes c.args.host.now w.work-end.new.host e) (sym w.end-is) (inr (inr by)))
+          subst (λ e. Handles M G K S T R c.args.setup c.args.modes told (g.E.Sink.taken e) c.args.host.now c.match-open_all.host c.match-open_all.end) (sym w.errors-is)
+          (subst (λ h. Handles M G K S T R c.args.setup c.args.modes told later c.args.host.now h c.match-open_all.end) (sym w.host-is)
+          (subst (λ e. Handles M G K S T R c.args.setup c.args.modes told later c.args.host.now w.work-end.new.host e) (sym w.end-is) (inr (inr by))))
       | in-Err w ↦
-          subst (λ h. Handles M G K S c.args.setup c.args.modes c.args.host.now h c.match-open_all.end) (sym w.host-is)
-          (subst (λ e. Handles M G K S c.args.setup c.args.modes c.args.host.now c.open_all.new.host e) (sym w.end-is) (inr (inl w.in-Err.ensures.fails)))
+          let later = g.E.Sink.taken c.match-open_all.errors in
+          subst (λ h. Handles M G K S T R c.args.setup c.args.modes told later c.args.host.now h c.match-open_all.end) (sym w.host-is)
+          (subst (λ e. Handles M G K S T R c.args.setup c.args.modes told later c.args.host.now c.open_all.new.host e) (sym w.end-is) (inr (inl (w.in-Err.ensures.fails, ap g.E.Sink.taken w.errors-is))))
     ]
-
-pub returns-after-open_all-clause-line : goal.returns-after-open_all-clause-line
-returns-after-open_all-clause-line g c = elim c.match-open_all.branch [
-  | in-Ok w ↦ subst (λ e. (line : List ℕ) × TakesFront line (g.E.Sink.taken c.args.errors.now) (g.E.Sink.taken e)) (sym w.errors-is) w.work-end.ensures.line
-  | in-Err w ↦ subst (λ e. (line : List ℕ) × TakesFront line (g.E.Sink.taken c.args.errors.now) (g.E.Sink.taken e)) (sym w.errors-is) (takes_none (g.E.Sink.taken c.args.errors.now))
-]

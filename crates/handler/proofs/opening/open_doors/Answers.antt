@@ -6,6 +6,7 @@ use Rattle.handler.specs.Endings.{end_by}
 use Rattle.handler.specs.Hosts.{file_of, words_of}
 use Rattle.handler.specs.Opening.{OpensDoor}
 use Rattle.handler.proofs.DismissalLemmas.{settled_touches}
+use Rattle.handler.proofs.GuestLemmas.{door_back, each_address}
 use Rattle.handler.proofs.HostLemmas.{knows_asked, knows_on}
 use Rattle.handler.proofs.OpeningLemmas.{door_touches, fails_around, fails_refused, has_local, has_peer}
 use Rattle.handler.proofs.opening.open_doors.Goals as goal
@@ -17,7 +18,7 @@ returns-in-Err-clause-fails g c =
     let words = words_of c.args.setup in
     fails_refused g.H.Host c.args.setup g.row.H-Entrance.Denot (c.args.setup.peer.now ∷ []) c.args.host.now c.open_door.new.self c.in-Err.refusal c.refused.result
     (All-cons (Contains words) c.args.setup.peer.now [] (has_peer c.args.setup) (All-nil (Contains words))) c.refused.ensures e.names e.cause e.others.3 e.others.4
-    (λ p away. e.files p) (λ q. ap bytes_in (e.files (file_of c.args.setup.journal.now q))) (λ a not_peer not_local. e.guests a not_peer)
+    (λ p away. e.files p) (λ q. ap bytes_in (e.files (file_of c.args.setup.journal.now q))) (each_address g.H.Host c.args.setup.peer.now c.args.host.now c.open_door.new.self e.refused e.guests)
 
 -- src/opening.rt:77:13
 pub settle_door-requires : goal.settle_door-requires
@@ -28,7 +29,7 @@ settle_door-requires g c =
     let words = words_of setup in
     let fails = fails_refused g.H.Host setup g.row.H-Entrance.Denot (setup.local.now ∷ []) c.open_door.new.self c.open_door-2.new.self c.in-Err-open_door.refusal (end_by c.in-Err-open_door.refusal)
     (All-cons (Contains words) setup.local.now [] (has_local setup) (All-nil (Contains words))) refl e.names e.cause e.others.3 e.others.4
-    (λ p away. e.files p) (λ q. ap bytes_in (e.files (file_of setup.journal.now q))) (λ a not_peer not_local. e.guests a not_local) in
+    (λ p away. e.files p) (λ q. ap bytes_in (e.files (file_of setup.journal.now q))) (each_address g.H.Host setup.local.now c.open_door.new.self c.open_door-2.new.self e.refused e.guests) in
     let knows = knows_on g.H.Host (setup.peer.now ∷ []) words c.open_door.new.self c.open_door-2.new.self fails.touches.asks
     (knows_asked g.H.Host (setup.peer.now ∷ []) c.args.host.now c.open_door.new.self first.names) in
     λ v is. All-head (Contains v) setup.peer.now [] (knows v is)
@@ -66,9 +67,10 @@ returns-in-Err-open_door-clause-fails g c =
     let words = words_of setup in
     let at_peer : OpensDoor g.H.Host g.H.Entrance.Door setup.peer.now c.args.host.now c.open_door.new.self c.in-Ok.peer =
     record { is_new = p.counts; guests_are = p.opens; taken = p.taken; guests = p.guests; names = p.names; files = p.files; faults = p.cause; reads = p.others.3; writes = p.others.4 } in
+    let still = each_address g.H.Host setup.local.now c.open_door.new.self c.open_door-2.new.self e.refused e.guests in
     let fails = fails_refused g.H.Host setup g.row.H-Entrance.Denot (setup.local.now ∷ []) c.open_door.new.self c.open_door-2.new.self c.in-Err-open_door.refusal c.refused-in-Err-open_door.result
     (All-cons (Contains words) setup.local.now [] (has_local setup) (All-nil (Contains words))) c.refused-in-Err-open_door.ensures e.names e.cause e.others.3 e.others.4
-    (λ q away. e.files q) (λ q. ap bytes_in (e.files (file_of setup.journal.now q))) (λ a not_peer not_local. e.guests a not_local) in
+    (λ q away. e.files q) (λ q. ap bytes_in (e.files (file_of setup.journal.now q))) still in
     let settles : SettlesDoor g.H.Host g.H.Entrance.Door g.H.Dialer.Link setup.peer.now c.in-Ok.peer c.open_door-2.new.self c.settle_door.new.self =
     record { left = s.left; guests = s.guests; faults = s.faults; reads = s.reads; writes = s.writes; counted = s.counted; files = s.files; names = s.others.0 } in
     fails_around g.H.Host setup c.args.host.now c.open_door.new.self c.open_door-2.new.self c.settle_door.new.self c.refused-in-Err-open_door.result
@@ -76,3 +78,4 @@ returns-in-Err-open_door-clause-fails g c =
     (λ q. ap bytes_in (p.files (file_of setup.journal.now q))) fails
     (settled_touches g.H.Host g.H.Entrance.Door g.H.Dialer.Link setup setup.peer.now c.in-Ok.peer c.open_door-2.new.self c.settle_door.new.self (λ a not_peer not_local. not_peer) settles)
     (λ q. ap bytes_in (s.files (file_of setup.journal.now q)))
+    (door_back g.H.Host g.H.Entrance.Door g.H.Dialer.Link setup.peer.now c.args.host.now c.open_door.new.self c.open_door-2.new.self c.settle_door.new.self c.in-Ok.peer at_peer still settles)

@@ -1,4 +1,4 @@
-use Rattle.std.proofs.Common.{◌≡◌, ◌∷◌, [], All, Contains, Err, subst}
+use Rattle.std.proofs.Common.{◌≡◌, ◌∷◌, [], All, Contains, Err, subst, ◌∙◌}
 use Rattle.std.proofs.lemmas.List.Elements.{All-head, All-tail}
 use Rattle.as4_disk.specs.declared.part.Part.{Part}
 use Rattle.as4_disk.specs.declared.part.Part.TheVariants.{Leaf0, Leaf1, Selector}
@@ -22,7 +22,7 @@ returns-in-Err-clause-fails g c =
     e.cause e.others.3 e.others.4 (λ p away. e.files p (other_path setup.journal.now c.args.journal p are away))
     (λ q. subst (λ path. bytes_in (g.H.Host.file c.open_disk.new.self path) ≡ bytes_in (g.H.Host.file c.args.host.now path)) (path_is setup.journal.now c.args.journal are q)
     (made_or_same g.row.H-Store.Denot c.in-Err.refusal (g.H.Host.file c.args.host.now (path_of c.args.journal q)) (g.H.Host.file c.open_disk.new.self (path_of c.args.journal q)) (e.made q)))
-    (λ a not_peer not_local. e.guests a)
+    e.guests
 
 -- src/opening.rt:107:13
 pub settle_disk-requires : goal.settle_disk-requires
@@ -73,6 +73,7 @@ returns-in-Err-open-clause-fails g c =
       touches = touches_then g.H.Host setup c.args.host.now c.open_disk.new.self c.settle_disk.new.self
           (store_touches g.H.Host setup g.H.Store.Disk c.args.host.now c.open_disk.new.self c.in-Ok.disk opens)
           (settled_store_touches g.H.Host setup g.H.Store.Disk c.open_disk.new.self c.settle_disk.new.self c.in-Err-open.disk settles);
+      guests = λ a. settles.guests a ∙ opens.guests a;
       store = leaves_unopened g.H.Host g.H.Store.Disk g.met.H.Store.Disk.reads_now g.met.H.Store.Disk.counts_now setup.journal.now c.args.host.now c.open_disk.new.self c.settle_disk.new.self
           c.in-Ok.disk c.in-Err-open.disk opens settles e.failed_moment e.failed_tells;
       cause = unopened_cause g.H.Host setup g.H.Store.Disk c.args.host.now c.open_disk.new.self c.settle_disk.new.self c.in-Ok.disk c.in-Err-open.disk c.in-Err-open.fault c.unopened.result

@@ -2,14 +2,15 @@ use Rattle.std.proofs.Common.{◌≡◌, ◌≤◌, false, All, is_some, IfSome,
 use Rattle.as4_disk.specs.Image.{Image}
 use Rattle.as4_disk.specs.declared.part.Part.{Part}
 use Rattle.as4_flow.specs.Flow.{Rose, Told}
+use Rattle.handler.specs.Announcing.{Announces}
 use Rattle.handler.specs.Crews.{IsCrew, IsHired}
 use Rattle.handler.specs.Dismissal.{gathering}
 use Rattle.handler.specs.Hosts.{doors_of, files_of}
-use Rattle.handler.specs.Working.{IsClosed, IsEndOfWork}
+use Rattle.handler.specs.Working.{IsClosed}
 use Rattle.handler.proofs.CrewLemmas.{prefix_then}
 use Rattle.handler.proofs.HostLemmas.{knows_same}
 use Rattle.handler.proofs.OpeningLemmas.{has_path, settles_store}
-use Rattle.handler.proofs.WorkLemmas.{are_ready, done_books, end_failed, end_is, end_served, folds_on, have_books, retired_prefix}
+use Rattle.handler.proofs.WorkLemmas.{are_ready, done_books, folds_on, have_books, retired_prefix}
 use Rattle.office.specs.Calls.{stop_of}
 use Rattle.office.specs.Left.{IsLeft}
 use Rattle.office.specs.State.{OfficeState}
@@ -31,7 +32,7 @@ dismiss-is_starved-requires-clause-books g c =
     let book = ap (λ p. p.book) c.requires.office.2.pass_is in
     let r = c.recruit-is_whole in
     let runs = c.run_if-office.ensures.runs in
-    done_books g.H.Entrance.Door g.H.Store.Disk c.run_if-office.new.pass.book c.args.opened.office c.run_if-office.result.0 r.new.pass c.run_if-office.new.pass r.new.crew.items c.run_if-office.new.crew.items c.run_if-office.result.1 runs
+    done_books g.H.Entrance.Door c.args.setup.keep g.H.Store.Disk c.run_if-office.new.pass.book c.args.opened.office c.run_if-office.result.0 r.new.pass c.run_if-office.new.pass r.new.crew.items c.run_if-office.new.crew.items c.run_if-office.result.1 runs
     (have_books c.run_if-office.new.pass.book c.args.setup.turns r.new.crew.items
     (subst (λ b. All (IsHired b c.args.setup.turns) r.new.crew.items) (book ∙ sym runs.pass_book) r.ensures.crew.hired))
 
@@ -71,6 +72,7 @@ returns-clause-works g c =
       done = c.run_if-office.new.crew.items;
       first = r.new.host;
       pass = c.run_if-office.new.pass;
+      how = how;
       last = gathering d.new.host d.new.pass d.result;
       calls = later.list;
       close = later.end;
@@ -78,22 +80,24 @@ returns-clause-works g c =
       hires = r.ensures.host;
       staffed = subst (λ b. IsCrew G b c.args.setup.turns (G.guests c.args.opened.doors.peer) (G.guests c.args.opened.doors.local) r.new.crew.items) book r.ensures.crew;
       many = r.ensures.many;
-      few = runs.few;
+      own = runs.own;
+      share = runs.share;
       stakes = omega (arith, runs.stake, r.ensures.pass.1, stake);
       retires = d.ensures.retire;
       seen = sh.begins;
       alone = sh.alone;
       closed = closed;
       settles = settles_store M c.args.setup S c.args.journal d.new.host c.settle_disk.new.self c.into_disk.result c.requires.paths s.kept s.faults s.counted s.files s.guests s.others.0 s.others.4 s.others.5;
-      served = λ is.
-          let both = end_served how d.result (sym c.end_of.ensures ∙ is) in
-          (runs.served both.0, r.ensures.whole (c.run_if-office.ensures.whole both.0), both.1);
+      worked = c.run_if-office.ensures.worked;
+      line = λ is. subst (λ h. Announces S c.args.opened.office c.run_if-office.new.pass.list h (g.E.Sink.taken c.args.errors.now) (g.E.Sink.taken c.run_if-office.new.errors)) c.requires.head (c.run_if-office.ensures.line is);
+      silent = c.run_if-office.ensures.silent;
+      served = λ is. (runs.served is, r.ensures.whole (c.run_if-office.ensures.whole is));
+      early = runs.early;
       compacted = λ is told can.
-          let both = end_served how d.result (sym c.end_of.ensures ∙ is) in
           folds_on c.run_if-office.new.pass.list later.list
           (prefix_then c.run_if-office.new.pass.list d.new.pass.list later.list
           (retired_prefix M G g.H.Dialer.Link c.args.setup c.run_if-office.new.crew.items (gathering r.new.host c.run_if-office.new.pass false) (gathering d.new.host d.new.pass d.result) d.ensures.retire) sh.begins)
-          (runs.compacted both.0 told can);
-      failed = λ is. subst (λ x. 1 ≤ S.fault_count x) (sym disk) (runs.failed (end_failed how d.result (sym c.end_of.ensures ∙ is)));
-      ends = subst IsEndOfWork (sym c.end_of.ensures) (end_is how d.result);
+          (runs.compacted is told can);
+      failed = λ is. subst (λ x. 1 ≤ S.fault_count x) (sym disk) (runs.failed is);
+      ends = c.end_of.ensures;
     }

@@ -1,0 +1,5 @@
+pub mod SpelledLemmas
+pub mod OnlyLemmas
+pub mod SignalLemmas
+pub mod SentLemmas
+pub mod AnswerLemmas

@@ -1,0 +1,5 @@
+mod RanLemmas
+mod VerdictLemmas
+mod HeadLemmas
+mod CutLemmas
+mod PlayLemmas

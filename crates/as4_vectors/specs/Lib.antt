@@ -1,0 +1,5 @@
+pub mod Ran
+pub mod Cases
+pub mod Exchanges
+pub mod Heads
+pub mod Plays

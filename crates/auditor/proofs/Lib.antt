@@ -1,0 +1,3 @@
+-- The lemmas of auditor.
+mod ReadingLemmas
+mod TextLemmas

@@ -1,0 +1,4 @@
+-- The specs of auditor.
+pub mod Auditing
+pub mod Ends
+pub mod Lines

@@ -1,0 +1,2 @@
+-- The specs of carrier.
+pub mod Carrying

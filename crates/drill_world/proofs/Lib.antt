@@ -1,0 +1,6 @@
+pub mod DiskLemmas
+pub mod EndpointLemmas
+pub mod NameLemmas
+pub mod OneTranscript
+pub mod StateLemmas
+pub mod WorldLemmas

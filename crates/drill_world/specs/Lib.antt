@@ -1,0 +1,6 @@
+-- The specs of drill_world.
+pub mod Disks
+pub mod Endpoints
+pub mod Events
+pub mod States
+pub mod Transcript

@@ -1,0 +1,4 @@
+-- The lemmas of relayer.
+mod HostLemmas
+mod LineLemmas
+mod RelayLemmas

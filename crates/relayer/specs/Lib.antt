@@ -1,0 +1,4 @@
+-- The specs of relayer.
+pub mod Ends
+pub mod Relaying
+pub mod Running
