@@ -1,5 +1,5 @@
 -- The status at a drill's end, and its cause.
-use Rattle.std.proofs.Common.{◌≡◌, ◌≢◌, ◌≤◌, ℕ, List, Option, None, refl, arith}
+use Rattle.std.proofs.Common.{◌≡◌, ◌≢◌, ◌≤◌, ℕ, List, Option, None, false, refl, arith}
 use Rattle.as4_flow.specs.Flow.{Streams}
 use Rattle.drill.specs.Ends.{CountsAt}
 use Rattle.drill.specs.Generated.{GeneratedAt}
@@ -67,7 +67,7 @@ generated_silent seed count ends.NoMemory streams drilled done fault = drilled
 -- a run of a script
 pub played : (end : DrillEnd) (streams : Streams) → DrillEnds end streams
     → (streams.read_faults ≤ streams.later_read_faults) × (streams.write_faults ≤ streams.later_write_faults)
-    → RunsOver drill (status_of end) streams
+    → RunsOver (drill false) (status_of end) streams
 played end streams drilled counted = record {
   ends = (end, refl, drilled);
   read_faults = reads end streams drilled.5;

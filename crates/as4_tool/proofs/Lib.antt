@@ -5,3 +5,4 @@ pub mod DrillLemmas
 pub mod SubmitLemmas
 pub mod TaskLemmas
 pub mod TellLemmas
+mod SuiteLemmas

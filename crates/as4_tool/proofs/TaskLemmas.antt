@@ -4,7 +4,7 @@ use Rattle.std.proofs.lemmas.List.{map-append, take_more}
 use Rattle.std.proofs.lemmas.List.Elements.{All-more}
 use Rattle.std.specs.List.{All}
 use Rattle.std.specs.Str.{IsUtf8}
-use Rattle.std.specs.Prelude.{Result, Ok, Err, MatchResult, IfOk, true}
+use Rattle.std.specs.Prelude.{Result, Ok, Err, MatchResult, IfOk, Bool, false, true}
 use Rattle.std.specs.Fmt.{decimal}
 use Rattle.std.specs.Str.Parse.{digits_value}
 use Rattle.std.proofs.lemmas.Fmt.{decimal_is_IsNumeral_wide}
@@ -20,162 +20,80 @@ use Rattle.as4_tool.proofs.ClapLemmas.{alone, as4_is_simple, as4_is_simple_and_f
 use Rattle.as4_tool.specs.Words.{Names, as4}
 use Rattle.as4_tool.specs.declared.command.WordsRefusal.{WordsRefusal}
 use Rattle.as4_tool.specs.declared.command.WordsRefusal.TheVariants as refusal
-use Rattle.as4_tool.specs.Command.{Asks, Gives, IsKeep, IsTurns, IsWithin, IsWorkers, Spells, Task, answer, audit, check, collect, drill, generate, handler, help, name_of, relay, submit, task_of, version}
+use Rattle.as4_tool.specs.Command.{Asks, Gives, IsFlag, IsKeep, IsTurns, IsWithin, IsWorkers, Spells, Task, answer, audit, check, collect, drill, generate, handler, help, lists, name_of, relay, submit, suite, task_of, verifies, version}
 use Rattle.as4_tool.specs.declared.command.Command.{Command}
+use Rattle.as4_tool.specs.declared.command.Suite.{Suite}
+use Rattle.as4_tool.specs.declared.command.Suite.TheVariants as what
 
--- texts with different first bytes differ
-differ : (one other : List ℕ) → get_or one 0 0 ≢ get_or other 0 0 → one ≡ other → ⊥
-differ one other first same = first (ap (λ (t : List ℕ). get_or t 0 0) same)
-
+-- the tasks of each name
 pub only_answer : (rows : List Row) (P : Task → Type 0)
     → ((stamp nonce : ℕ) → Gives rows (answer stamp nonce) → P (answer stamp nonce))
     → (task : Task) → name_of task ≡ codes "answer" → Gives rows task → P task
-only_answer rows P one help named gives = absurd gives
-only_answer rows P one version named gives = absurd gives
 only_answer rows P one (answer stamp nonce) named gives = one stamp nonce gives
-only_answer rows P one check named gives = absurd (differ (codes "check") (codes "answer") (λ same. omega (arith, same)) named)
-only_answer rows P one drill named gives = absurd (differ (codes "drill") (codes "answer") (λ same. omega (arith, same)) named)
-only_answer rows P one (generate seed count) named gives = absurd (differ (codes "drill") (codes "answer") (λ same. omega (arith, same)) named)
-only_answer rows P one (handler modes journal peer local workers turns keep) named gives = absurd (differ (codes "handler") (codes "answer") (λ same. omega (arith, same)) named)
-only_answer rows P one (submit local mode conversation media) named gives = absurd (differ (codes "submit") (codes "answer") (λ same. omega (arith, same)) named)
-only_answer rows P one (collect local first count folder) named gives = absurd (differ (codes "collect") (codes "answer") (λ same. omega (arith, same)) named)
-only_answer rows P one (audit modes journal) named gives = cc named
-only_answer rows P one (relay modes journal mode count) named gives = absurd (differ (codes "relay") (codes "answer") (λ same. omega (arith, same)) named)
+only_answer rows P one other named gives = cc named
 
 pub only_check : (rows : List Row) (P : Task → Type 0)
     → (Gives rows check → P check)
     → (task : Task) → name_of task ≡ codes "check" → Gives rows task → P task
-only_check rows P one help named gives = absurd gives
-only_check rows P one version named gives = absurd gives
-only_check rows P one (answer stamp nonce) named gives = absurd (differ (codes "answer") (codes "check") (λ same. omega (arith, same)) named)
 only_check rows P one check named gives = one gives
-only_check rows P one drill named gives = absurd (differ (codes "drill") (codes "check") (λ same. omega (arith, same)) named)
-only_check rows P one (generate seed count) named gives = absurd (differ (codes "drill") (codes "check") (λ same. omega (arith, same)) named)
-only_check rows P one (handler modes journal peer local workers turns keep) named gives = absurd (differ (codes "handler") (codes "check") (λ same. omega (arith, same)) named)
-only_check rows P one (submit local mode conversation media) named gives = absurd (differ (codes "submit") (codes "check") (λ same. omega (arith, same)) named)
-only_check rows P one (collect local first count folder) named gives = cc named
-only_check rows P one (audit modes journal) named gives = absurd (differ (codes "audit") (codes "check") (λ same. omega (arith, same)) named)
-only_check rows P one (relay modes journal mode count) named gives = absurd (differ (codes "relay") (codes "check") (λ same. omega (arith, same)) named)
+only_check rows P one other named gives = cc named
 
 pub only_drill : (rows : List Row) (P : Task → Type 0)
-    → (Gives rows drill → P drill)
+    → ((draws : Bool) → Gives rows (drill draws) → P (drill draws))
     → ((seed count : ℕ) → Gives rows (generate seed count) → P (generate seed count))
     → (task : Task) → name_of task ≡ codes "drill" → Gives rows task → P task
-only_drill rows P one other help named gives = absurd gives
-only_drill rows P one other version named gives = absurd gives
-only_drill rows P one other (answer stamp nonce) named gives = absurd (differ (codes "answer") (codes "drill") (λ same. omega (arith, same)) named)
-only_drill rows P one other check named gives = absurd (differ (codes "check") (codes "drill") (λ same. omega (arith, same)) named)
-only_drill rows P one other drill named gives = one gives
-only_drill rows P one other (generate seed count) named gives = other seed count gives
-only_drill rows P one other (handler modes journal peer local workers turns keep) named gives = absurd (differ (codes "handler") (codes "drill") (λ same. omega (arith, same)) named)
-only_drill rows P one other (submit local mode conversation media) named gives = absurd (differ (codes "submit") (codes "drill") (λ same. omega (arith, same)) named)
-only_drill rows P one other (collect local first count folder) named gives = absurd (differ (codes "collect") (codes "drill") (λ same. omega (arith, same)) named)
-only_drill rows P one other (audit modes journal) named gives = absurd (differ (codes "audit") (codes "drill") (λ same. omega (arith, same)) named)
-only_drill rows P one other (relay modes journal mode count) named gives = absurd (differ (codes "relay") (codes "drill") (λ same. omega (arith, same)) named)
+only_drill rows P one two (drill draws) named gives = one draws gives
+only_drill rows P one two (generate seed count) named gives = two seed count gives
+only_drill rows P one two other named gives = cc named
 
 pub only_handler : (rows : List Row) (P : Task → Type 0)
     → ((modes journal peer local : List ℕ) (workers turns keep : ℕ) → Gives rows (handler modes journal peer local workers turns keep) → P (handler modes journal peer local workers turns keep))
     → (task : Task) → name_of task ≡ codes "handler" → Gives rows task → P task
-only_handler rows P one help named gives = absurd gives
-only_handler rows P one version named gives = absurd gives
-only_handler rows P one (answer stamp nonce) named gives = absurd (differ (codes "answer") (codes "handler") (λ same. omega (arith, same)) named)
-only_handler rows P one check named gives = absurd (differ (codes "check") (codes "handler") (λ same. omega (arith, same)) named)
-only_handler rows P one drill named gives = absurd (differ (codes "drill") (codes "handler") (λ same. omega (arith, same)) named)
-only_handler rows P one (generate seed count) named gives = absurd (differ (codes "drill") (codes "handler") (λ same. omega (arith, same)) named)
 only_handler rows P one (handler modes journal peer local workers turns keep) named gives = one modes journal peer local workers turns keep gives
-only_handler rows P one (submit local mode conversation media) named gives = absurd (differ (codes "submit") (codes "handler") (λ same. omega (arith, same)) named)
-only_handler rows P one (collect local first count folder) named gives = absurd (differ (codes "collect") (codes "handler") (λ same. omega (arith, same)) named)
-only_handler rows P one (audit modes journal) named gives = absurd (differ (codes "audit") (codes "handler") (λ same. omega (arith, same)) named)
-only_handler rows P one (relay modes journal mode count) named gives = absurd (differ (codes "relay") (codes "handler") (λ same. omega (arith, same)) named)
+only_handler rows P one other named gives = cc named
 
 pub only_submit : (rows : List Row) (P : Task → Type 0)
     → ((local mode conversation media : List ℕ) → Gives rows (submit local mode conversation media) → P (submit local mode conversation media))
     → (task : Task) → name_of task ≡ codes "submit" → Gives rows task → P task
-only_submit rows P one help named gives = absurd gives
-only_submit rows P one version named gives = absurd gives
-only_submit rows P one (answer stamp nonce) named gives = absurd (differ (codes "answer") (codes "submit") (λ same. omega (arith, same)) named)
-only_submit rows P one check named gives = absurd (differ (codes "check") (codes "submit") (λ same. omega (arith, same)) named)
-only_submit rows P one drill named gives = absurd (differ (codes "drill") (codes "submit") (λ same. omega (arith, same)) named)
-only_submit rows P one (generate seed count) named gives = absurd (differ (codes "drill") (codes "submit") (λ same. omega (arith, same)) named)
-only_submit rows P one (handler modes journal peer local workers turns keep) named gives = absurd (differ (codes "handler") (codes "submit") (λ same. omega (arith, same)) named)
 only_submit rows P one (submit local mode conversation media) named gives = one local mode conversation media gives
-only_submit rows P one (collect local first count folder) named gives = absurd (differ (codes "collect") (codes "submit") (λ same. omega (arith, same)) named)
-only_submit rows P one (audit modes journal) named gives = absurd (differ (codes "audit") (codes "submit") (λ same. omega (arith, same)) named)
-only_submit rows P one (relay modes journal mode count) named gives = absurd (differ (codes "relay") (codes "submit") (λ same. omega (arith, same)) named)
+only_submit rows P one other named gives = cc named
 
 pub only_collect : (rows : List Row) (P : Task → Type 0)
     → ((local : List ℕ) (first count : ℕ) (folder : List ℕ) → Gives rows (collect local first count folder) → P (collect local first count folder))
     → (task : Task) → name_of task ≡ codes "collect" → Gives rows task → P task
-only_collect rows P one help named gives = absurd gives
-only_collect rows P one version named gives = absurd gives
-only_collect rows P one (answer stamp nonce) named gives = absurd (differ (codes "answer") (codes "collect") (λ same. omega (arith, same)) named)
-only_collect rows P one check named gives = cc named
-only_collect rows P one drill named gives = absurd (differ (codes "drill") (codes "collect") (λ same. omega (arith, same)) named)
-only_collect rows P one (generate seed count) named gives = absurd (differ (codes "drill") (codes "collect") (λ same. omega (arith, same)) named)
-only_collect rows P one (handler modes journal peer local workers turns keep) named gives = absurd (differ (codes "handler") (codes "collect") (λ same. omega (arith, same)) named)
-only_collect rows P one (submit local mode conversation media) named gives = absurd (differ (codes "submit") (codes "collect") (λ same. omega (arith, same)) named)
 only_collect rows P one (collect local first count folder) named gives = one local first count folder gives
-only_collect rows P one (audit modes journal) named gives = absurd (differ (codes "audit") (codes "collect") (λ same. omega (arith, same)) named)
-only_collect rows P one (relay modes journal mode count) named gives = absurd (differ (codes "relay") (codes "collect") (λ same. omega (arith, same)) named)
+only_collect rows P one other named gives = cc named
 
 pub only_audit : (rows : List Row) (P : Task → Type 0)
-    → ((modes journal : List ℕ) → Gives rows (audit modes journal) → P (audit modes journal))
+    → ((modes journal : List ℕ) (draws : Bool) → Gives rows (audit modes journal draws) → P (audit modes journal draws))
     → (task : Task) → name_of task ≡ codes "audit" → Gives rows task → P task
-only_audit rows P one help named gives = absurd gives
-only_audit rows P one version named gives = absurd gives
-only_audit rows P one (answer stamp nonce) named gives = cc named
-only_audit rows P one check named gives = absurd (differ (codes "check") (codes "audit") (λ same. omega (arith, same)) named)
-only_audit rows P one drill named gives = absurd (differ (codes "drill") (codes "audit") (λ same. omega (arith, same)) named)
-only_audit rows P one (generate seed count) named gives = absurd (differ (codes "drill") (codes "audit") (λ same. omega (arith, same)) named)
-only_audit rows P one (handler modes journal peer local workers turns keep) named gives = absurd (differ (codes "handler") (codes "audit") (λ same. omega (arith, same)) named)
-only_audit rows P one (submit local mode conversation media) named gives = absurd (differ (codes "submit") (codes "audit") (λ same. omega (arith, same)) named)
-only_audit rows P one (collect local first count folder) named gives = absurd (differ (codes "collect") (codes "audit") (λ same. omega (arith, same)) named)
-only_audit rows P one (audit modes journal) named gives = one modes journal gives
-only_audit rows P one (relay modes journal mode count) named gives = absurd (differ (codes "relay") (codes "audit") (λ same. omega (arith, same)) named)
+only_audit rows P one (audit modes journal draws) named gives = one modes journal draws gives
+only_audit rows P one other named gives = cc named
 
 pub only_relay : (rows : List Row) (P : Task → Type 0)
     → ((modes journal mode : List ℕ) (count : ℕ) → Gives rows (relay modes journal mode count) → P (relay modes journal mode count))
     → (task : Task) → name_of task ≡ codes "relay" → Gives rows task → P task
-only_relay rows P one help named gives = absurd gives
-only_relay rows P one version named gives = absurd gives
-only_relay rows P one (answer stamp nonce) named gives = absurd (differ (codes "answer") (codes "relay") (λ same. omega (arith, same)) named)
-only_relay rows P one check named gives = absurd (differ (codes "check") (codes "relay") (λ same. omega (arith, same)) named)
-only_relay rows P one drill named gives = absurd (differ (codes "drill") (codes "relay") (λ same. omega (arith, same)) named)
-only_relay rows P one (generate seed count) named gives = absurd (differ (codes "drill") (codes "relay") (λ same. omega (arith, same)) named)
-only_relay rows P one (handler modes journal peer local workers turns keep) named gives = absurd (differ (codes "handler") (codes "relay") (λ same. omega (arith, same)) named)
-only_relay rows P one (submit local mode conversation media) named gives = absurd (differ (codes "submit") (codes "relay") (λ same. omega (arith, same)) named)
-only_relay rows P one (collect local first count folder) named gives = absurd (differ (codes "collect") (codes "relay") (λ same. omega (arith, same)) named)
-only_relay rows P one (audit modes journal) named gives = absurd (differ (codes "audit") (codes "relay") (λ same. omega (arith, same)) named)
 only_relay rows P one (relay modes journal mode count) named gives = one modes journal mode count gives
+only_relay rows P one other named gives = cc named
+
+pub only_suite : (rows : List Row) (P : Task → Type 0)
+    → ((what : Suite) → Gives rows (suite what) → P (suite what))
+    → (task : Task) → name_of task ≡ codes "suite" → Gives rows task → P task
+only_suite rows P one (suite what) named gives = one what gives
+only_suite rows P one other named gives = cc named
 
 -- words of a command, with its values, spell its task
 pub spelled : (words : List (List ℕ)) (task : Task) (rows : List Row) → Names words (name_of task) rows → Gives rows task → Spells words task
 spelled words help rows named gives = absurd gives
 spelled words version rows named gives = absurd gives
-spelled words (answer stamp nonce) rows named gives = (rows, named, gives)
-spelled words check rows named gives = (rows, named, gives)
-spelled words drill rows named gives = (rows, named, gives)
-spelled words (generate seed count) rows named gives = (rows, named, gives)
-spelled words (handler modes journal peer local workers turns keep) rows named gives = (rows, named, gives)
-spelled words (submit local mode conversation media) rows named gives = (rows, named, gives)
-spelled words (collect local first count folder) rows named gives = (rows, named, gives)
-spelled words (audit modes journal) rows named gives = (rows, named, gives)
-spelled words (relay modes journal mode count) rows named gives = (rows, named, gives)
+spelled words other rows named gives = (rows, named, gives)
 
 -- and only they do, if `clap` has no error
-pub unspelled : (words : List (List ℕ)) (task : Task) → fault_of as4 words ≡ [] → Spells words task
-    → (rows : List Row) × (subcommand_of as4 words ≡ Some (name_of task, rows)) × Gives rows task
-unspelled words help right spells = cc (right, spells)
-unspelled words version right spells = cc (right, spells)
-unspelled words (answer stamp nonce) right spells = (spells.0, spells.1.named, spells.2)
-unspelled words check right spells = (spells.0, spells.1.named, spells.2)
-unspelled words drill right spells = (spells.0, spells.1.named, spells.2)
-unspelled words (generate seed count) right spells = (spells.0, spells.1.named, spells.2)
-unspelled words (handler modes journal peer local workers turns keep) right spells = (spells.0, spells.1.named, spells.2)
-unspelled words (submit local mode conversation media) right spells = (spells.0, spells.1.named, spells.2)
-unspelled words (collect local first count folder) right spells = (spells.0, spells.1.named, spells.2)
-unspelled words (audit modes journal) right spells = (spells.0, spells.1.named, spells.2)
-unspelled words (relay modes journal mode count) right spells = (spells.0, spells.1.named, spells.2)
+reads_of : (words : List (List ℕ)) (task : Task) → fault_of as4 words ≡ [] → Spells words task
+    → (rows : List Row) × Names words (name_of task) rows × Gives rows task
+reads_of words help right spells = cc (right, spells)
+reads_of words version right spells = cc (right, spells)
+reads_of words other right spells = spells
 
 -- the matches that `clap` has at a command's words
 pub right_task : (words : List (List ℕ)) (app : App) (m : ArgMatches) (task : Task) → app ≡ as4
@@ -195,8 +113,8 @@ only_task words app m r is kinds matches only task spells =
     let right : fault_of as4 words ≡ [] =
     subst (λ (a : App). is_simple_and_free a ≡ true → fault_of a words ≡ []) is kinds as4_is_simple_and_free in
     let same : subcommand_rows_of m ≡ subcommand_of as4 words = (subst (λ (a : App). HasMatchesOf a words m) is matches as4_is_simple).1 in
-    let found = unspelled words task right spells in
-    only task found.0 (same ∙ found.1) found.2
+    let found = reads_of words task right spells in
+    only task found.0 (same ∙ found.1.named) found.2
 
 -- what `clap` asks for by an error
 pub asked_task : (words : List (List ℕ)) (app : App) (k : ErrorKind) (r : Result Command WordsRefusal) → app ≡ as4
@@ -246,15 +164,7 @@ only_asked words app k r is kinds only memory task spells =
     go : (task : Task) → (k ≡ kind.OutOfMemory) ⊎ IsAmong k (fault_of as4 words) → Spells words task → Wants task
     go help has spells = one help kind.DisplayHelp (λ same. inl (refl, same)) has spells
     go version has spells = one version kind.DisplayVersion (λ same. inr (refl, same)) has spells
-    go (answer stamp nonce) has spells = right (answer stamp nonce) has spells.1.right
-    go check has spells = right check has spells.1.right
-    go drill has spells = right drill has spells.1.right
-    go (generate seed count) has spells = right (generate seed count) has spells.1.right
-    go (handler modes journal peer local workers turns keep) has spells = right (handler modes journal peer local workers turns keep) has spells.1.right
-    go (submit local mode conversation media) has spells = right (submit local mode conversation media) has spells.1.right
-    go (collect local first count folder) has spells = right (collect local first count folder) has spells.1.right
-    go (audit modes journal) has spells = right (audit modes journal) has spells.1.right
-    go (relay modes journal mode count) has spells = right (relay modes journal mode count) has spells.1.right
+    go other has spells = right other has spells.1.right
 
 -- one text more, that of the next word
 pub texts_more : (words : List (List ℕ)) (texts later : List (Bor (List ℕ))) (i : ℕ) (word : List ℕ) (text : Bor (List ℕ))
@@ -282,18 +192,12 @@ keep_within (Some text) n is = (is.1, is.2)
 
 -- the numbers of a task that is spelled are within their bounds
 pub spelled_within : (words : List (List ℕ)) (task : Task) → Spells words task → IsWithin task
-spelled_within words help spells = tt
-spelled_within words version spells = tt
 spelled_within words (answer stamp nonce) spells = spells.2.2
-spelled_within words check spells = tt
-spelled_within words drill spells = tt
 spelled_within words (generate seed count) spells = spells.2.2
 spelled_within words (handler modes journal peer local workers turns keep) spells =
     (workers_within (first_of (codes "workers") spells.0) workers spells.2.3, keep_within (first_of (codes "keep") spells.0) keep spells.2.5)
-spelled_within words (submit local mode conversation media) spells = tt
 spelled_within words (collect local first count folder) spells = (spells.2.1.1, spells.2.2.1)
-spelled_within words (audit modes journal) spells = tt
-spelled_within words (relay modes journal mode count) spells = tt
+spelled_within words other spells = tt
 
 -- a number of 128 bits has at most 64 digits
 short : (n : ℕ) → n < 2 ^ 128 → n < 10 ^ 64
@@ -336,45 +240,32 @@ same_name words a b rows others first second =
     let pairs : (b, others) ≡ (a, rows) = ap (λ (q : Option (List ℕ × List Row)). unwrap_or q (b, others)) (sym second.named ∙ first.named) in
     (ap (λ (q : List ℕ × List Row). q.0) pairs, ap (λ (q : List ℕ × List Row). q.1) pairs)
 
--- words that `clap` takes spell their task by the name and the values of its command
-reads_of : (words : List (List ℕ)) (task : Task) → fault_of as4 words ≡ [] → Spells words task
-    → (rows : List Row) × Names words (name_of task) rows × Gives rows task
-reads_of words help right spells = cc (right, spells)
-reads_of words version right spells = cc (right, spells)
-reads_of words (answer stamp nonce) right spells = spells
-reads_of words check right spells = spells
-reads_of words drill right spells = spells
-reads_of words (generate seed count) right spells = spells
-reads_of words (handler modes journal peer local workers turns keep) right spells = spells
-reads_of words (submit local mode conversation media) right spells = spells
-reads_of words (collect local first count folder) right spells = spells
-reads_of words (audit modes journal) right spells = spells
-reads_of words (relay modes journal mode count) right spells = spells
+-- a flag is given or not
+flag_once : (rows : List Row) (name : List ℕ) (one other : Bool) → IsFlag rows name one → IsFlag rows name other → one ≡ other
+flag_once rows name true true first second = refl
+flag_once rows name false false first second = refl
+flag_once rows name true false first second = cc (first, second)
+flag_once rows name false true first second = cc (first, second)
+
+suite_once : (one other : Suite) → verifies one ≡ verifies other → lists one ≡ lists other → one ≡ other
+suite_once what.Check what.Check verify list = refl
+suite_once what.Verify what.Verify verify list = refl
+suite_once what.List what.List verify list = refl
+suite_once what.Check what.Verify verify list = cc verify
+suite_once what.Check what.List verify list = cc list
+suite_once what.Verify what.Check verify list = cc verify
+suite_once what.Verify what.List verify list = cc verify
+suite_once what.List what.Check verify list = cc list
+suite_once what.List what.Verify verify list = cc verify
 
 -- words spell at most one task
 pub spells_once : (words : List (List ℕ)) (one other : Task) → Spells words one → Spells words other → one ≡ other
 spells_once words help help first second = refl
 spells_once words help version first second = cc (first, second)
-spells_once words help (answer stamp nonce) first second = cc (first, second.1.right)
-spells_once words help check first second = cc (first, second.1.right)
-spells_once words help drill first second = cc (first, second.1.right)
-spells_once words help (generate seed count) first second = cc (first, second.1.right)
-spells_once words help (handler modes journal peer local workers turns keep) first second = cc (first, second.1.right)
-spells_once words help (submit local mode conversation media) first second = cc (first, second.1.right)
-spells_once words help (collect local start count folder) first second = cc (first, second.1.right)
-spells_once words help (audit modes journal) first second = cc (first, second.1.right)
-spells_once words help (relay modes journal mode count) first second = cc (first, second.1.right)
+spells_once words help other first second = cc (first, second.1.right)
 spells_once words version help first second = cc (first, second)
 spells_once words version version first second = refl
-spells_once words version (answer stamp nonce) first second = cc (first, second.1.right)
-spells_once words version check first second = cc (first, second.1.right)
-spells_once words version drill first second = cc (first, second.1.right)
-spells_once words version (generate seed count) first second = cc (first, second.1.right)
-spells_once words version (handler modes journal peer local workers turns keep) first second = cc (first, second.1.right)
-spells_once words version (submit local mode conversation media) first second = cc (first, second.1.right)
-spells_once words version (collect local start count folder) first second = cc (first, second.1.right)
-spells_once words version (audit modes journal) first second = cc (first, second.1.right)
-spells_once words version (relay modes journal mode count) first second = cc (first, second.1.right)
+spells_once words version other first second = cc (first, second.1.right)
 spells_once words (answer stamp nonce) other first second =
     let reads = reads_of words other first.1.right second in
     let same = same_name words (codes "answer") (name_of other) first.0 reads.0 first.1 reads.1 in
@@ -390,20 +281,20 @@ spells_once words check other first second =
     only_check first.0 (λ t. check ≡ t)
     (λ gives. refl)
     other same.0 (subst (λ (rows : List Row). Gives rows other) same.1 reads.2)
-spells_once words drill other first second =
+spells_once words (drill draws) other first second =
     let reads = reads_of words other first.1.right second in
     let same = same_name words (codes "drill") (name_of other) first.0 reads.0 first.1 reads.1 in
-    only_drill first.0 (λ t. drill ≡ t)
-    (λ gives. refl)
-    (λ seed2 count2 gives. cc (first.2, gives.0))
+    only_drill first.0 (λ t. drill draws ≡ t)
+    (λ draws2 gives. ap drill (flag_once first.0 (codes "draw") draws draws2 first.2.1 gives.1))
+    (λ seed2 count2 gives. cc (first.2.0, gives.0.0))
     other same.0 (subst (λ (rows : List Row). Gives rows other) same.1 reads.2)
 spells_once words (generate seed count) other first second =
     let reads = reads_of words other first.1.right second in
     let same = same_name words (codes "drill") (name_of other) first.0 reads.0 first.1 reads.1 in
     only_drill first.0 (λ t. generate seed count ≡ t)
-    (λ gives. cc (first.2.0, gives))
+    (λ draws2 gives. cc (first.2.0, gives.0))
     (λ seed2 count2 gives.
-    let both = two_once (all_of (codes "generate") first.0) (decimal seed) (decimal count) (decimal seed2) (decimal count2) first.2.0 gives.0 in
+    let both = two_once (all_of (codes "generate") first.0) (decimal seed) (decimal count) (decimal seed2) (decimal count2) first.2.0.0 gives.0.0 in
     let seeds : seed ≡ seed2 = decimal_once seed seed2 (omega (arith, first.2.1)) (omega (arith, gives.1)) both.0 in
     let counts : count ≡ count2 = decimal_once count count2 (omega (arith, first.2.2)) (omega (arith, gives.2)) both.1 in
     cc (seeds, counts))
@@ -444,14 +335,15 @@ spells_once words (collect local first count folder) other spells second =
     let folder_same = text_once (first_of (codes "FOLDER") spells.0) folder folder2 spells.2.3 gives.3 in
     cc (local_same, first_same, count_same, folder_same))
     other same.0 (subst (λ (rows : List Row). Gives rows other) same.1 reads.2)
-spells_once words (audit modes journal) other spells second =
+spells_once words (audit modes journal draws) other spells second =
     let reads = reads_of words other spells.1.right second in
     let same = same_name words (codes "audit") (name_of other) spells.0 reads.0 spells.1 reads.1 in
-    only_audit spells.0 (λ t. audit modes journal ≡ t)
-    (λ modes2 journal2 gives.
-    let modes_same = text_once (first_of (codes "MODES") spells.0) modes modes2 spells.2.0 gives.0 in
-    let journal_same = text_once (first_of (codes "JOURNAL") spells.0) journal journal2 spells.2.1 gives.1 in
-    cc (modes_same, journal_same))
+    only_audit spells.0 (λ t. audit modes journal draws ≡ t)
+    (λ modes2 journal2 draws2 gives.
+    let modes_same = text_once (first_of (codes "MODES") spells.0) modes modes2 spells.2.0.0 gives.0.0 in
+    let journal_same = text_once (first_of (codes "JOURNAL") spells.0) journal journal2 spells.2.0.1 gives.0.1 in
+    let draws_same = flag_once spells.0 (codes "draw") draws draws2 spells.2.1 gives.1 in
+    cc (modes_same, journal_same, draws_same))
     other same.0 (subst (λ (rows : List Row). Gives rows other) same.1 reads.2)
 spells_once words (relay modes journal mode count) other spells second =
     let reads = reads_of words other spells.1.right second in
@@ -463,6 +355,14 @@ spells_once words (relay modes journal mode count) other spells second =
     let mode_same = text_once (first_of (codes "MODE") spells.0) mode mode2 spells.2.1.0 gives.1.0 in
     let count_same = number_once (first_of (codes "COUNT") spells.0) count count2 spells.2.2.0 gives.2.0 (omega (arith, spells.2.2.1)) (omega (arith, gives.2.1)) in
     cc (modes_same, journal_same, mode_same, count_same))
+    other same.0 (subst (λ (rows : List Row). Gives rows other) same.1 reads.2)
+spells_once words (suite what) other spells second =
+    let reads = reads_of words other spells.1.right second in
+    let same = same_name words (codes "suite") (name_of other) spells.0 reads.0 spells.1 reads.1 in
+    only_suite spells.0 (λ t. suite what ≡ t)
+    (λ what2 gives. ap suite (suite_once what what2
+    (flag_once spells.0 (codes "verify") (verifies what) (verifies what2) spells.2.0 gives.0)
+    (flag_once spells.0 (codes "list") (lists what) (lists what2) spells.2.1 gives.1)))
     other same.0 (subst (λ (rows : List Row). Gives rows other) same.1 reads.2)
 
 -- the one word for the help, and that for the version

@@ -1,5 +1,5 @@
 -- The commands of the program, and the words that spell them: its own choice.
-use Rattle.std.specs.Prelude.{◌≡◌, ℕ, ◌^◌, ◌<◌, ◌≤◌, ◌⊎◌, List, [], ◌∷◌, All, IsTrue, Option, None, Some, codes, decimal, length}
+use Rattle.std.specs.Prelude.{◌≡◌, ℕ, ◌^◌, ◌<◌, ◌≤◌, ◌⊎◌, List, [], ◌∷◌, All, Bool, false, true, if◌then◌else◌, IsTrue, Option, None, Some, codes, decimal, length}
 use Rattle.std.specs.Str.{IsUtf8}
 use Rattle.clap.specs.Walk.{Row, first_of, all_of}
 use Rattle.clap.specs.Faults.{fault_of}
@@ -12,6 +12,8 @@ use Rattle.as4_http.specs.Written.{target}
 use Rattle.as4_tool.specs.Words.{Names, as4}
 use Rattle.as4_tool.specs.declared.command.Command.{Command}
 use Rattle.as4_tool.specs.declared.command.Command.TheVariants as command
+use Rattle.as4_tool.specs.declared.command.Suite.{Suite}
+use Rattle.as4_tool.specs.declared.command.Suite.TheVariants as what
 
 -- what the program is asked to do
 pub data Task : Type 0 where
@@ -19,13 +21,14 @@ pub data Task : Type 0 where
   version : Task
   answer : ℕ → ℕ → Task
   check : Task
-  drill : Task
+  drill : Bool → Task
   generate : ℕ → ℕ → Task
   handler : List ℕ → List ℕ → List ℕ → List ℕ → ℕ → ℕ → ℕ → Task
   submit : List ℕ → List ℕ → List ℕ → List ℕ → Task
   collect : List ℕ → ℕ → ℕ → List ℕ → Task
-  audit : List ℕ → List ℕ → Task
+  audit : List ℕ → List ℕ → Bool → Task
   relay : List ℕ → List ℕ → List ℕ → ℕ → Task
+  suite : Suite → Task
 
 -- a command, whose texts are borrowed, as a task
 abbrev pub task_of : Command → Task
@@ -33,13 +36,14 @@ task_of command.Help = help
 task_of command.Version = version
 task_of (command.Answer stamp nonce) = answer stamp nonce
 task_of command.Check = check
-task_of command.Drill = drill
+task_of (command.Drill draws) = drill draws
 task_of (command.Generate seed count) = generate seed count
 task_of (command.Handler s) = handler s.modes.now s.journal.now s.peer.now s.local.now s.workers s.turns s.keep
 task_of (command.Submit s) = submit s.local.now s.mode.now s.conversation.now s.media.now
 task_of (command.Collect c) = collect c.local.now c.first c.count c.folder.now
-task_of (command.Audit j) = audit j.modes.now j.journal.now
+task_of (command.Audit j draws) = audit j.modes.now j.journal.now draws
 task_of (command.Relay r) = relay r.from.modes.now r.from.journal.now r.mode.now r.count
+task_of (command.Suite what) = suite what
 
 -- an address of a service: its target is `/`
 abbrev pub IsService : List ℕ → Type 0
@@ -72,6 +76,19 @@ IsKeep (Some text) n = (text ≡ decimal n) × (1 ≤ n) × (n ≤ 1000)
 abbrev pub Has : List Row → List ℕ → List ℕ → Type 0
 Has rows name text = first_of name rows ≡ Some text
 
+-- the flag of this name is given or not
+abbrev pub IsFlag : List Row → List ℕ → Bool → Type 0
+IsFlag rows name given = Has rows name (if given then codes "true" else codes "false")
+
+-- the flags of a suite
+abbrev pub verifies : Suite → Bool
+verifies what.Verify = true
+verifies other = false
+
+abbrev pub lists : Suite → Bool
+lists what.List = true
+lists other = false
+
 -- these values are those of a task
 abbrev pub Gives : List Row → Task → Type 0
 Gives rows help = ⊥
@@ -79,9 +96,10 @@ Gives rows version = ⊥
 Gives rows (answer stamp nonce) =
     Has rows (codes "STAMP") (decimal stamp) × Has rows (codes "NONCE") (decimal nonce) × (stamp ≤ MAX_MOMENT) × (nonce < 2 ^ 128)
 Gives rows check = Unit {0}
-Gives rows drill = all_of (codes "generate") rows ≡ None
+Gives rows (drill draws) = (all_of (codes "generate") rows ≡ None) × IsFlag rows (codes "draw") draws
 Gives rows (generate seed count) =
-    (all_of (codes "generate") rows ≡ Some (decimal seed ∷ decimal count ∷ [])) × (seed < 2 ^ 64) × (count ≤ 1000)
+    ((all_of (codes "generate") rows ≡ Some (decimal seed ∷ decimal count ∷ [])) × IsFlag rows (codes "draw") false)
+    × (seed < 2 ^ 64) × (count ≤ 1000)
 Gives rows (handler modes journal peer local workers turns keep) =
     (Has rows (codes "MODES") modes × Has rows (codes "JOURNAL") journal)
     × (Has rows (codes "PEER") peer × IsService peer)
@@ -99,11 +117,13 @@ Gives rows (collect local first count folder) =
     × (Has rows (codes "FIRST") (decimal first) × IsCount first)
     × (Has rows (codes "COUNT") (decimal count) × IsCount count)
     × Has rows (codes "FOLDER") folder
-Gives rows (audit modes journal) = Has rows (codes "MODES") modes × Has rows (codes "JOURNAL") journal
+Gives rows (audit modes journal draws) =
+    (Has rows (codes "MODES") modes × Has rows (codes "JOURNAL") journal) × IsFlag rows (codes "draw") draws
 Gives rows (relay modes journal mode count) =
     (Has rows (codes "MODES") modes × Has rows (codes "JOURNAL") journal)
     × (Has rows (codes "MODE") mode × IsMode mode)
     × (Has rows (codes "COUNT") (decimal count) × (count ≤ 1_048_576))
+Gives rows (suite what) = IsFlag rows (codes "verify") (verifies what) × IsFlag rows (codes "list") (lists what)
 
 -- the name of the command that does a task
 abbrev pub name_of : Task → List ℕ
@@ -111,13 +131,14 @@ name_of help = codes "--help"
 name_of version = codes "--version"
 name_of (answer stamp nonce) = codes "answer"
 name_of check = codes "check"
-name_of drill = codes "drill"
+name_of (drill draws) = codes "drill"
 name_of (generate seed count) = codes "drill"
 name_of (handler modes journal peer local workers turns keep) = codes "handler"
 name_of (submit local mode conversation media) = codes "submit"
 name_of (collect local first count folder) = codes "collect"
-name_of (audit modes journal) = codes "audit"
+name_of (audit modes journal draws) = codes "audit"
 name_of (relay modes journal mode count) = codes "relay"
+name_of (suite what) = codes "suite"
 
 -- an error of this kind asks for a task
 abbrev pub Asks : ErrorKind → Task → Type 0

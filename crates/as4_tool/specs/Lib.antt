@@ -4,6 +4,7 @@ pub mod Command
 pub mod Adds
 pub mod Answer
 pub mod Status
+pub mod Suites
 pub mod Ends
 pub mod Runs
 pub mod Service

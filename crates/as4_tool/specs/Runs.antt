@@ -1,5 +1,5 @@
 -- What a run does to its input, its output and its host: its status, and the cause of each status.
-use Rattle.std.specs.Prelude.{◌≡◌, ◌≢◌, ℕ, ◌+◌, ◌≤◌, ◌<◌, ◌⊎◌, List, [], ◌∷◌, All, Option, length}
+use Rattle.std.specs.Prelude.{◌≡◌, ◌≢◌, ℕ, ◌+◌, ◌≤◌, ◌<◌, ◌⊎◌, List, [], ◌∷◌, All, Bool, false, true, if◌then◌else◌, Option, length}
 use Rattle.as4_flow.specs.Flow.{LosesFront, Rose, Streams, Told, between, flow}
 use Rattle.as4_flow.specs.declared.source.Source.{Ghosts as SourceMeaning}
 use Rattle.as4_flow.specs.declared.sink.Sink.{Ghosts as SinkMeaning}
@@ -9,6 +9,7 @@ use Rattle.as4_host.specs.declared.host.Host.{Ghosts as HostMeaning}
 use Rattle.as4_host.specs.declared.link.Link.{Ghosts as LinkMeaning}
 use Rattle.auditor.specs.Auditing.{AuditsBy, ReadsAmong}
 use Rattle.auditor.specs.declared.ending.AuditEnd.{AuditEnd}
+use Rattle.auditor.specs.declared.form.Form.TheVariants as form
 use Rattle.clients.specs.Answered.{IsAnswerTo, IsLastAnswer}
 use Rattle.clients.specs.Lines.{KeepsOthers, WritesLines, answer_of}
 use Rattle.clients.specs.Requests.{submit_request}
@@ -23,7 +24,7 @@ use Rattle.relayer.specs.Ends.{IsJudged}
 use Rattle.relayer.specs.Running.{RelaysBy, Touches}
 use Rattle.relayer.specs.declared.ending.RelayerEnd.{RelayerEnd}
 use Rattle.as4_tool.specs.Answer.{IsSignalFile}
-use Rattle.as4_tool.specs.Command.{IsAlone, Spells, Task, answer, check, audit, collect, drill, generate, handler, help, relay, submit, version}
+use Rattle.as4_tool.specs.Command.{IsAlone, Spells, Task, answer, check, audit, collect, drill, generate, handler, help, relay, submit, suite, version}
 use Rattle.as4_tool.specs.Ends.{Ends, TellsFaults, WritesAs}
 use Rattle.as4_tool.specs.Status.{IsOneOf, code_of, status_of_audit, status_of_collection, status_of_relaying, status_of_submission}
 use Rattle.as4_tool.specs.declared.limit.TheConstants.{LIMIT}
@@ -40,17 +41,19 @@ ran S K input input_later output output_later = between
 abbrev pub wrote : {O : Type 0} → SinkMeaning O → Option (List ℕ) → ℕ → O → O → Streams
 wrote K left reads output later = between (flow left (K.taken output) reads (K.faults output)) (flow left (K.taken later) reads (K.faults later))
 
--- the tasks that read a message file or a document
+-- the tasks that read the whole input, within the limit
 abbrev pub ReadsFile : Task → Type 0
 ReadsFile (answer stamp nonce) = Unit {0}
 ReadsFile check = Unit {0}
+ReadsFile (drill true) = Unit {0}
 ReadsFile (submit local mode conversation media) = Unit {0}
 ReadsFile other = ⊥
 
 -- the tasks that write line by line
 abbrev pub WritesLinewise : Task → Type 0
-WritesLinewise drill = Unit {0}
+WritesLinewise (drill false) = Unit {0}
 WritesLinewise (collect local first count folder) = Unit {0}
+WritesLinewise (suite what) = Unit {0}
 WritesLinewise other = ⊥
 
 -- what holds of a run of any task: the input's and the output's part
@@ -129,10 +132,10 @@ module _ {H Store Door Dialer Time Dice DoorIn DoorOut DialerIn DialerOut : Type
 
 module _ {H Store Door Dialer Time Dice DoorIn DoorOut DialerIn DialerOut : Type 0} (M : HostMeaning H Store Door Dialer Time Dice DoorIn DoorOut DialerIn DialerOut)
     {O : Type 0} (S : SinkMeaning O) where
-  pub record RunsAudit (modes journal : List ℕ) (status : Status) (old new : H) (before after : O) : Type 0 where
+  pub record RunsAudit (modes journal : List ℕ) (draws : Bool) (status : Status) (old new : H) (before after : O) : Type 0 where
     pub end : AuditEnd
     pub status_is : status ≡ status_of_audit end
-    pub audits : AuditsBy M modes journal old new (S.taken before) (S.taken after) end
+    pub audits : AuditsBy M modes journal (if draws then form.Drawing else form.Lines) old new (S.taken before) (S.taken after) end
     pub reads : ReadsAmong M (modes ∷ files_of journal) old new
     pub write_faults : TellsFaults WriteFault (code_of status) (S.faults before) (S.faults after)
     pub host_faults : TellsFaults HostFault (code_of status) (M.fault_count old) (M.fault_count new)
@@ -152,8 +155,9 @@ LeavesInput help input later = later ≡ input
 LeavesInput version input later = later ≡ input
 LeavesInput (generate seed count) input later = later ≡ input
 LeavesInput (collect local first count folder) input later = later ≡ input
-LeavesInput (audit modes journal) input later = later ≡ input
+LeavesInput (audit modes journal draws) input later = later ≡ input
 LeavesInput (relay modes journal mode count) input later = later ≡ input
+LeavesInput (suite what) input later = later ≡ input
 LeavesInput (handler modes journal peer local workers turns keep) input later = later ≡ input
 LeavesInput other input later = Unit {0}
 
@@ -166,7 +170,7 @@ module _ {I O : Type 0} (S : SourceMeaning I) (W : SinkMeaning O)
       RunsSubmit M K local mode conversation media status (ran S W input later output after) old new
   Does (collect local first count folder) status input later output after old new =
       RunsCollect M K W local first count folder status old new output after
-  Does (audit modes journal) status input later output after old new = RunsAudit M W modes journal status old new output after
+  Does (audit modes journal draws) status input later output after old new = RunsAudit M W modes journal draws status old new output after
   Does (relay modes journal mode count) status input later output after old new =
       RunsRelay M W D modes journal mode count status old new output after
   Does (handler modes journal peer local workers turns keep) status input later output after old new =

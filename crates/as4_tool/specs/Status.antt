@@ -10,6 +10,8 @@ use Rattle.clients.specs.declared.ending.CollectEnd.{CollectEnd}
 use Rattle.clients.specs.declared.ending.CollectEnd.TheVariants as collect
 use Rattle.clients.specs.declared.ending.SubmitEnd.{SubmitEnd}
 use Rattle.clients.specs.declared.ending.SubmitEnd.TheVariants as submit
+use Rattle.conformance.specs.declared.suite.SuiteEnd.{SuiteEnd}
+use Rattle.conformance.specs.declared.suite.SuiteEnd.TheVariants as suite
 use Rattle.handler.specs.declared.ending.HandlerEnd.{HandlerEnd}
 use Rattle.handler.specs.declared.ending.HandlerEnd.TheVariants as handler
 use Rattle.relayer.specs.declared.ending.RelayRefusal.{RelayRefusal}
@@ -135,6 +137,12 @@ status_of_relaying relaying.WriteFault = WriteFault
 status_of_relaying relaying.ModesRefused = ModesRefused
 status_of_relaying relaying.HostFault = HostFault
 status_of_relaying (relaying.NotJournal at) = NotJournal at
+
+-- the status for the end of a suite
+abbrev pub status_of_suite : SuiteEnd → Status
+status_of_suite suite.Done = Done
+status_of_suite suite.WriteFault = WriteFault
+status_of_suite suite.NoMemory = NoMemory
 
 -- the status for words that no command was read from
 abbrev pub status_of_words : WordsRefusal → Status

@@ -4,14 +4,17 @@
 //!     --version                                   shows the version
 //!     answer STAMP NONCE                          reads a request and writes the answer
 //!     check                                       reads a message and writes a line that says what it is
-//!     drill                                       runs a script of two endpoints, and writes a line for each reply
+//!     drill [--draw]                              runs a script of two endpoints, and writes a line for each reply, or
+//!                                                 a drawing
 //!     drill --generate SEED COUNT                 runs a generated script, and writes the totals of both endpoints
 //!     handler MODES JOURNAL PEER LOCAL            serves two addresses over a journal
 //!         [--workers N] [--turns T] [--keep L]
 //!     submit LOCAL MODE CONVERSATION MEDIA        submits the input to a handler, and writes its response
 //!     collect LOCAL FIRST COUNT FOLDER            writes what a handler has received to files
-//!     audit MODES JOURNAL                         checks a journal, and writes a line for each change
+//!     audit MODES JOURNAL [--draw]                checks a journal, and writes a line for each change, or a drawing
 //!     relay MODES JOURNAL MODE COUNT              submits what a journal has received onwards
+//!     suite [--verify | --list]                   writes the check lines of the conformance suite, or holds the program
+//!                                                 against it, or writes its messages out
 
 ghost use Rattle.std.specs.Prelude.{◌≡◌, ℕ, List, All, Err, Some, IfOk, IfSome, MatchResult, map, option_map};
 ghost use Rattle.std.specs.Str.{IsUtf8};
@@ -20,7 +23,9 @@ ghost use Rattle.clap.specs.Simple.{subcommand_rows_of};
 ghost use Rattle.clap.specs.Walk.{Row, rows_of};
 
 use crate::parser::parser;
-use crate::values::{answer_of, audit_of, collect_of, drill_of, handler_of, relay_of, submit_of};
+use crate::values::{
+    answer_of, audit_of, collect_of, drill_of, handler_of, relay_of, submit_of, suite_of,
+};
 use as4_values::{Octets, Seq};
 use clap::ArgMatches;
 use clap::error::ErrorKind;
@@ -44,7 +49,10 @@ pub enum Command<'a> {
         nonce: u128,
     },
     Check,
-    Drill,
+    Drill {
+        /// Whether the drill is drawn.
+        draws: bool,
+    },
     Generate {
         /// Determines the sizes of the messages.
         seed: u64,
@@ -54,8 +62,13 @@ pub enum Command<'a> {
     Handler(Service<'a>),
     Submit(Submission<'a>),
     Collect(Collection<'a>),
-    Audit(Journal<'a>),
+    Audit {
+        of: Journal<'a>,
+        /// Whether the journal is drawn.
+        draws: bool,
+    },
     Relay(Relaying<'a>),
+    Suite(Suite),
 }
 
 /// What a handler serves.
@@ -120,6 +133,17 @@ pub struct Relaying<'a> {
     pub mode: &'a str,
     /// The most messages to relay, at most 1,048,576.
     pub count: u64,
+}
+
+/// What is done with the conformance suite.
+#[derive(Clone, Copy, Debug, PartialEq, Eq)]
+pub enum Suite {
+    /// The check line of each message is written.
+    Check,
+    /// Each row is held against what is wanted.
+    Verify,
+    /// The messages are written out with their check lines.
+    List,
 }
 
 /// Why words aren't a command.
@@ -217,6 +241,7 @@ fn named<'a>(name: &str, found: &ArgMatches<'a>) -> Option<Command<'a>>
         "collect" => collect_of(found),
         "audit" => audit_of(found),
         "relay" => relay_of(found),
+        "suite" => suite_of(found),
         _ => None,
     }
 }

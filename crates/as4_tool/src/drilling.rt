@@ -1,5 +1,5 @@
 //! The command `drill`.
-ghost use Rattle.std.specs.Prelude.{◌≤◌, ℕ, List, Option};
+ghost use Rattle.std.specs.Prelude.{◌≤◌, ℕ, List, Option, false};
 ghost use Rattle.as4_tool.specs.Command.{Task};
 ghost use Rattle.as4_tool.specs.Runs.{RunsOver, ran, wrote};
 
@@ -9,7 +9,7 @@ use std::alloc::Global;
 
 /// Runs the script from the input.
 pub(crate) fn play<I: Source, O: Sink>(alloc: Global, input: &mut I, output: &mut O) -> Status
-    ensures { RunsOver Task.drill result (ran I.Source O.Sink input.old input.new output.old output.new) }
+    ensures { RunsOver (Task.drill false) result (ran I.Source O.Sink input.old input.new output.old output.new) }
 {
     Status::of_drill(drill::drill(alloc, input, output))
 }

@@ -7,6 +7,7 @@ mod auditing;
 mod checking;
 mod collecting;
 mod command;
+mod drawing;
 mod drilling;
 mod laws;
 mod limit;
@@ -18,12 +19,13 @@ mod services;
 mod serving;
 mod status;
 mod submitting;
+mod suites;
 mod texts;
 mod values;
 mod writing;
 
 pub use command::{
-    Collection, Command, Journal, MAX_COUNT, Relaying, Service, Submission, WordsRefusal,
+    Collection, Command, Journal, MAX_COUNT, Relaying, Service, Submission, Suite, WordsRefusal,
     command_of, one_spelling, texts_of,
 };
 pub use laws::{a_signal_has_no_answer, one_answer, one_line};

@@ -2,10 +2,10 @@
 ghost use Rattle.std.specs.Prelude.{◌≡◌, IfOk, codes, false};
 ghost use Rattle.clap.specs.Walk.{rule_of};
 ghost use Rattle.clap.specs.Simple.{Shape};
-ghost use Rattle.as4_tool.specs.Words.{as4, program, value, option, option_of_two, answer_command, drill_command, handler_command, submit_command, collect_command, audit_command, relay_command};
+ghost use Rattle.as4_tool.specs.Words.{as4, program, value, option, option_of_two, answer_command, drill_command, handler_command, submit_command, collect_command, audit_command, relay_command, suite_command, flag};
 ghost use Rattle.as4_tool.specs.Adds.{AddsRule, AddsShape, IsApp, alone};
 
-use clap::{Arg, Command};
+use clap::{Arg, ArgAction, Command};
 use std::alloc::{AllocError, Global};
 
 /// The program with its commands.
@@ -19,7 +19,8 @@ pub(crate) fn parser<'a>(alloc: Global) -> Result<Command<'a>, AllocError>
     let top = with_command(top, submit(alloc)?)?;
     let top = with_command(top, collect(alloc)?)?;
     let top = with_command(top, audit(alloc)?)?;
-    with_command(top, relay(alloc)?)
+    let top = with_command(top, relay(alloc)?)?;
+    with_command(top, suite(alloc)?)
 }
 
 // The program without its commands.
@@ -43,7 +44,8 @@ fn answer<'a>(alloc: Global) -> Result<Command<'a>, AllocError>
 fn drill<'a>(alloc: Global) -> Result<Command<'a>, AllocError>
     ensures { IfOk result (IsApp (alone drill_command)) }
 {
-    Command::new(alloc, "drill").arg(generate(alloc))
+    let drill = Command::new(alloc, "drill").arg(generate(alloc))?;
+    with_flag(alloc, drill, "draw")
 }
 
 fn generate<'a>(alloc: Global) -> Arg<'a>
@@ -87,7 +89,8 @@ fn audit<'a>(alloc: Global) -> Result<Command<'a>, AllocError>
     ensures { IfOk result (IsApp (alone audit_command)) }
 {
     let audit = with_value(alloc, Command::new(alloc, "audit"), "MODES")?;
-    with_value(alloc, audit, "JOURNAL")
+    let audit = with_value(alloc, audit, "JOURNAL")?;
+    with_flag(alloc, audit, "draw")
 }
 
 fn relay<'a>(alloc: Global) -> Result<Command<'a>, AllocError>
@@ -97,6 +100,13 @@ fn relay<'a>(alloc: Global) -> Result<Command<'a>, AllocError>
     let relay = with_value(alloc, relay, "JOURNAL")?;
     let relay = with_value(alloc, relay, "MODE")?;
     with_value(alloc, relay, "COUNT")
+}
+
+fn suite<'a>(alloc: Global) -> Result<Command<'a>, AllocError>
+    ensures { IfOk result (IsApp (alone suite_command)) }
+{
+    let suite = with_flag(alloc, Command::new(alloc, "suite"), "verify")?;
+    with_flag(alloc, suite, "list")
 }
 
 // Adds a value that has to be there.
@@ -119,6 +129,17 @@ fn with_option<'a>(
     ensures { IfOk result (AddsRule (option name.entry.now) command.entry) }
 {
     command.arg(Arg::new(alloc, name).long(name))
+}
+
+// Adds an option without a value.
+fn with_flag<'a>(
+    alloc: Global,
+    command: Command<'a>,
+    name: &'a str,
+) -> Result<Command<'a>, AllocError>
+    ensures { IfOk result (AddsRule (flag name.entry.now) command.entry) }
+{
+    command.arg(Arg::new(alloc, name).long(name).action(ArgAction::SetTrue))
 }
 
 // Adds a command.

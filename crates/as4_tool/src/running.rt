@@ -4,11 +4,14 @@
 //!     answer STAMP NONCE                      the answer to the input                      0, 3, 4, 5, 7, 11
 //!     check                                   the check line of the input                  0, 1, 3, 4, 5, 11
 //!     drill                                   the lines for the script's replies           0, 2, 3, 4, 5, 6
+//!     drill --draw                            a drawing of the script's drill              0, 2, 3, 4, 5, 6, 11
 //!     drill --generate SEED COUNT             the totals of a generated script             0, 4, 5
 //!     submit LOCAL MODE CONVERSATION MEDIA    the handler's response to the input          0, 1, 3, 4, 5, 9, 11, 12
 //!     collect LOCAL FIRST COUNT FOLDER        a line for each document that is collected   0, 1, 3, 4, 5, 9, 12
-//!     audit MODES JOURNAL                     a line for each change, and the answer       0, 1, 4, 5, 8, 9, 10, 11
+//!     audit MODES JOURNAL [--draw]            a line for each change, and the answer       0, 1, 4, 5, 8, 9, 10, 11
 //!     relay MODES JOURNAL MODE COUNT          a line for each message that is relayed      0, 4, 5, 8, 9, 10, 14
+//!     suite, suite --list                     the check lines of the suite, its messages   0, 4, 5
+//!     suite --verify                          for each row whether it is as wanted         0, 1, 4, 5
 //!     other words                                                                          5, 64
 ghost use Rattle.std.specs.Prelude.{◌≡◌, ◌≢◌, ◌⊎◌, ◌≤◌, All, IfNone, IfSome, ℕ, Option, List};
 ghost use Rattle.std.specs.Str.{IsUtf8};
@@ -21,10 +24,12 @@ use crate::auditing::audit;
 use crate::checking::check;
 use crate::collecting::collect;
 use crate::command::{Command, WordsRefusal, command_of, texts_of};
+use crate::drawing::draw;
 use crate::drilling::{generate, play};
 use crate::relaying::relay;
 use crate::status::Status;
 use crate::submitting::submit;
+use crate::suites::suite;
 use crate::texts::{HELP, VERSION};
 use crate::writing::write;
 use as4_flow::{Sink, Source};
@@ -131,13 +136,15 @@ pub(crate) fn obey<I: Source, O: Sink, H: Host>(
         Command::Version => version(output),
         Command::Answer { stamp, nonce } => answer(alloc, stamp, nonce, input, output),
         Command::Check => check(alloc, input, output),
-        Command::Drill => play(alloc, input, output),
+        Command::Drill { draws: false } => play(alloc, input, output),
+        Command::Drill { draws: true } => draw(alloc, input, output),
         Command::Generate { seed, count } => generate(alloc, seed, count, output),
         Command::Handler(_) => Status::BadWords,
         Command::Submit(to) => submit(alloc, to, input, output, host),
         Command::Collect(from) => collect(alloc, from, output, host),
-        Command::Audit(of) => audit(alloc, of, output, host),
+        Command::Audit { of, draws } => audit(alloc, of, draws, output, host),
         Command::Relay(by) => relay(alloc, by, output, host),
+        Command::Suite(what) => suite(alloc, what, output),
     }
 }
 

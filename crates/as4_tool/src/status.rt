@@ -15,6 +15,7 @@ ghost use Rattle.as4_tool.specs.Status.{Tells, text_of_refusal};
 use as4_flow::{SendFailed, Sink, send_all};
 use auditor::AuditEnd;
 use clients::{CollectEnd, SubmitEnd};
+use conformance::SuiteEnd;
 use drill::DrillEnd;
 use handler::HandlerEnd;
 use itoa::Buffer;
@@ -25,7 +26,7 @@ use relayer::{RelayRefusal, RelayerEnd};
 pub enum Status {
     Done,
     /// The checked message is refused, and the output names the error. Or a handler has refused a request. Or a record of
-    /// the audited journal isn't right, and the output names it.
+    /// the audited journal isn't right, or a row of the suite isn't as wanted, and the output names it.
     Refused,
     /// This line of the script (the first is 1) isn't a valid line, or isn't allowed at its place. The replies to the
     /// lines before it were written.
@@ -59,7 +60,7 @@ pub enum Status {
 }
 
 impl Status {
-    ghost use Rattle.as4_tool.specs.Status.{code_of, line_of, status_of, status_of_submission, status_of_collection, status_of_handler, status_of_audit, status_of_relaying};
+    ghost use Rattle.as4_tool.specs.Status.{code_of, line_of, status_of, status_of_submission, status_of_collection, status_of_handler, status_of_audit, status_of_relaying, status_of_suite};
 
     /// The status of a drill's end.
     pub fn of_drill(end: DrillEnd) -> Status
@@ -146,6 +147,17 @@ impl Status {
             RelayerEnd::ModesRefused => Status::ModesRefused,
             RelayerEnd::HostFault => Status::HostFault,
             RelayerEnd::NotJournal { at } => Status::NotJournal { at },
+        }
+    }
+
+    /// The status of the end of a suite.
+    pub fn of_suite(end: SuiteEnd) -> Status
+        ensures { result ≡ status_of_suite end }
+    {
+        match end {
+            SuiteEnd::Done => Status::Done,
+            SuiteEnd::WriteFault => Status::WriteFault,
+            SuiteEnd::NoMemory => Status::NoMemory,
         }
     }
 

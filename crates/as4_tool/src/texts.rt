@@ -9,12 +9,13 @@ usage:
       [--workers N] [--turns T] [--keep L]
   as4 submit LOCAL MODE CONVERSATION MEDIA  submits the input to the handler at LOCAL, writes its response
   as4 collect LOCAL FIRST COUNT FOLDER      writes the documents that the handler at LOCAL received to files
-  as4 audit MODES JOURNAL                   checks that a journal could have come about, writes its changes
+  as4 audit MODES JOURNAL [--draw]          checks that a journal could have come about, writes its changes
   as4 relay MODES JOURNAL MODE COUNT        submits the documents that a journal has received onwards by MODE
   as4 answer STAMP NONCE                    reads a message file from the input, writes the answer to it
   as4 check                                 reads a message file from the input, writes a line that says what it is
-  as4 drill                                 runs the script in the input, writes what each line leads to
+  as4 drill [--draw]                        runs the script in the input, writes what each line leads to
   as4 drill --generate SEED COUNT           runs a generated script, writes the numbers of both endpoints
+  as4 suite [--verify | --list]             writes the conformance suite, or runs this program on it
   as4 --help, as4 COMMAND --help            writes this text
   as4 --version                             writes the version
 
@@ -47,6 +48,15 @@ record, from 0, that no event can have made:
   submitted NUMBER ID, tried NUMBER, receipted NUMBER, refused NUMBER EBMS:CODE   a message that was submitted here
   delivered NUMBER ID, confirmed NUMBER                                           a message that was received here
   ticked MOMENT                                                                   the clock was set
+
+With --draw the output is a sequence diagram of at most 200 events instead, as an SVG document. That of audit shows the
+records up to the first that is wrong. A script that is drawn has at most 67174400 bytes, and is drawn if each of its
+lines is right.
+
+suite writes for each of its 580 messages the name, a space and the line of check. With --verify it writes for each of
+these messages, of 160 HTTP streams and of 100 scripts the name and ok, or differs if what this program makes of it isn't
+what is wanted. With --list it writes for each message a line, which is NAME and the lengths of the media text, the body
+and the wanted line of check, and then these three.
 
 relay opens the journal, so no handler may run on it. Each received document that isn't relayed yet is submitted by the
 mode, with a line for each: relayed NUMBER ID. The handler that is started next sends them. The number of submissions
@@ -87,7 +97,8 @@ events: each line but mode, crash and fold makes one, if the package or the subm
 
 exit statuses, each but 0 and 1 with one line on the errors, as it is here up to the colon:
    0  done
-   1  check: the message is refused, as the output says; submit, collect: the handler refused the request; audit: no
+   1  check: the message is refused, as the output says; submit, collect: the handler refused the request; audit: no;
+      suite --verify: a row differs
    2  line N: this line of the script, the first being 1, isn't one of a script, or not in its place
    3  read fault: the input or a response can't be read to its end
    4  write fault: the output, or a request, has only a prefix of what was to be written
@@ -103,7 +114,7 @@ exit statuses, each but 0 and 1 with one line on the errors, as it is here up to
       confirmed before; outbox full: no number is left; too large: it can't be submitted; journal full
   64  bad words: none of the usages above, or a number out of range
 If several apply, 3, 4, 5, 9 and 11 come first, in this order. On all but 0, 1 and 4 nothing is written to the output,
-except by a drill of a script, by collect and by relay: they write the lines before.
+except by a drill of a script that isn't drawn, by collect, by relay and by suite: they write the lines before.
 ";
 
 /// The output of `--version`.

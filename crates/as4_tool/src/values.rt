@@ -1,12 +1,14 @@
 //! The values of each command.
-ghost use Rattle.std.specs.Prelude.{◌≡◌, ◌≤◌, ◌↔◌, ◌∷◌, [], ℕ, List, Option, None, Some, IfSome, IsSomeAnd, IsTrue, codes, length, map, option_map};
+ghost use Rattle.std.specs.Prelude.{◌≡◌, ◌≤◌, ◌↔◌, ◌∷◌, [], ℕ, List, Bool, Option, None, Some, IfSome, IsSomeAnd, IsTrue, codes, length, map, option_map};
 ghost use Rattle.std.specs.Fmt.{decimal};
 ghost use Rattle.clap.specs.Matches.{found_of};
 ghost use Rattle.clap.specs.Walk.{all_of, first_of, rows_of};
 ghost use Rattle.as4_values.specs.Payload.{is_media_text};
-ghost use Rattle.as4_tool.specs.Command.{Gives, IsCount, IsMode, IsKeep, IsService, IsWorkers, IsTurns, Task, name_of, task_of};
+ghost use Rattle.as4_tool.specs.Command.{Gives, IsCount, IsFlag, IsMode, IsKeep, IsService, IsWorkers, IsTurns, Task, name_of, task_of};
 
-use crate::command::{Collection, Command, Journal, MAX_COUNT, Relaying, Service, Submission};
+use crate::command::{
+    Collection, Command, Journal, MAX_COUNT, Relaying, Service, Submission, Suite,
+};
 use crate::numbers::{number_within, wide_number};
 use crate::services::is_service;
 use as4_values::{MAX_MOMENT, is_media_text};
@@ -41,12 +43,15 @@ pub(crate) fn answer_of<'a>(found: &ArgMatches<'a>) -> Option<Command<'a>>
 /// Reads the values of `drill`.
 pub(crate) fn drill_of<'a>(found: &ArgMatches<'a>) -> Option<Command<'a>>
     ensures found { IfSome result (λ c. (name_of (task_of c) ≡ codes "drill") × Gives (rows_of (found_of found.now)) (task_of c)) }
-    ensures script { Gives (rows_of (found_of found.now)) Task.drill → option_map task_of result ≡ Some Task.drill }
+    ensures script { (draws : Bool) → Gives (rows_of (found_of found.now)) (Task.drill draws)
+        → option_map task_of result ≡ Some (Task.drill draws) }
     ensures only { (seed count : ℕ) → Gives (rows_of (found_of found.now)) (Task.generate seed count)
         → option_map task_of result ≡ Some (Task.generate seed count) }
 {
+    let draws = flag_in(found, "draw")?;
     match texts_in(found, "generate") {
-        None => Some(Command::Drill),
+        None => Some(Command::Drill { draws }),
+        Some(_) if draws => None,
         Some(values) => {
             let (seed, count) = two_of(values)?;
             let seed = number_within(seed, u64::MAX)?;
@@ -197,10 +202,12 @@ pub(crate) fn collect_of<'a>(found: &ArgMatches<'a>) -> Option<Command<'a>>
 /// Reads the values of `audit`.
 pub(crate) fn audit_of<'a>(found: &ArgMatches<'a>) -> Option<Command<'a>>
     ensures found { IfSome result (λ c. (name_of (task_of c) ≡ codes "audit") × Gives (rows_of (found_of found.now)) (task_of c)) }
-    ensures only { (modes journal : List ℕ) → Gives (rows_of (found_of found.now)) (Task.audit modes journal)
-        → option_map task_of result ≡ Some (Task.audit modes journal) }
+    ensures only { (modes journal : List ℕ) (draws : Bool) → Gives (rows_of (found_of found.now)) (Task.audit modes journal draws)
+        → option_map task_of result ≡ Some (Task.audit modes journal draws) }
 {
-    Some(Command::Audit(journal_in(found)?))
+    let of = journal_in(found)?;
+    let draws = flag_in(found, "draw")?;
+    Some(Command::Audit { of, draws })
 }
 
 /// Reads the values of `relay`.
@@ -213,6 +220,21 @@ pub(crate) fn relay_of<'a>(found: &ArgMatches<'a>) -> Option<Command<'a>>
     let mode = mode_in(found)?;
     let count = number_within(text_in(found, "COUNT")?, MOST_RELAYED)?;
     Some(Command::Relay(Relaying { from, mode, count }))
+}
+
+/// Reads the values of `suite`.
+pub(crate) fn suite_of<'a>(found: &ArgMatches<'a>) -> Option<Command<'a>>
+    ensures found { IfSome result (λ c. (name_of (task_of c) ≡ codes "suite") × Gives (rows_of (found_of found.now)) (task_of c)) }
+    ensures only { (what : Suite) → Gives (rows_of (found_of found.now)) (Task.suite what) → option_map task_of result ≡ Some (Task.suite what) }
+{
+    let verifies = flag_in(found, "verify")?;
+    let lists = flag_in(found, "list")?;
+    match (verifies, lists) {
+        (false, false) => Some(Command::Suite(Suite::Check)),
+        (true, false) => Some(Command::Suite(Suite::Verify)),
+        (false, true) => Some(Command::Suite(Suite::List)),
+        (true, true) => None,
+    }
 }
 
 // A modes file and a journal.
@@ -247,6 +269,18 @@ fn service_in<'a>(found: &ArgMatches<'a>, name: &str) -> Option<&'a str>
         return None;
     }
     Some(address)
+}
+
+// Whether the flag of this name is given.
+fn flag_in<'a>(found: &ArgMatches<'a>, name: &str) -> Option<bool>
+    ensures found { IfSome result (λ b. IsFlag (rows_of (found_of found.now)) name.now b) }
+    ensures only { (b : Bool) → IsFlag (rows_of (found_of found.now)) name.now b → result ≡ Some b }
+{
+    match text_in(found, name)? {
+        "true" => Some(true),
+        "false" => Some(false),
+        _ => None,
+    }
 }
 
 // The first value of this name.

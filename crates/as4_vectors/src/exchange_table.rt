@@ -1,6 +1,6 @@
 //! HTTP streams, with the requests that they begin with.
-use crate::Exchange;
 use crate::pieces::{bytes_stream, stream, text};
+use conformance::Exchange;
 
 /// The start line.
 pub(crate) fn start_lines() -> [Exchange; 20] {

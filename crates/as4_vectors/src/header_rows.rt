@@ -1,9 +1,9 @@
 //! Messages whose header has or hasn't the accepted form, with their check lines.
-use crate::Vector;
 use crate::pieces::{
     envelope, good, header, in_answer, in_body, in_from, in_id, in_info, in_parties, in_properties,
     in_signal, in_stamp, in_user, in_work, media, messaging, soap, text,
 };
+use conformance::Vector;
 
 /// The envelope and its parts.
 pub(crate) fn envelopes() -> [Vector; 20] {

@@ -1,6 +1,6 @@
 //! References of a header and parts of its package, with the check lines of their messages.
-use crate::Vector;
 use crate::pieces::{boundary_b, media, messaging, package, soap, text, with_info, with_parts};
+use conformance::Vector;
 
 /// References that name a part, and that name nothing in the package.
 pub(crate) fn references() -> [Vector; 20] {

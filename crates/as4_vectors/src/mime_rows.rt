@@ -1,9 +1,9 @@
 //! Media texts and packages, with the check lines of their messages.
-use crate::Vector;
 use crate::pieces::{
     bare, boundary_b, in_mpc, in_root, media, messaging, package, packaged, soap, text, with_part,
     with_parts,
 };
+use conformance::Vector;
 
 /// The media text of a bare envelope.
 pub(crate) fn media_of_envelopes() -> [Vector; 20] {

@@ -244,7 +244,7 @@ macro_rules! boundary_b {
 
 macro_rules! media {
     ($name:literal, $media:literal, $body:expr => $want:literal) => {
-        crate::messages::text_row($name, $media, $body, concat!($want, "\n"))
+        crate::rows::text_row($name, $media, $body, concat!($want, "\n"))
     };
 }
 
@@ -272,14 +272,14 @@ macro_rules! bad {
 // A row of a bare envelope that isn't UTF-8.
 macro_rules! raw_soap {
     ($name:literal, $body:literal => $want:literal) => {
-        crate::messages::bytes_row($name, b"application/soap+xml", $body, $want)
+        crate::rows::bytes_row($name, b"application/soap+xml", $body, $want)
     };
 }
 
 // A row of a stream, and of one that isn't UTF-8.
 macro_rules! stream {
     (= $name:literal [$($x:tt)*] => $want:literal) => {
-        crate::exchange::text_stream($name, text!($($x)*), concat!($want, "\n"))
+        crate::rows::text_stream($name, text!($($x)*), concat!($want, "\n"))
     };
     (= $name:literal [$($x:tt)*] $next:tt $($rest:tt)*) => {
         stream!(= $name [$($x)* $next] $($rest)*)
@@ -289,7 +289,7 @@ macro_rules! stream {
 
 macro_rules! bytes_stream {
     ($name:literal, $stream:literal => $want:literal) => {
-        crate::exchange::bytes_stream($name, $stream, $want)
+        crate::rows::bytes_stream($name, $stream, $want)
     };
 }
 
@@ -298,7 +298,7 @@ macro_rules! lines { ($($line:literal)*) => { concat!($($line, "\n"),*) }; }
 
 // A row of a script, and of one whose third line is wrong.
 macro_rules! script {
-    ($name:literal, $script:expr => $want:expr) => { crate::play::play_row($name, $script, $want) };
+    ($name:literal, $script:expr => $want:expr) => { crate::rows::play_row($name, $script, $want) };
 }
 
 macro_rules! wrong {

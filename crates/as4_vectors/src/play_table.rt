@@ -1,6 +1,6 @@
 //! Scripts of a drill, with their transcripts.
-use crate::Play;
 use crate::pieces::{lines, script, wrong};
+use conformance::Play;
 
 /// Messages that are pushed.
 pub(crate) fn pushes() -> [Play; 20] {

@@ -1,8 +1,6 @@
 //! The tables of this crate, topic by topic.
-use crate::exchange::Exchange;
-use crate::messages::{Case, Vector};
-use crate::play::Play;
 use crate::{exchange_table, header_rows, message_rows, mime_rows, play_table, xml_rows};
+use conformance::{Case, Exchange, Listed, Play, Vector};
 use std::array;
 
 /// The number of rows of a topic.
@@ -12,6 +10,12 @@ const TOPIC: usize = 20;
 pub fn cases() -> [Case; 580] {
     let rows = vectors();
     array::from_fn(|k| rows[k].case)
+}
+
+/// The messages of `vectors`, to be written out.
+pub fn listed() -> [Listed; 580] {
+    let rows = vectors();
+    array::from_fn(|k| Listed { vector: rows[k] })
 }
 
 /// Messages with their check lines: how a package is cut, how its root is read, what a header says, and how parts are paired.

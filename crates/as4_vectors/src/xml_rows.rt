@@ -1,8 +1,8 @@
 //! Messages whose envelope is or isn't XML of the accepted form, with their check lines.
-use crate::Vector;
 use crate::pieces::{
     around, bad, good, in_body, in_mpc, in_reference, media, messaging, raw_soap, soap, text,
 };
+use conformance::Vector;
 
 /// The XML declaration.
 pub(crate) fn declarations() -> [Vector; 20] {

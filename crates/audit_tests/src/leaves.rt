@@ -158,13 +158,20 @@ enum Changed {
 /// The number of single changed bytes, out of `count`, after which the leaf isn't audited as right. None if its events
 /// don't make its records after one of the others.
 fn refused_changes(alloc: Global, count: u64) -> Option<u64> {
+    let modes = Modes::read(alloc, MODES).ok()?;
+    let refused = refused_by(alloc, &modes, count);
+    drop(modes);
+    refused
+}
+
+fn refused_by(alloc: Global, modes: &Modes, count: u64) -> Option<u64> {
     let leaf = leaf_after(alloc, ALL)?;
-    let refused = refused_among(alloc, leaf.bytes(), count);
+    let refused = refused_among(alloc, modes, leaf.bytes(), count);
     drop(leaf);
     refused
 }
 
-fn refused_among(alloc: Global, leaf: &[u8], count: u64) -> Option<u64> {
+fn refused_among(alloc: Global, modes: &Modes, leaf: &[u8], count: u64) -> Option<u64> {
     let mut state: u64 = 0x9e37_79b9_7f4a_7c15;
     let mut refused: u64 = 0;
     for _ in 0..count {
@@ -175,7 +182,7 @@ fn refused_among(alloc: Global, leaf: &[u8], count: u64) -> Option<u64> {
             return None;
         }
         let place = (state >> 33) as usize % leaf.len();
-        match change(alloc, leaf, place, (state >> 56) as u8)? {
+        match change(alloc, modes, leaf, place, (state >> 56) as u8)? {
             Changed::Refused => refused = refused.saturating_add(1),
             Changed::MadeAgain => {}
             Changed::MadeOtherwise => return None,
@@ -185,21 +192,24 @@ fn refused_among(alloc: Global, leaf: &[u8], count: u64) -> Option<u64> {
 }
 
 /// Audits the leaf with another byte at this place.
-fn change(alloc: Global, leaf: &[u8], place: usize, by: u8) -> Option<Changed> {
+fn change(
+    alloc: Global,
+    modes: &Modes,
+    leaf: &[u8],
+    place: usize,
+    by: u8,
+) -> Option<Changed> {
     let mut changed = Vec::from_slice(alloc, leaf).ok()?;
     if place < changed.len() {
         changed[place] ^= by | 1;
     }
-    let became = audit_again(alloc, changed.as_slice());
+    let became = audit_again(alloc, modes, changed.as_slice());
     drop(changed);
     became
 }
 
-fn audit_again(alloc: Global, leaf: &[u8]) -> Option<Changed> {
-    let modes = Modes::read(alloc, MODES).ok()?;
-    let said = audit(alloc, &modes, leaf);
-    drop(modes);
-    match said {
+fn audit_again(alloc: Global, modes: &Modes, leaf: &[u8]) -> Option<Changed> {
+    match audit(alloc, modes, leaf) {
         Ok(Audit::Yes { events, .. }) => {
             let made = leaf_of(alloc, events.into_vec())?;
             let is_same = has_records(leaf, made.bytes());
@@ -262,6 +272,6 @@ fn step_all(
 
 #[test]
 fn changed_bytes_are_found_or_change_no_event(rt: HostRuntime) {
-    let refused = refused_changes(rt.alloc(), 1_000);
-    assert!(rt; refused.is_some_and(|refused| refused > 500));
+    let refused = refused_changes(rt.alloc(), 10_000);
+    assert!(rt; refused.is_some_and(|refused| refused > 5_000));
 }

@@ -14,6 +14,8 @@ use Rattle.auditor.specs.declared.ending.AuditEnd.{AuditEnd}
 use Rattle.auditor.specs.declared.ending.AuditEnd.TheVariants.{Yes, No, NoMemory, WriteFault, ModesRefused, HostFault, NotJournal, TooLong}
 use Rattle.auditor.specs.declared.ending.Finding.{Finding}
 use Rattle.auditor.specs.declared.files.TheConstants.{LEAF_LIMIT}
+use Rattle.auditor.specs.declared.form.Form.{Form}
+use Rattle.auditor.specs.declared.form.Form.TheVariants as form
 use Rattle.handler.specs.Endings.{IsReadingCause}
 use Rattle.handler.specs.Hosts.{Asks, CountsOn, file_of}
 use Rattle.handler.specs.Stores.{AreModesOf}
@@ -30,10 +32,15 @@ pub record IsTextOf (leaf : List ℕ) (finding : Finding) (text : List ℕ) : Ty
   pub read : AllRead bodies records
   pub is : text ≡ text_of records finding
 
+-- the text in this form; what a drawing shows isn't said
+abbrev pub IsShownAs : Form → List ℕ → Finding → List ℕ → Type 0
+IsShownAs form.Lines leaf finding text = IsTextOf leaf finding text
+IsShownAs form.Drawing leaf finding text = Unit {0}
+
 -- this was found in a leaf by these modes, and this is its text
-pub record Finds (modes : List Mode) (leaf : List ℕ) (said : Audit) (text : List ℕ) : Type 0 where
+pub record Finds (modes : List Mode) (form : Form) (leaf : List ℕ) (said : Audit) (text : List ℕ) : Type 0 where
   pub audits : IsAuditOf modes leaf said
-  pub texts : IsTextOf leaf (finding_of said) text
+  pub texts : IsShownAs form leaf (finding_of said) text
 
 -- the text was written whole, and the audit ended as it was found; or a prefix of it, and the output failed
 abbrev pub Writes : Finding → List ℕ → Option (List ℕ) → Option (List ℕ) → AuditEnd → Type 0
@@ -41,18 +48,18 @@ Writes finding text taken later end =
     ((end ≡ end_found finding) × (later ≡ appended taken text)) ⊎ ((end ≡ WriteFault) × TakesFront text taken later)
 
 -- what is written of an audit of this leaf that found this
-abbrev pub TellsText : List ℕ → Finding → Option (List ℕ) → Option (List ℕ) → AuditEnd → Type 0
-TellsText leaf finding taken later end =
+abbrev pub TellsText : Form → List ℕ → Finding → Option (List ℕ) → Option (List ℕ) → AuditEnd → Type 0
+TellsText form leaf finding taken later end =
     ((end ≡ NoMemory) × (later ≡ taken))
     ⊎ ((at : ℕ) × (end ≡ NotJournal at) × IsBroken at leaf × (later ≡ taken))
-    ⊎ ((text : List ℕ) × IsTextOf leaf finding text × Writes finding text taken later end)
+    ⊎ ((text : List ℕ) × IsShownAs form leaf finding text × Writes finding text taken later end)
 
 -- a leaf that was read is audited by these modes: it is no journal, or its text is written, or memory runs out
-abbrev pub AuditsLeaf : List Mode → List ℕ → Option (List ℕ) → Option (List ℕ) → AuditEnd → Type 0
-AuditsLeaf modes leaf taken later end =
+abbrev pub AuditsLeaf : List Mode → Form → List ℕ → Option (List ℕ) → Option (List ℕ) → AuditEnd → Type 0
+AuditsLeaf modes form leaf taken later end =
     ((end ≡ NoMemory) × (later ≡ taken))
     ⊎ ((at : ℕ) × (end ≡ NotJournal at) × IsBroken at leaf × (later ≡ taken))
-    ⊎ ((said : Audit) × (text : List ℕ) × Finds modes leaf said text × Writes (finding_of said) text taken later end)
+    ⊎ ((said : Audit) × (text : List ℕ) × Finds modes form leaf said text × Writes (finding_of said) text taken later end)
 
 -- a count of faults has risen exactly where the audit ended so
 pub record TellsFaults (fault end : AuditEnd) (faults later : ℕ) : Type 0 where
@@ -89,10 +96,10 @@ module _ {H Store Door Dialer Time Dice DoorIn DoorOut DialerIn DialerOut : Type
   IsUnpicked journal old faults end = (end ≡ NoMemory) ⊎ ((part : Part) × IsUnread (file_of journal part) old faults end)
 
   -- how an audit ends, and what it has written: the modes or the leaf weren't read, for a cause; or the leaf was audited
-  abbrev pub AuditsBy : List ℕ → List ℕ → H → H → Option (List ℕ) → Option (List ℕ) → AuditEnd → Type 0
-  AuditsBy modes journal old new taken later end =
+  abbrev pub AuditsBy : List ℕ → List ℕ → Form → H → H → Option (List ℕ) → Option (List ℕ) → AuditEnd → Type 0
+  AuditsBy modes journal form old new taken later end =
       ((ended : HandlerEnd) × IsReadingCause (M.file old modes) (M.fault_count old) (M.fault_count new) ended
       × (end ≡ end_unread ended) × (later ≡ taken))
       ⊎ ((list : List Mode) × AreModesOf (M.file old modes) list
       × ((IsUnpicked journal old (M.fault_count new) end × (later ≡ taken))
-      ⊎ ((leaf : List ℕ) × Picks journal old leaf × AuditsLeaf list leaf taken later end)))
+      ⊎ ((leaf : List ℕ) × Picks journal old leaf × AuditsLeaf list form leaf taken later end)))

@@ -1,16 +1,19 @@
 //! The audit of the journal at a path.
 ghost use Rattle.std.specs.Prelude.{◌≡◌, ◌≢◌, ◌∷◌, IfErr, IfOk, ℕ};
-ghost use Rattle.auditor.specs.Auditing.{AuditsBy, AuditsLeaf, IsTextOf, ReadsAmong, TellsFaults, TellsText};
+ghost use Rattle.auditor.specs.Auditing.{AuditsBy, AuditsLeaf, IsShownAs, ReadsAmong, TellsFaults, TellsText};
+ghost use Rattle.auditor.specs.Lines.{text_of};
 ghost use Rattle.handler.specs.Hosts.{files_of};
 ghost use Rattle.journal.specs.Leaf.{IsBroken};
 
 use crate::ending::{AuditEnd, Finding, finding_of, found, refused, unread};
 use crate::files::read_picked;
-use crate::lines::text_of;
+use crate::form::Form;
+use crate::lines::{drawing_of, text_of};
 use as4_audit::{AuditRefusal, audit, records_of};
+use as4_effects::Effect;
 use as4_flow::{SendFailed, Sink, send_all};
 use as4_host::Host;
-use as4_values::NoMemory;
+use as4_values::{NoMemory, Seq};
 use handler::read_modes;
 use journal::{LeafRefusal, leaf_records};
 use pmodes::Modes;
@@ -18,15 +21,16 @@ use std::alloc::Global;
 
 /// Audits the journal at a path by the modes of a file. It writes a line for each change after the start of the leaf,
 /// up to the first record that isn't right, and then `yes` with the number of events, or `no` with the place of that
-/// record. It changes no file, and locks none.
+/// record; or it draws them. It changes no file, and locks none.
 pub fn audit_journal<H: Host, O: Sink>(
     alloc: Global,
     host: &mut H,
     modes: &str,
     journal: &str,
+    form: Form,
     output: &mut O,
 ) -> AuditEnd
-    ensures audits { AuditsBy H.Host modes.now journal.now host.old host.new (O.taken output.old) (O.taken output.new) result }
+    ensures audits { AuditsBy H.Host modes.now journal.now form host.old host.new (O.taken output.old) (O.taken output.new) result }
     ensures reads { ReadsAmong H.Host (modes.now ∷ files_of journal.now) host.old host.new }
     ensures host { TellsFaults AuditEnd.HostFault result (H.fault_count host.old) (H.fault_count host.new) }
     ensures faults { TellsFaults AuditEnd.WriteFault result (O.faults output.old) (O.faults output.new) }
@@ -37,7 +41,7 @@ pub fn audit_journal<H: Host, O: Sink>(
     };
     let end = match read_picked(alloc, host, journal) {
         Ok(leaf) => {
-            let end = audit_leaf(alloc, &modes, leaf.bytes(), output);
+            let end = audit_leaf(alloc, &modes, leaf.bytes(), form, output);
             drop(leaf);
             end
         }
@@ -48,24 +52,36 @@ pub fn audit_journal<H: Host, O: Sink>(
 }
 
 // Audits a leaf, and writes the lines.
-fn audit_leaf<O: Sink>(alloc: Global, modes: &Modes, leaf: &[u8], output: &mut O) -> AuditEnd
-    ensures audits { AuditsLeaf modes.now leaf.now (O.taken output.old) (O.taken output.new) result }
+fn audit_leaf<O: Sink>(
+    alloc: Global,
+    modes: &Modes,
+    leaf: &[u8],
+    form: Form,
+    output: &mut O,
+) -> AuditEnd
+    ensures audits { AuditsLeaf modes.now form leaf.now (O.taken output.old) (O.taken output.new) result }
     ensures faults { TellsFaults AuditEnd.WriteFault result (O.faults output.old) (O.faults output.new) }
     ensures here { result ≢ AuditEnd.HostFault }
 {
     match audit(alloc, modes, leaf) {
-        Ok(said) => tell(alloc, leaf, finding_of(said), output),
+        Ok(said) => tell(alloc, leaf, form, finding_of(said), output),
         Err(refusal) => refused(refusal),
     }
 }
 
-// Writes the lines of an audit of this leaf.
-fn tell<O: Sink>(alloc: Global, leaf: &[u8], finding: Finding, output: &mut O) -> AuditEnd
-    ensures tells { TellsText leaf.now finding (O.taken output.old) (O.taken output.new) result }
+// Writes the text of an audit of this leaf.
+fn tell<O: Sink>(
+    alloc: Global,
+    leaf: &[u8],
+    form: Form,
+    finding: Finding,
+    output: &mut O,
+) -> AuditEnd
+    ensures tells { TellsText form leaf.now finding (O.taken output.old) (O.taken output.new) result }
     ensures faults { TellsFaults AuditEnd.WriteFault result (O.faults output.old) (O.faults output.new) }
     ensures here { result ≢ AuditEnd.HostFault }
 {
-    match text_of_leaf(alloc, leaf, finding) {
+    match text_of_leaf(alloc, leaf, form, finding) {
         Ok(text) => {
             let end = match send_all(output, &text) {
                 Ok(()) => found(finding),
@@ -79,8 +95,13 @@ fn tell<O: Sink>(alloc: Global, leaf: &[u8], finding: Finding, output: &mut O) -
 }
 
 // The text of an audit of this leaf.
-fn text_of_leaf(alloc: Global, leaf: &[u8], finding: Finding) -> Result<Vec<u8>, AuditRefusal>
-    ensures text { IfOk result (λ text. IsTextOf leaf.now finding text.items) }
+fn text_of_leaf(
+    alloc: Global,
+    leaf: &[u8],
+    form: Form,
+    finding: Finding,
+) -> Result<Vec<u8>, AuditRefusal>
+    ensures text { IfOk result (λ text. IsShownAs form leaf.now finding text.items) }
     ensures not_journal { IfErr result (λ e. (at : ℕ) → e ≡ AuditRefusal.NotJournal at → IsBroken at leaf.now) }
 {
     let bodies = match leaf_records(alloc, leaf) {
@@ -93,10 +114,25 @@ fn text_of_leaf(alloc: Global, leaf: &[u8], finding: Finding) -> Result<Vec<u8>,
     let Ok(records) = records else {
         return Err(AuditRefusal::NoMemory);
     };
-    let text = text_of(alloc, records.items(), finding);
+    let text = shown_as(alloc, form, records.items(), finding);
     drop(records);
     match text {
         Ok(text) => Ok(text),
         Err(NoMemory) => Err(AuditRefusal::NoMemory),
+    }
+}
+
+// The records of an audit that found this, in this form.
+fn shown_as(
+    alloc: Global,
+    form: Form,
+    records: &[Option<Seq<Effect>>],
+    finding: Finding,
+) -> Result<Vec<u8>, NoMemory>
+    ensures { form ≡ Form.Lines → IfOk result (λ text. text.items ≡ text_of records.now finding) }
+{
+    match form {
+        Form::Lines => text_of(alloc, records, finding),
+        Form::Drawing => drawing_of(alloc, records, finding),
     }
 }

@@ -1,10 +1,11 @@
 //! The lines of an audit: one for each change that is no part of a compaction, and the answer.
 ghost use Rattle.std.specs.Prelude.{◌≡◌, ◌++◌, IfOk, OnOk, drop, take};
-ghost use Rattle.auditor.specs.Lines.{answer_line, changes_of, line_of, lines_of, received_after, received_in, received_over, record_lines, text_of};
+ghost use Rattle.auditor.specs.Lines.{answer_line, changes_of, line_of, lines_of, received_after, received_in, received_over, record_lines, right_records, text_of};
 
 use crate::ending::Finding;
 use crate::pieces::{add_named, add_number};
 use as4_audit::start_of;
+use as4_draw::draw_journal;
 use as4_effects::Effect;
 use as4_values::{NoMemory, Seq};
 use std::alloc::Global;
@@ -18,19 +19,34 @@ pub(crate) fn text_of(
     ensures { IfOk result (λ text. text.items ≡ text_of records.now finding) }
 {
     let start = start_of(records);
-    let right = match finding {
-        Finding::Yes { .. } => records,
-        Finding::No { index } => first(records, index),
-    };
     let mut text = Vec::new(alloc);
     let received = add_records(&mut text, 0, first(records, start as u64))?;
     text.clear();
-    add_records(&mut text, received, behind(right, start))?;
+    add_records(&mut text, received, after(right_records(records, finding), start))?;
     add_answer(&mut text, finding)?;
     Ok(text)
 }
 
-// The first so many records.
+/// A drawing of the same records.
+pub(crate) fn drawing_of(
+    alloc: Global,
+    records: &[Option<Seq<Effect>>],
+    finding: Finding,
+) -> Result<Vec<u8>, NoMemory> {
+    draw_journal(alloc, right_records(records, finding), start_of(records))
+}
+
+// The records before which an audit found nothing wrong.
+fn right_records(records: &[Option<Seq<Effect>>], finding: Finding) -> &[Option<Seq<Effect>>]
+    ensures { result.now ≡ take (right_records records.now finding) records.now }
+{
+    match finding {
+        Finding::Yes { .. } => records,
+        Finding::No { index } => first(records, index),
+    }
+}
+
+// This number of records at the front.
 fn first(records: &[Option<Seq<Effect>>], count: u64) -> &[Option<Seq<Effect>>]
     ensures { result.now ≡ take count records.now }
 {
@@ -41,8 +57,8 @@ fn first(records: &[Option<Seq<Effect>>], count: u64) -> &[Option<Seq<Effect>>]
     }
 }
 
-// The records behind the first so many.
-fn behind(records: &[Option<Seq<Effect>>], count: usize) -> &[Option<Seq<Effect>>]
+// The records after this number of them.
+fn after(records: &[Option<Seq<Effect>>], count: usize) -> &[Option<Seq<Effect>>]
     ensures { result.now ≡ drop count records.now }
 {
     &records[count.min(records.len())..]

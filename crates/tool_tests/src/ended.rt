@@ -134,6 +134,42 @@ pub(crate) fn end_over(
     }
 }
 
+/// Whether the run of the words over a host, with this input, has this status and these errors, and its output begins so.
+pub(crate) fn begins_over(
+    alloc: Global,
+    words: &Seq<Octets>,
+    file: &[u8],
+    host: &mut MemoryHost,
+    wanted: Wanted,
+) -> bool {
+    let (status, front, told) = wanted;
+    match end_of(alloc, words, file, NOTHING_FAILS, host) {
+        Ok(end) => {
+            end.status == status
+                && end.written.as_slice().starts_with(front)
+                && end.told.as_slice() == told
+        }
+        Err(_) => false,
+    }
+}
+
+/// The number of lines that a run of the words over a host writes, if it ends with success.
+pub(crate) fn count_over(
+    alloc: Global,
+    words: &Seq<Octets>,
+    host: &mut MemoryHost,
+) -> Option<usize> {
+    match end_of(alloc, words, b"", NOTHING_FAILS, host) {
+        Ok(end) => {
+            let lines = end.written.iter().filter(|byte| **byte == b'\n').count();
+            let is_done = end.status == 0;
+            drop(end);
+            if is_done { Some(lines) } else { None }
+        }
+        Err(_) => None,
+    }
+}
+
 /// Whether the run of this line's words, with this input, ends so.
 pub(crate) fn ends(
     alloc: Global,

@@ -10,8 +10,12 @@ mod ended;
 #[cfg(test)]
 mod handlers;
 #[cfg(test)]
+mod journals;
+#[cfg(test)]
 mod services;
 #[cfg(test)]
 mod statuses;
+#[cfg(test)]
+mod suites;
 #[cfg(test)]
 mod words;

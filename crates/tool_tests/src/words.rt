@@ -2,8 +2,8 @@
 
 use crate::ended::{NOTHING_FAILS, end_so, ends, words_of};
 use as4_tool::{
-    Collection, Command, HELP, LIMIT, MAX_COUNT, Service, Submission, VERSION, WordsRefusal,
-    command_of, texts_of,
+    Collection, Command, HELP, Journal, LIMIT, MAX_COUNT, Relaying, Service, Submission, Suite,
+    VERSION, WordsRefusal, command_of, texts_of,
 };
 use as4_values::{MAX_ADDRESS, MAX_MOMENT, Octets, Seq};
 use drill::{MAX_EVENTS, MAX_LINES, MAX_MODES};
@@ -101,7 +101,12 @@ const SERVICE: Service = Service {
     keep: 1,
 };
 
-const COMMANDS: [(&str, Command); 17] = [
+const JOURNAL: Journal = Journal {
+    modes: "m.toml",
+    journal: "j",
+};
+
+const COMMANDS: [(&str, Command); 24] = [
     ("-h", Command::Help),
     ("-V", Command::Version),
     ("submit --help", Command::Help),
@@ -170,7 +175,8 @@ const COMMANDS: [(&str, Command); 17] = [
     ),
     ("answer 0 0", Command::Answer { stamp: 0, nonce: 0 }),
     ("check", Command::Check),
-    ("drill", Command::Drill),
+    ("drill", Command::Drill { draws: false }),
+    ("drill --draw", Command::Drill { draws: true }),
     (
         "drill --generate 0 1",
         Command::Generate { seed: 0, count: 1 },
@@ -182,6 +188,31 @@ const COMMANDS: [(&str, Command); 17] = [
             count: 1_000,
         },
     ),
+    (
+        "audit m.toml j",
+        Command::Audit {
+            of: JOURNAL,
+            draws: false,
+        },
+    ),
+    (
+        "audit --draw m.toml j",
+        Command::Audit {
+            of: JOURNAL,
+            draws: true,
+        },
+    ),
+    (
+        "relay m.toml j m 1048576",
+        Command::Relay(Relaying {
+            from: JOURNAL,
+            mode: "m",
+            count: 1_048_576,
+        }),
+    ),
+    ("suite", Command::Suite(Suite::Check)),
+    ("suite --verify", Command::Suite(Suite::Verify)),
+    ("suite --list", Command::Suite(Suite::List)),
 ];
 
 /// The first of these lines that isn't read as its command.
@@ -199,7 +230,7 @@ fn commands_are_read_with_numbers_in_range(rt: HostRuntime) {
     assert_eq!(rt; first_other(rt.alloc(), &COMMANDS), None);
 }
 
-const NO_COMMANDS: [&str; 35] = [
+const NO_COMMANDS: [&str; 44] = [
     "handler m.toml j http://h:1/ http://h:2/ --workers 0",
     "handler m.toml j http://h:1/ http://h:2/ --workers 12",
     "handler m.toml j http://h:1/ http://h:2/ --workers 04",
@@ -232,6 +263,15 @@ const NO_COMMANDS: [&str; 35] = [
     "drill --generate 0 -1",
     "drill --generate 0",
     "drill --generate 0 1 2",
+    "drill --draw --generate 0 1",
+    "drill --draw=true",
+    "drill --draw --draw",
+    "audit m.toml",
+    "audit m.toml j k",
+    "relay m.toml j m 1048577",
+    "relay m.toml j  1",
+    "suite --verify --list",
+    "suite 1",
     "drill --Generate 0 1",
     "Drill --generate 0 1",
     "Drill",
@@ -310,7 +350,7 @@ fn help_and_version_are_written(rt: HostRuntime) {
 }
 
 /// Lines that a user relies on.
-const HELP_PARTS: [&str; 30] = [
+const HELP_PARTS: [&str; 34] = [
     "\n  as4 handler MODES JOURNAL PEER LOCAL  ",
     "\n  as4 submit LOCAL MODE CONVERSATION MEDIA  ",
     "\n  as4 collect LOCAL FIRST COUNT FOLDER  ",
@@ -318,9 +358,13 @@ const HELP_PARTS: [&str; 30] = [
     "9  host fault:",
     "10  not a journal at N:",
     "12  bad response:",
+    "14  relay:",
     "\n  as4 answer STAMP NONCE  ",
     "\n  as4 check  ",
-    "\n  as4 drill  ",
+    "\n  as4 drill [--draw]  ",
+    "\n  as4 audit MODES JOURNAL [--draw]  ",
+    "\n  as4 relay MODES JOURNAL MODE COUNT  ",
+    "\n  as4 suite [--verify | --list]  ",
     "\n  as4 drill --generate SEED COUNT  ",
     "\n  as4 --help, as4 COMMAND --help  ",
     "\n  as4 --version  ",

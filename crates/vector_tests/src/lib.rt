@@ -1,4 +1,4 @@
-//! Tests of `as4_vectors`, by what it makes public.
+//! Tests of `conformance` and `as4_vectors`, by what they make public.
 #![tactic(auto)]
 
 #[cfg(test)]

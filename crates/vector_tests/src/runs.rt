@@ -1,7 +1,8 @@
 //! Runs of few rows: what they write, and how they end.
 use as4_flow::MemorySink;
-use as4_vectors::{
-    Case, Exchange, Play, SuiteEnd, Vector, VectorEnd, cases, run_exchanges, run_plays, run_suite,
+use as4_vectors::cases;
+use conformance::{
+    Case, Exchange, Play, SuiteEnd, Vector, VectorEnd, run_exchanges, run_plays, run_suite,
     run_vectors,
 };
 use std::alloc::{AllocError, Global};

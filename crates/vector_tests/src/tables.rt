@@ -1,6 +1,7 @@
 //! The tables of the crate.
 use as4_flow::MemorySink;
-use as4_vectors::{VectorEnd, exchanges, plays, run_exchanges, run_plays, run_vectors, vectors};
+use as4_vectors::{exchanges, plays, vectors};
+use conformance::{VectorEnd, run_exchanges, run_plays, run_vectors};
 use std::alloc::Global;
 use std::test::Fail;
 

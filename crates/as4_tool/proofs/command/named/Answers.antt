@@ -2,7 +2,7 @@ use Rattle.std.proofs.Common.{◌≡◌, codes, option_map, Some}
 use Rattle.clap.specs.Matches.{found_of}
 use Rattle.clap.specs.Walk.{rows_of}
 use Rattle.as4_tool.specs.Command.{name_of, task_of}
-use Rattle.as4_tool.proofs.TaskLemmas.{only_audit, only_collect, only_handler, only_relay}
+use Rattle.as4_tool.proofs.TaskLemmas.{only_audit, only_collect, only_handler, only_relay, only_suite}
 use Rattle.as4_tool.proofs.command.named.Goals as goal
 
 pub returns-in-handler-clause-only : goal.returns-in-handler-clause-only
@@ -24,3 +24,8 @@ pub returns-in-relay-clause-only : goal.returns-in-relay-clause-only
 returns-in-relay-clause-only c task named =
     let called : name_of task ≡ codes "relay" = cc in
     only_relay (rows_of (found_of c.args.found.now)) (λ t. option_map task_of c.relay_of.result ≡ Some t) c.relay_of.ensures.only task called
+
+pub returns-in-suite-clause-only : goal.returns-in-suite-clause-only
+returns-in-suite-clause-only c task named =
+    let called : name_of task ≡ codes "suite" = cc in
+    only_suite (rows_of (found_of c.args.found.now)) (λ t. option_map task_of c.suite_of.result ≡ Some t) c.suite_of.ensures.only task called

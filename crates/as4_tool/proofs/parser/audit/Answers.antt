@@ -7,4 +7,4 @@ use Rattle.as4_tool.proofs.parser.audit.Goals as goal
 pub returns : goal.returns
 returns c =
     let new : IsApp (new_app (codes "audit")) c.new.result = record { form = c.new.ensures.app; local = c.new.ensures.local } in
-    IfOk-weaker c.with_value-2.result _ _ (λ r adds. adds _ (c.in_ok-audit.ensures _ new)) c.with_value-2.ensures
+    IfOk-weaker c.with_flag.result _ _ (λ r adds. adds _ (c.in_ok-audit-2.ensures _ (c.in_ok-audit.ensures _ new))) c.with_flag.ensures

@@ -5,7 +5,7 @@ use Rattle.as4_tool.proofs.parser.drill.Goals as goal
 
 pub returns : goal.returns
 returns c =
-    IfOk-weaker c.arg.result _ _ (λ r adds. record {
-      form = adds.shape c.generate.ensures.local ∙ ap₂ with_rule c.new.ensures.app c.generate.ensures.rule;
+    IfOk-weaker c.with_flag.result _ _ (λ r adds. adds _ (record {
+      form = c.in_ok-drill.ensures.shape c.generate.ensures.local ∙ ap₂ with_rule c.new.ensures.app c.generate.ensures.rule;
       local = search rules;
-    }) c.arg.ensures
+    })) c.with_flag.ensures

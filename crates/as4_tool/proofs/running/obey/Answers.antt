@@ -30,3 +30,10 @@ returns-in-Audit-clause-runs g c = rw c.in-Audit.is (record { does = c.audit.ens
 
 pub returns-in-Relay-clause-runs : goal.returns-in-Relay-clause-runs
 returns-in-Relay-clause-runs g c = rw c.in-Relay.is (record { does = c.relay.ensures; untouched = refl })
+
+pub returns-in-Suite-clause-runs : goal.returns-in-Suite-clause-runs
+returns-in-Suite-clause-runs g c =
+    rw c.in-Suite.is (record { does = (c.suite.ensures (g.I.Source.left c.args.input.now) (g.I.Source.faults c.args.input.now), refl); untouched = refl })
+
+pub returns-in-Suite-clause-alone : goal.returns-in-Suite-clause-alone
+returns-in-Suite-clause-alone g c is = absurd ((c.suite.ensures None 0).streamed.right is)

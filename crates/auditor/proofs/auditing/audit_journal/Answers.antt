@@ -10,7 +10,7 @@ returns-in-Err-clause-reads g c = reads_modes g.H.Host c.args.modes.now c.args.j
 
 pub returns-clause-audits : goal.returns-clause-audits
 returns-clause-audits g c =
-    let A = AuditsBy g.H.Host c.args.modes.now c.args.journal.now c.args.host.now c.read_picked.new.host (g.O.Sink.taken c.args.output.now) in
+    let A = AuditsBy g.H.Host c.args.modes.now c.args.journal.now c.args.form c.args.host.now c.read_picked.new.host (g.O.Sink.taken c.args.output.now) in
     let same = c.in-Ok.ensures.reads.files in
     let count = c.in-Ok.ensures.faults (λ wrong. cc) in
     elim c.match-read_picked.branch [

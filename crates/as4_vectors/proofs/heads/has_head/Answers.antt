@@ -1,8 +1,0 @@
-use Rattle.httparse.specs.Grammar.{HasNoRequest}
-use Rattle.as4_vectors.proofs.HeadLemmas.{unended_ended}
-use Rattle.as4_vectors.proofs.heads.has_head.Goals as goal
-
-pub returns-in-Ok-Partial-clause-no : goal.returns-in-Ok-Partial-clause-no
-returns-in-Ok-Partial-clause-no c is more head rest reads few =
-    let none : HasNoRequest c.args.bytes.now = rw c.in-Ok-Partial.field-0-is at c.in-Ok-Partial.ensures.partial in
-    unended_ended c.args.bytes.now more head rest none reads
