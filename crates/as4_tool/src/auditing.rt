@@ -18,12 +18,6 @@ pub(crate) fn audit<O: Sink, H: Host>(
 ) -> Status
     ensures { RunsAudit H.Host O.Sink of.entry.modes.now of.entry.journal.now draws result host.old host.new output.old output.new }
 {
-    let form = if draws {
-        Form::Drawing
-    } else {
-        Form::Lines
-    };
-    Status::of_audit(audit_journal(
-        alloc, host, of.modes, of.journal, form, output,
-    ))
+    let form = if draws { Form::Drawing } else { Form::Lines };
+    Status::of_audit(audit_journal(alloc, host, of.modes, of.journal, form, output))
 }

@@ -192,13 +192,7 @@ fn refused_among(alloc: Global, modes: &Modes, leaf: &[u8], count: u64) -> Optio
 }
 
 /// Audits the leaf with another byte at this place.
-fn change(
-    alloc: Global,
-    modes: &Modes,
-    leaf: &[u8],
-    place: usize,
-    by: u8,
-) -> Option<Changed> {
+fn change(alloc: Global, modes: &Modes, leaf: &[u8], place: usize, by: u8) -> Option<Changed> {
     let mut changed = Vec::from_slice(alloc, leaf).ok()?;
     if place < changed.len() {
         changed[place] ^= by | 1;

@@ -22,7 +22,11 @@ pub(crate) fn text_of(
     let mut text = Vec::new(alloc);
     let received = add_records(&mut text, 0, first(records, start as u64))?;
     text.clear();
-    add_records(&mut text, received, after(right_records(records, finding), start))?;
+    add_records(
+        &mut text,
+        received,
+        after(right_records(records, finding), start),
+    )?;
     add_answer(&mut text, finding)?;
     Ok(text)
 }

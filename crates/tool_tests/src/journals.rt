@@ -152,14 +152,7 @@ fn host_with(alloc: Global, row: &Row) -> Option<MemoryHost> {
 fn ends(alloc: Global, row: &Row) -> Option<bool> {
     let mut host = host_with(alloc, row)?;
     let words = words_of(alloc, row.line).ok()?;
-    Some(end_over(
-        alloc,
-        &words,
-        b"",
-        NOTHING_FAILS,
-        &mut host,
-        row.wanted,
-    ))
+    Some(end_over(alloc, &words, b"", NOTHING_FAILS, &mut host, row.wanted))
 }
 
 /// The first row with another end.
@@ -200,13 +193,7 @@ fn an_audit_tells_that_the_output_failed(rt: HostRuntime) {
 fn is_drawn(alloc: Global, leaf: &'static [u8], status: u8) -> Option<bool> {
     let mut host = host_with(alloc, &Row { leaf, ..AUDIT })?;
     let words = words_of(alloc, "audit --draw modes j").ok()?;
-    Some(begins_over(
-        alloc,
-        &words,
-        b"",
-        &mut host,
-        (status, b"<svg ", b""),
-    ))
+    Some(begins_over(alloc, &words, b"", &mut host, (status, b"<svg ", b"")))
 }
 
 #[test]

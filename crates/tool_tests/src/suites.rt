@@ -25,13 +25,7 @@ fn a_suite_is_verified_row_by_row(rt: HostRuntime) {
 fn begins(alloc: Global, line: &str, input: &[u8], front: &[u8]) -> Option<bool> {
     let mut host = host_of(alloc, &[])?;
     let words = words_of(alloc, line).ok()?;
-    Some(begins_over(
-        alloc,
-        &words,
-        input,
-        &mut host,
-        (0, front, b""),
-    ))
+    Some(begins_over(alloc, &words, input, &mut host, (0, front, b"")))
 }
 
 /// The first row of the listed messages.
@@ -45,7 +39,10 @@ fn a_suite_is_listed(rt: HostRuntime) {
 #[test]
 fn a_drill_is_drawn(rt: HostRuntime) {
     let script = b"mode m push 3 1000\nsubmit a m none\n";
-    assert_eq!(rt; begins(rt.alloc(), "drill --draw", script, b"<svg "), Some(true));
+    assert_eq!(rt;
+        begins(rt.alloc(), "drill --draw", script, b"<svg "),
+        Some(true)
+    );
 }
 
 #[test]
