@@ -1,16 +1,13 @@
 -- What an audit reads of its host.
-use Rattle.std.proofs.Common.{◌≡◌, ◌⊎◌, ℕ, suc, Bool, true, false, if◌then◌else◌, List, [], ◌∷◌, Option, Contains, All, refl, sym, ap, subst, ◌∙◌, inl, inr, arith}
+use Rattle.std.proofs.Common.{◌≡◌, ◌⊎◌, ℕ, suc, Bool, true, false, if◌then◌else◌, List, [], ◌∷◌, Contains, refl, ap, subst, ◌∙◌, inl, inr, arith}
 use Rattle.std.proofs.lemmas.List.Elements.{All-cons, All-contains, All-nil}
-use Rattle.as4_audit.specs.declared.finding.Audit.{Audit}
-use Rattle.as4_disk.specs.declared.part.Part.{Part}
 use Rattle.as4_disk.specs.declared.part.Part.TheVariants.{Leaf0, Leaf1, Selector}
-use Rattle.as4_flow.specs.Flow.{Rose, Told}
-use Rattle.as4_host.specs.Files.{IsLonger, bytes_in}
+use Rattle.as4_flow.specs.Flow.{Rose}
+use Rattle.as4_host.specs.Files.{bytes_in}
 use Rattle.as4_host.specs.declared.host.Host.{Ghosts as HostMeaning}
 use Rattle.auditor.specs.Auditing.{Holds, IsUnpicked, IsUnread, Picks, ReadsAmong}
 use Rattle.auditor.specs.declared.ending.AuditEnd.{AuditEnd}
 use Rattle.auditor.specs.declared.ending.AuditEnd.TheVariants.{Yes, No, NoMemory, WriteFault, ModesRefused, HostFault, NotJournal, TooLong}
-use Rattle.auditor.specs.declared.files.TheConstants.{LEAF_LIMIT}
 use Rattle.handler.specs.Handling.{Reads}
 use Rattle.handler.specs.Hosts.{file_of, files_of}
 use Rattle.handler.proofs.HostLemmas.{asks_then, asks_within, counts_then}

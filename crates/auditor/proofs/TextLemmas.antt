@@ -1,5 +1,5 @@
 -- What is written of an audit.
-use Rattle.std.proofs.Common.{◌≡◌, ◌⊎◌, ℕ, List, Option, inl, inr}
+use Rattle.std.proofs.Common.{ℕ, List, Option, inl, inr}
 use Rattle.as4_audit.specs.Audit.{IsAuditOf}
 use Rattle.as4_audit.specs.declared.finding.Audit.{Audit}
 use Rattle.auditor.specs.Auditing.{AuditsLeaf, TellsText}

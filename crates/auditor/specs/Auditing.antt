@@ -11,7 +11,7 @@ use Rattle.as4_host.specs.declared.host.Host.{Ghosts as HostMeaning}
 use Rattle.auditor.specs.Ends.{end_found, end_unread, finding_of}
 use Rattle.auditor.specs.Lines.{text_of}
 use Rattle.auditor.specs.declared.ending.AuditEnd.{AuditEnd}
-use Rattle.auditor.specs.declared.ending.AuditEnd.TheVariants.{Yes, No, NoMemory, WriteFault, ModesRefused, HostFault, NotJournal, TooLong}
+use Rattle.auditor.specs.declared.ending.AuditEnd.TheVariants.{NoMemory, WriteFault, HostFault, NotJournal, TooLong}
 use Rattle.auditor.specs.declared.ending.Finding.{Finding}
 use Rattle.auditor.specs.declared.files.TheConstants.{LEAF_LIMIT}
 use Rattle.auditor.specs.declared.form.Form.{Form}

@@ -1,4 +1,4 @@
-use Rattle.std.proofs.Common.{◌≡◌, ◌∷◌, refl, inl, inr, sym, subst}
+use Rattle.std.proofs.Common.{◌∷◌, refl, inl, inr, sym, subst}
 use Rattle.auditor.specs.Auditing.{AuditsBy}
 use Rattle.auditor.proofs.ReadingLemmas.{picked_before, reads_files, reads_modes, reads_then, unpicked_before}
 use Rattle.auditor.proofs.auditing.audit_journal.Goals as goal

@@ -1,4 +1,4 @@
-use Rattle.std.proofs.Common.{rules, ◌≡◌, refl, inl, ◌∙◌}
+use Rattle.std.proofs.Common.{rules, ◌≡◌, refl, inl}
 use Rattle.std.proofs.lemmas.Result.{IfErr-weaker, IfOk-weaker}
 use Rattle.as4_disk.specs.declared.part.Part.TheVariants.{Leaf1, Selector}
 use Rattle.handler.specs.Hosts.{file_of}
