@@ -1,5 +1,5 @@
 -- Which tasks a command of this name does, and the words that spell them.
-use Rattle.std.proofs.Common.{◌≡◌, ◌≢◌, ◌⊎◌, inl, inr, ℕ, zero, suc, List, [], ◌∷◌, Option, Some, None, option_map, get_or, codes, refl, sym, ◌∙◌, ap, subst, arith, Bor, map, take, ◌++◌, ◌+◌, ◌<◌, ◌≤◌, length, ◌^◌, unwrap_or}
+use Rattle.std.proofs.Common.{◌≡◌, ◌≢◌, ◌⊎◌, inl, inr, ℕ, zero, suc, List, [], ◌∷◌, Option, Some, None, option_map, get_or, codes, refl, sym, ◌∙◌, ap, subst, arith, Bor, map, take, ◌++◌, ◌+◌, ◌*◌, ◌<◌, ◌≤◌, length, ◌^◌, unwrap_or}
 use Rattle.std.proofs.lemmas.List.{map-append, take_more}
 use Rattle.std.proofs.lemmas.List.Elements.{All-more}
 use Rattle.std.specs.List.{All}
@@ -25,18 +25,25 @@ use Rattle.as4_tool.specs.declared.command.Command.{Command}
 use Rattle.as4_tool.specs.declared.command.Suite.{Suite}
 use Rattle.as4_tool.specs.declared.command.Suite.TheVariants as what
 
+-- names of commands differ in their first three bytes
+abbrev key : List ℕ → ℕ
+key name = get_or name 0 0 + 256 * get_or name 1 0 + 65536 * get_or name 2 0
+
+differ : (one other : List ℕ) → key one ≢ key other → one ≡ other → ⊥
+differ one other apart same = apart (ap key same)
+
 -- the tasks of each name
 pub only_answer : (rows : List Row) (P : Task → Type 0)
     → ((stamp nonce : ℕ) → Gives rows (answer stamp nonce) → P (answer stamp nonce))
     → (task : Task) → name_of task ≡ codes "answer" → Gives rows task → P task
 only_answer rows P one (answer stamp nonce) named gives = one stamp nonce gives
-only_answer rows P one other named gives = cc named
+only_answer rows P one other named gives = absurd (differ (name_of other) (codes "answer") (λ same. omega (arith, same)) named)
 
 pub only_check : (rows : List Row) (P : Task → Type 0)
     → (Gives rows check → P check)
     → (task : Task) → name_of task ≡ codes "check" → Gives rows task → P task
 only_check rows P one check named gives = one gives
-only_check rows P one other named gives = cc named
+only_check rows P one other named gives = absurd (differ (name_of other) (codes "check") (λ same. omega (arith, same)) named)
 
 pub only_drill : (rows : List Row) (P : Task → Type 0)
     → ((draws : Bool) → Gives rows (drill draws) → P (drill draws))
@@ -44,43 +51,43 @@ pub only_drill : (rows : List Row) (P : Task → Type 0)
     → (task : Task) → name_of task ≡ codes "drill" → Gives rows task → P task
 only_drill rows P one two (drill draws) named gives = one draws gives
 only_drill rows P one two (generate seed count) named gives = two seed count gives
-only_drill rows P one two other named gives = cc named
+only_drill rows P one two other named gives = absurd (differ (name_of other) (codes "drill") (λ same. omega (arith, same)) named)
 
 pub only_handler : (rows : List Row) (P : Task → Type 0)
     → ((modes journal peer local : List ℕ) (workers turns keep : ℕ) → Gives rows (handler modes journal peer local workers turns keep) → P (handler modes journal peer local workers turns keep))
     → (task : Task) → name_of task ≡ codes "handler" → Gives rows task → P task
 only_handler rows P one (handler modes journal peer local workers turns keep) named gives = one modes journal peer local workers turns keep gives
-only_handler rows P one other named gives = cc named
+only_handler rows P one other named gives = absurd (differ (name_of other) (codes "handler") (λ same. omega (arith, same)) named)
 
 pub only_submit : (rows : List Row) (P : Task → Type 0)
     → ((local mode conversation media : List ℕ) → Gives rows (submit local mode conversation media) → P (submit local mode conversation media))
     → (task : Task) → name_of task ≡ codes "submit" → Gives rows task → P task
 only_submit rows P one (submit local mode conversation media) named gives = one local mode conversation media gives
-only_submit rows P one other named gives = cc named
+only_submit rows P one other named gives = absurd (differ (name_of other) (codes "submit") (λ same. omega (arith, same)) named)
 
 pub only_collect : (rows : List Row) (P : Task → Type 0)
     → ((local : List ℕ) (first count : ℕ) (folder : List ℕ) → Gives rows (collect local first count folder) → P (collect local first count folder))
     → (task : Task) → name_of task ≡ codes "collect" → Gives rows task → P task
 only_collect rows P one (collect local first count folder) named gives = one local first count folder gives
-only_collect rows P one other named gives = cc named
+only_collect rows P one other named gives = absurd (differ (name_of other) (codes "collect") (λ same. omega (arith, same)) named)
 
 pub only_audit : (rows : List Row) (P : Task → Type 0)
     → ((modes journal : List ℕ) (draws : Bool) → Gives rows (audit modes journal draws) → P (audit modes journal draws))
     → (task : Task) → name_of task ≡ codes "audit" → Gives rows task → P task
 only_audit rows P one (audit modes journal draws) named gives = one modes journal draws gives
-only_audit rows P one other named gives = cc named
+only_audit rows P one other named gives = absurd (differ (name_of other) (codes "audit") (λ same. omega (arith, same)) named)
 
 pub only_relay : (rows : List Row) (P : Task → Type 0)
     → ((modes journal mode : List ℕ) (count : ℕ) → Gives rows (relay modes journal mode count) → P (relay modes journal mode count))
     → (task : Task) → name_of task ≡ codes "relay" → Gives rows task → P task
 only_relay rows P one (relay modes journal mode count) named gives = one modes journal mode count gives
-only_relay rows P one other named gives = cc named
+only_relay rows P one other named gives = absurd (differ (name_of other) (codes "relay") (λ same. omega (arith, same)) named)
 
 pub only_suite : (rows : List Row) (P : Task → Type 0)
     → ((what : Suite) → Gives rows (suite what) → P (suite what))
     → (task : Task) → name_of task ≡ codes "suite" → Gives rows task → P task
 only_suite rows P one (suite what) named gives = one what gives
-only_suite rows P one other named gives = cc named
+only_suite rows P one other named gives = absurd (differ (name_of other) (codes "suite") (λ same. omega (arith, same)) named)
 
 -- words of a command, with its values, spell its task
 pub spelled : (words : List (List ℕ)) (task : Task) (rows : List Row) → Names words (name_of task) rows → Gives rows task → Spells words task
@@ -292,7 +299,7 @@ spells_once words (generate seed count) other first second =
     let reads = reads_of words other first.1.right second in
     let same = same_name words (codes "drill") (name_of other) first.0 reads.0 first.1 reads.1 in
     only_drill first.0 (λ t. generate seed count ≡ t)
-    (λ draws2 gives. cc (first.2.0, gives.0))
+    (λ draws2 gives. cc (first.2.0.0, gives.0))
     (λ seed2 count2 gives.
     let both = two_once (all_of (codes "generate") first.0) (decimal seed) (decimal count) (decimal seed2) (decimal count2) first.2.0.0 gives.0.0 in
     let seeds : seed ≡ seed2 = decimal_once seed seed2 (omega (arith, first.2.1)) (omega (arith, gives.1)) both.0 in

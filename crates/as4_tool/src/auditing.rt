@@ -1,4 +1,5 @@
 //! The command `audit`.
+ghost use Rattle.std.specs.Prelude.{◌≡◌, if◌then◌else◌};
 ghost use Rattle.as4_tool.specs.Runs.{RunsAudit};
 
 use crate::command::Journal;
@@ -18,6 +19,13 @@ pub(crate) fn audit<O: Sink, H: Host>(
 ) -> Status
     ensures { RunsAudit H.Host O.Sink of.entry.modes.now of.entry.journal.now draws result host.old host.new output.old output.new }
 {
-    let form = if draws { Form::Drawing } else { Form::Lines };
+    let form = form_of(draws);
     Status::of_audit(audit_journal(alloc, host, of.modes, of.journal, form, output))
+}
+
+// What is written of an audit.
+fn form_of(draws: bool) -> Form
+    ensures { result ≡ (if draws then Form.Drawing else Form.Lines) }
+{
+    if draws { Form::Drawing } else { Form::Lines }
 }

@@ -33,12 +33,10 @@ fn drawing_of(alloc: Global, script: &[u8]) -> Result<Vec<u8>, Status>
     ensures drawn { IfOk result (λ drawing. IsDrillOf script.now DrillEnd.Read) }
     ensures undrawn { IfErr result (IsUndrawn script.now) }
 {
-    let Ok(bytes) = Vec::from_slice(alloc, script) else {
+    let Ok((end, transcript)) = played(alloc, script) else {
         return Err(Status::NoMemory);
     };
-    let mut source = MemorySource::of(bytes, Vec::new(alloc), Vec::new(alloc));
-    let mut transcript = MemorySink::of(alloc, Vec::new(alloc), Vec::new(alloc));
-    match drill(alloc, &mut source, &mut transcript) {
+    match end {
         DrillEnd::Read => match draw_drill(alloc, script, transcript.bytes()) {
             Ok(drawing) => Ok(drawing),
             Err(NoMemory) => Err(Status::NoMemory),
@@ -47,4 +45,15 @@ fn drawing_of(alloc: Global, script: &[u8]) -> Result<Vec<u8>, Status>
         DrillEnd::TooMany => Err(Status::TooManyEvents),
         DrillEnd::ReadFault | DrillEnd::WriteFault | DrillEnd::NoMemory => Err(Status::NoMemory),
     }
+}
+
+// Plays a script: how its drill ends, and what it has written.
+fn played(alloc: Global, script: &[u8]) -> Result<(DrillEnd, MemorySink), NoMemory>
+    ensures { IfOk result (λ drilled. IsDrillOf script.now drilled.0) }
+{
+    let bytes = Vec::from_slice(alloc, script)?;
+    let mut source = MemorySource::of(bytes, Vec::new(alloc), Vec::new(alloc));
+    let mut transcript = MemorySink::of(alloc, Vec::new(alloc), Vec::new(alloc));
+    let end = drill(alloc, &mut source, &mut transcript);
+    Ok((end, transcript))
 }
