@@ -1,11 +1,10 @@
 -- The ends of the runs of the suite: their statuses, and which stream has failed.
-use Rattle.std.proofs.Common.{◌≡◌, ◌≢◌, ◌≤◌, ◌==◌, ◌&&◌, ◌⊎◌, ℕ, List, [], ◌∷◌, Bool, true, false, if◌then◌else◌, Option, None, inl, inr, refl, sym, subst, arith}
-use Rattle.as4_flow.specs.Flow.{Rose, Streams, between, flow}
+use Rattle.std.proofs.Common.{◌≡◌, ◌≢◌, ◌≤◌, ◌==◌, ◌&&◌, ℕ, List, Bool, true, false, if◌then◌else◌, Option, refl, sym, subst, arith}
+use Rattle.as4_flow.specs.Flow.{Rose, between, flow}
 use Rattle.conformance.specs.Cases.{IsCaseLine, IsListedLine, IsVectorLine, run_end}
 use Rattle.conformance.specs.Exchanges.{IsExchangeLine}
 use Rattle.conformance.specs.Plays.{IsPlayLine}
 use Rattle.conformance.specs.Ran.{RunEnds}
-use Rattle.conformance.specs.declared.rows.VectorEnd.{VectorEnd}
 use Rattle.conformance.specs.declared.rows.VectorEnd.TheVariants as run
 use Rattle.conformance.specs.declared.suite.SuiteEnd.{SuiteEnd}
 use Rattle.conformance.specs.declared.suite.SuiteEnd.TheVariants as ending

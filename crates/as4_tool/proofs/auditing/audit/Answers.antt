@@ -12,7 +12,7 @@ returns g c =
       end = c.audit_journal.result;
       status_is = c.of_audit.ensures;
       audits = subst (λ form. AuditsBy g.H.Host modes journal form c.args.host.now c.audit_journal.new.host taken later c.audit_journal.result)
-          c.form_of.ensures c.audit_journal.ensures.audits;
+          c.form_of-form.ensures c.audit_journal.ensures.audits;
       reads = c.audit_journal.ensures.reads;
       write_faults = search rules;
       host_faults = search rules;
