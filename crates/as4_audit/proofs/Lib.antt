@@ -7,5 +7,6 @@ pub mod MadeLemmas
 pub mod NonceLemmas
 pub mod RefusalLemmas
 pub mod StampLemmas
+pub mod StartLemmas
 pub mod SubmitLemmas
 pub mod WalkLemmas

@@ -1,143 +1,205 @@
 -- Records are taken one after the other.
-use Rattle.std.proofs.Common.{◌≡◌, ℕ, zero, suc, ◌+◌, ◌-◌, ◌<◌, ◌≤◌, List, [], ◌∷◌, ◌++◌, Bool, true, false, Option, Some, None, length, refl, sym, subst, append_assoc, arith}
-use Rattle.std.specs.Prelude.{nat_lt}
-use Rattle.std.proofs.lemmas.Bool.{ltb-true, ltb-false}
+use Rattle.std.proofs.Common.{◌≡◌, ℕ, zero, suc, ◌+◌, ◌≤◌, List, [], ◌∷◌, ◌++◌, Bool, true, false, if◌then◌else◌, Option, Some, None, length, refl, sym, subst, ap, ◌∙◌, append_assoc, arith}
+use Rattle.std.specs.Prelude.{is_some}
 use Rattle.std.proofs.lemmas.List.{append-nil}
-use Rattle.as4_audit.specs.Audit.{AllRead, AreRight, IsFirstWrong}
+use Rattle.as4_audit.specs.Audit.{AllRead, AreRight, IsAuditOf, IsFirstWrong, Reads, finding_of}
 use Rattle.as4_audit.specs.Made.{Fits, IsMade, Makes}
-use Rattle.as4_audit.specs.Taking.{AreCounted, IsPushed, IsTaken, IsWrong}
+use Rattle.as4_audit.specs.Start.{stage_after, start_of}
+use Rattle.as4_audit.specs.Taking.{IsAdded, IsTaken, IsWalk, IsWrong}
+use Rattle.as4_audit.specs.declared.finding.Audit.{Audit}
+use Rattle.as4_audit.specs.declared.finding.Audit.TheVariants as audit
+use Rattle.as4_audit.specs.declared.finding.Finding.TheVariants as finding
 use Rattle.as4_audit.specs.declared.walk.Taken.{Taken}
 use Rattle.as4_audit.specs.declared.walk.Taken.TheVariants as taken
+use Rattle.as4_audit.specs.declared.walk.Walked.TheVariants as walked
+use Rattle.as4_audit.proofs.ListLemmas.{read_all, read_more}
+use Rattle.as4_audit.proofs.StartLemmas.{left_in_none, left_off, left_on, start_left}
 use Rattle.as4_effects.specs.declared.effect.Effect.{Effect}
 use Rattle.exchange_model.specs.Apply.{applied}
-use Rattle.exchange_model.specs.End.{End}
+use Rattle.exchange_model.specs.End.{End, empty_end}
 use Rattle.exchange_model.specs.declared.event.Event.{Event}
 use Rattle.fold_laws.specs.Reached.{IsReached}
 use Rattle.fold_laws.proofs.ReachedLemmas.{reached_applied}
+use Rattle.journal.specs.Leaf.{Lists}
 use Rattle.mode_values.specs.declared.mode.Mode.{Mode}
 
--- what is said of the rest, from here, is said of all records
-pub record IsWalked (modes : List Mode) (start : ℕ) (first : End) (records : List (Option (List Effect))) (index : ℕ) (rest : List (Option (List Effect))) (now : End) (events : List Event) : Type 0 where
-  pub counted : AreCounted rest
-  pub placed : index + length rest ≡ length records
+-- whatever follows these bodies: what is said of the records that are left, from here, is said of all
+pub record IsWalkedTo (modes : List Mode) (first : End) (bodies : List (List ℕ)) (index : ℕ) (stage : Option ℕ) (start : ℕ) (now : End) (Holds : List Event → Type 0) : Type 0 where
+  pub done : List (Option (List Effect))
+  pub events : List Event
+  pub read : AllRead bodies done
+  pub within : start ≤ index
   pub reached : IsReached now
-  pub yes : (later : List Event) → AreRight modes (start - index) now rest later → AreRight modes start first records (events ++ later)
-  pub no : (n : ℕ) → IsFirstWrong modes (start - index) now rest n → IsFirstWrong modes start first records (index + n)
+  pub holds : Holds events
+  pub started : (rest : List (Option (List Effect))) → start_of (done ++ rest) ≡ start + start_left stage rest
+  pub yes : (rest : List (Option (List Effect))) (later : List Event) → AreRight modes (start_left stage rest) now rest later
+      → AreRight modes (start_of (done ++ rest)) first (done ++ rest) (events ++ later)
+  pub no : (rest : List (Option (List Effect))) (n : ℕ) → IsFirstWrong modes (start_left stage rest) now rest n
+      → IsFirstWrong modes (start_of (done ++ rest)) first (done ++ rest) (index + n)
 
-pub walked_none : (modes : List Mode) (start : ℕ) (first : End) (records : List (Option (List Effect))) → IsReached first → AreCounted records
-    → IsWalked modes start first records 0 records first []
-walked_none modes start first records reached counted = record {
-  counted = counted;
-  placed = omega arith;
+pub walked_none : (modes : List Mode) (first : End) (Holds : List Event → Type 0) → IsReached first → Holds []
+    → IsWalkedTo modes first [] 0 (Some 0) 0 first Holds
+walked_none modes first Holds reached none = record {
+  done = [];
+  events = [];
+  read = tt;
+  within = omega arith;
   reached = reached;
-  yes = λ later right. subst (λ k. AreRight modes k first records later) (let e : start - 0 ≡ start = omega arith in e) right;
-  no = λ n wrong. subst (IsFirstWrong modes start first records) (let e : n ≡ 0 + n = omega arith in e)
-      (subst (λ k. IsFirstWrong modes k first records n) (let e : start - 0 ≡ start = omega arith in e) wrong);
+  holds = none;
+  started = λ rest. (let e : start_of rest ≡ 0 + start_of rest = omega arith in e);
+  yes = λ rest later right. right;
+  no = λ rest n wrong. subst (IsFirstWrong modes (start_of rest) first rest) (let e : n ≡ 0 + n = omega arith in e) wrong;
 }
 
-pub walked_folded : (modes : List Mode) (start : ℕ) (first : End) (records : List (Option (List Effect))) (index : ℕ) (effects : List Effect)
-    (rest : List (Option (List Effect))) (now : End) (events : List Event)
-    → IsWalked modes start first records index (Some effects ∷ rest) now events → nat_lt index start ≡ true → Fits now effects
-    → IsWalked modes start first records (index + 1) rest (applied effects now) events
-walked_folded modes start first records index effects rest now events w inside fits =
-    let before : index < start = ltb-true index start inside in
-    let left : start - index ≡ suc (start - (index + 1)) = omega arith in
-    record {
-      counted = w.counted.1;
-      placed = let p : index + suc (length rest) ≡ length records = w.placed in omega arith;
-      reached = reached_applied now effects w.reached fits.fit;
-      yes = λ later right. w.yes later (subst (λ k. AreRight modes k now (Some effects ∷ rest) later) (sym left) (fits, right));
-      no = λ n wrong. subst (IsFirstWrong modes start first records) (let e : index + suc n ≡ (index + 1) + n = omega arith in e)
-          (w.no (suc n) (subst (λ k. IsFirstWrong modes k now (Some effects ∷ rest) (suc n)) (sym left) (fits, wrong)));
-    }
+module _ (modes : List Mode) (first : End) (bodies : List (List ℕ)) (index : ℕ) (stage : Option ℕ) (start : ℕ) (now : End) (Holds : List Event → Type 0)
+    (w : IsWalkedTo modes first bodies index stage start now Holds) (body : List ℕ) where
+  folded_on : (effects : List Effect) (More : List Event → Type 0) → Reads body (Some effects) → is_some (stage_after stage (Some effects)) ≡ true
+      → Fits now effects → ((events : List Event) → Holds events → More events)
+      → IsWalkedTo modes first (bodies ++ body ∷ []) (index + 1) (stage_after stage (Some effects)) (start + 1) (applied effects now) More
+  folded_on effects More reads inside fits adds =
+      let next = stage_after stage (Some effects) in
+      let whole : (rest : List (Option (List Effect))) → w.done ++ Some effects ∷ rest ≡ (w.done ++ Some effects ∷ []) ++ rest =
+      λ rest. sym (append_assoc w.done (Some effects ∷ []) rest) in
+      let left : (rest : List (Option (List Effect))) → start_left stage (Some effects ∷ rest) ≡ suc (start_left next rest) =
+      λ rest. left_on stage (Some effects) rest inside in
+      record {
+        done = w.done ++ Some effects ∷ [];
+        events = w.events;
+        read = read_more bodies w.done body (Some effects) w.read reads;
+        within = omega (arith, w.within);
+        reached = reached_applied now effects w.reached fits.fit;
+        holds = adds w.events w.holds;
+        started = λ rest. ap start_of (sym (whole rest)) ∙ w.started (Some effects ∷ rest)
+            ∙ (let e : start + start_left stage (Some effects ∷ rest) ≡ start + 1 + start_left next rest = omega (arith, left rest) in e);
+        yes = λ rest later right. subst (λ (rs : List (Option (List Effect))). AreRight modes (start_of rs) first rs (w.events ++ later)) (whole rest)
+            (w.yes (Some effects ∷ rest) later (subst (λ k. AreRight modes k now (Some effects ∷ rest) later) (sym (left rest)) (fits, right)));
+        no = λ rest n wrong. subst (λ (rs : List (Option (List Effect))). IsFirstWrong modes (start_of rs) first rs (index + 1 + n)) (whole rest)
+            (subst (IsFirstWrong modes (start_of (w.done ++ Some effects ∷ rest)) first (w.done ++ Some effects ∷ rest))
+            (let e : index + suc n ≡ index + 1 + n = omega arith in e)
+            (w.no (Some effects ∷ rest) (suc n) (subst (λ k. IsFirstWrong modes k now (Some effects ∷ rest) (suc n)) (sym (left rest)) (fits, wrong))));
+      }
 
-pub walked_made : (modes : List Mode) (start : ℕ) (first : End) (records : List (Option (List Effect))) (index : ℕ) (effects : List Effect)
-    (rest : List (Option (List Effect))) (now : End) (events : List Event) (event : Event)
-    → IsWalked modes start first records index (Some effects ∷ rest) now events → nat_lt index start ≡ false
-    → IsMade modes now effects → Makes modes now event effects
-    → IsWalked modes start first records (index + 1) rest (applied effects now) (events ++ event ∷ [])
-walked_made modes start first records index effects rest now events event w outside made makes =
-    let past : start ≤ index = ltb-false index start outside in
-    let left : start - index ≡ 0 = omega arith in
-    let still : start - (index + 1) ≡ 0 = omega arith in
-    record {
-      counted = w.counted.1;
-      placed = let p : index + suc (length rest) ≡ length records = w.placed in omega arith;
-      reached = reached_applied now effects w.reached made.fits.fit;
-      yes = λ later right. subst (AreRight modes start first records) (sym (append_assoc events (event ∷ []) later))
-          (w.yes (event ∷ later) (subst (λ k. AreRight modes k now (Some effects ∷ rest) (event ∷ later)) (sym left)
-          (made, makes, subst (λ k. AreRight modes k (applied effects now) rest later) still right)));
-      no = λ n wrong. subst (IsFirstWrong modes start first records) (let e : index + suc n ≡ (index + 1) + n = omega arith in e)
-          (w.no (suc n) (subst (λ k. IsFirstWrong modes k now (Some effects ∷ rest) (suc n)) (sym left)
-          (made, subst (λ k. IsFirstWrong modes k (applied effects now) rest n) still wrong)));
-    }
+  made_on : (effects : List Effect) (event : Event) (More : List Event → Type 0) → Reads body (Some effects)
+      → is_some (stage_after stage (Some effects)) ≡ false → IsMade modes now effects → Makes modes now event effects
+      → ((events : List Event) → Holds events → More (events ++ event ∷ []))
+      → IsWalkedTo modes first (bodies ++ body ∷ []) (index + 1) (stage_after stage (Some effects)) start (applied effects now) More
+  made_on effects event More reads outside made makes adds =
+      let next = stage_after stage (Some effects) in
+      let whole : (rest : List (Option (List Effect))) → w.done ++ Some effects ∷ rest ≡ (w.done ++ Some effects ∷ []) ++ rest =
+      λ rest. sym (append_assoc w.done (Some effects ∷ []) rest) in
+      let none : (rest : List (Option (List Effect))) → start_left stage (Some effects ∷ rest) ≡ 0 =
+      λ rest. (left_off stage (Some effects) rest outside).0 in
+      let still : (rest : List (Option (List Effect))) → start_left next rest ≡ 0 = λ rest. (left_off stage (Some effects) rest outside).1 in
+      record {
+        done = w.done ++ Some effects ∷ [];
+        events = w.events ++ event ∷ [];
+        read = read_more bodies w.done body (Some effects) w.read reads;
+        within = omega (arith, w.within);
+        reached = reached_applied now effects w.reached made.fits.fit;
+        holds = adds w.events w.holds;
+        started = λ rest. ap start_of (sym (whole rest)) ∙ w.started (Some effects ∷ rest)
+            ∙ (let e : start + start_left stage (Some effects ∷ rest) ≡ start + start_left next rest = omega (arith, none rest, still rest) in e);
+        yes = λ rest later right. subst (λ (rs : List (Option (List Effect))). AreRight modes (start_of rs) first rs ((w.events ++ event ∷ []) ++ later)) (whole rest)
+            (subst (AreRight modes (start_of (w.done ++ Some effects ∷ rest)) first (w.done ++ Some effects ∷ rest)) (sym (append_assoc w.events (event ∷ []) later))
+            (w.yes (Some effects ∷ rest) (event ∷ later) (subst (λ k. AreRight modes k now (Some effects ∷ rest) (event ∷ later)) (sym (none rest))
+            (made, makes, subst (λ k. AreRight modes k (applied effects now) rest later) (still rest) right))));
+        no = λ rest n wrong. subst (λ (rs : List (Option (List Effect))). IsFirstWrong modes (start_of rs) first rs (index + 1 + n)) (whole rest)
+            (subst (IsFirstWrong modes (start_of (w.done ++ Some effects ∷ rest)) first (w.done ++ Some effects ∷ rest))
+            (let e : index + suc n ≡ index + 1 + n = omega arith in e)
+            (w.no (Some effects ∷ rest) (suc n) (subst (λ k. IsFirstWrong modes k now (Some effects ∷ rest) (suc n)) (sym (none rest))
+            (made, subst (λ k. IsFirstWrong modes k (applied effects now) rest n) (still rest) wrong))));
+      }
 
-pub wrong_here : (modes : List Mode) (start : ℕ) (first : End) (records : List (Option (List Effect))) (index : ℕ) (effects : List Effect)
-    (rest : List (Option (List Effect))) (now : End) (events : List Event) (folded : Bool)
-    → IsWalked modes start first records index (Some effects ∷ rest) now events → folded ≡ nat_lt index start → IsWrong modes folded now effects
-    → IsFirstWrong modes start first records index
-wrong_here modes start first records index effects rest now events true w inside wrong =
-    let before : index < start = ltb-true index start (sym inside) in
-    let left : start - index ≡ suc (start - (index + 1)) = omega arith in
-    subst (IsFirstWrong modes start first records) (let e : index + 0 ≡ index = omega arith in e)
-    (w.no 0 (subst (λ k. IsFirstWrong modes k now (Some effects ∷ rest) 0) (sym left) wrong))
-wrong_here modes start first records index effects rest now events false w outside wrong =
-    let past : start ≤ index = ltb-false index start (sym outside) in
-    let left : start - index ≡ 0 = omega arith in
-    subst (IsFirstWrong modes start first records) (let e : index + 0 ≡ index = omega arith in e)
-    (w.no 0 (subst (λ k. IsFirstWrong modes k now (Some effects ∷ rest) 0) (sym left) wrong))
+  -- the number of records of the start with one more record
+  abbrev pub with_one : Option (List Effect) → ℕ
+  with_one item = if is_some (stage_after stage item) then start + 1 else start
 
-pub no_body_here : (modes : List Mode) (start : ℕ) (first : End) (records rest : List (Option (List Effect))) (index : ℕ) (now : End) (events : List Event)
-    → IsWalked modes start first records index (None ∷ rest) now events → IsFirstWrong modes start first records index
-no_body_here modes start first records rest index now events w =
-    subst (IsFirstWrong modes start first records) (let e : index + 0 ≡ index = omega arith in e) (w.no 0 (by_left (start - index)))
+  -- a record that is right
+  pub walked_on : (item : Option (List Effect)) (new : End) (More : List Event → Type 0) (result : Taken) → Reads body item
+      → IsTaken modes (is_some (stage_after stage item)) now new item result → IsAdded Holds More result true
+      → IsWalkedTo modes first (bodies ++ body ∷ []) (index + 1) (stage_after stage item) (with_one item) new More
+  walked_on None new More result reads is added =
+      let p : IsAdded Holds More taken.Wrong true = subst (λ (t : Taken). IsAdded Holds More t true) is added in
+      let no : true ≡ false = p in absurd cc
+  walked_on (Some effects) new More taken.Folded reads is added = rw (is.0, is.2) (folded_on effects More reads is.0 is.1 added.1)
+  walked_on (Some effects) new More (taken.Made event) reads is added = rw (is.0, is.3) (made_on effects event More reads is.0 is.1 is.2 added.1)
+  walked_on (Some effects) new More taken.Wrong reads is added = let no : true ≡ false = added in absurd cc
+
+  wrong_by : (effects : List Effect) (rest : List (Option (List Effect))) (folded : Bool) → is_some (stage_after stage (Some effects)) ≡ folded
+      → IsWrong modes folded now effects → IsFirstWrong modes (start_left stage (Some effects ∷ rest)) now (Some effects ∷ rest) 0
+  wrong_by effects rest true inside wrong = subst (λ k. IsFirstWrong modes k now (Some effects ∷ rest) 0) (sym (left_on stage (Some effects) rest inside)) wrong
+  wrong_by effects rest false outside wrong = subst (λ k. IsFirstWrong modes k now (Some effects ∷ rest) 0) (sym (left_off stage (Some effects) rest outside).0) wrong
+
+  none_wrong : (rest : List (Option (List Effect))) (left : ℕ) → IsFirstWrong modes left now (None ∷ rest) 0
+  none_wrong rest zero = refl
+  none_wrong rest (suc left) = refl
+
+  wrong_here : (item : Option (List Effect)) (rest : List (Option (List Effect))) (new : End) (More : List Event → Type 0) (result : Taken)
+      → IsTaken modes (is_some (stage_after stage item)) now new item result → IsAdded Holds More result false
+      → IsFirstWrong modes (start_left stage (item ∷ rest)) now (item ∷ rest) 0
+  wrong_here None rest new More result is added = none_wrong rest (start_left stage (None ∷ rest))
+  wrong_here (Some effects) rest new More taken.Folded is added = let no : false ≡ true = added.0 in absurd cc
+  wrong_here (Some effects) rest new More (taken.Made event) is added = let no : false ≡ true = added.0 in absurd cc
+  wrong_here (Some effects) rest new More taken.Wrong is added = wrong_by effects rest (is_some (stage_after stage (Some effects))) refl is
+
+  -- and one that isn't
+  pub walked_wrong : (item : Option (List Effect)) (new : End) (More : List Event → Type 0) (result : Taken) (others : List (List ℕ)) (rest : List (Option (List Effect)))
+      → Reads body item → AllRead others rest → IsTaken modes (is_some (stage_after stage item)) now new item result → IsAdded Holds More result false
+      → IsWalk modes first (bodies ++ body ∷ others) More (walked.Wrong index)
+  walked_wrong item new More result others rest reads all is added = record {
+    records = w.done ++ item ∷ rest;
+    read = read_all bodies w.done body item others rest w.read reads all;
+    says = subst (IsFirstWrong modes (start_of (w.done ++ item ∷ rest)) first (w.done ++ item ∷ rest)) (let e : index + 0 ≡ index = omega arith in e)
+        (w.no (item ∷ rest) 0 (wrong_here item rest new More result is added));
+  }
+
+-- all are right
+pub walked_all : (modes : List Mode) (first : End) (bodies : List (List ℕ)) (index : ℕ) (stage : Option ℕ) (start : ℕ) (now : End) (Holds : List Event → Type 0)
+    → IsWalkedTo modes first bodies index stage start now Holds → IsWalk modes first bodies Holds (walked.Right start)
+walked_all modes first bodies index stage start now Holds w = record {
+  records = w.done;
+  read = w.read;
+  says = (
+    (let e : start ≡ start + start_left stage [] = omega (arith, left_in_none stage) in e) ∙ sym (w.started []) ∙ ap start_of (append-nil w.done),
+    w.events,
+    w.holds,
+    subst (λ (rs : List (Option (List Effect))). AreRight modes (start_of rs) first rs w.events) (append-nil w.done)
+        (subst (AreRight modes (start_of (w.done ++ [])) first (w.done ++ [])) (append-nil w.events) (w.yes [] [] (right_by (start_left stage [])))),
+  );
+}
   where
-    by_left : (k : ℕ) → IsFirstWrong modes k now (None ∷ rest) 0
-    by_left zero = refl
-    by_left (suc k) = refl
+    right_by : (left : ℕ) → AreRight modes left now [] []
+    right_by zero = refl
+    right_by (suc left) = refl
 
-pub walked_all : (modes : List Mode) (start : ℕ) (first : End) (records : List (Option (List Effect))) (index : ℕ) (now : End) (events : List Event)
-    → IsWalked modes start first records index [] now events → AreRight modes start first records events
-walked_all modes start first records index now events w =
-    subst (AreRight modes start first records) (append-nil events) (w.yes [] (by_left (start - index)))
-  where
-    by_left : (k : ℕ) → AreRight modes k now [] []
-    by_left zero = refl
-    by_left (suc k) = refl
+-- what is found of a leaf whose records are right, with the number of their events
+pub counted_right : (modes : List Mode) (leaf : List ℕ) (start count : ℕ)
+    → ((bodies : List (List ℕ)) × Lists bodies leaf × IsWalk modes empty_end bodies (λ (events : List Event). count ≡ length events) (walked.Right start))
+    → (said : Audit) × IsAuditOf modes leaf said × (finding.Yes start count ≡ finding_of said)
+counted_right modes leaf start count (bodies, lists, walk) = (
+  audit.Yes start walk.says.1,
+  record {
+    bodies = bodies;
+    records = walk.records;
+    lists = lists;
+    read = walk.read;
+    says = (walk.says.0, walk.says.3);
+  },
+  ap (finding.Yes start) walk.says.2,
+)
 
--- what is read has 1 to 1,024 effects
-pub read_counted : (bodies : List (List ℕ)) (records : List (Option (List Effect))) → AllRead bodies records → AreCounted records
-read_counted [] [] read = tt
-read_counted [] (r ∷ records) read = absurd read
-read_counted (b ∷ bodies) [] read = absurd read
-read_counted (b ∷ bodies) (None ∷ records) read = (tt, read_counted bodies records read.1)
-read_counted (b ∷ bodies) (Some effects ∷ records) read = ((read.0.some, read.0.counted), read_counted bodies records read.1)
-
--- a record that is right
-pub walked_on : (modes : List Mode) (start : ℕ) (first : End) (records : List (Option (List Effect))) (index : ℕ) (item : Option (List Effect))
-    (rest : List (Option (List Effect))) (now new : End) (events more : List Event) (result : Taken)
-    → IsWalked modes start first records index (item ∷ rest) now events → IsTaken modes (nat_lt index start) now new item result
-    → IsPushed events more result true → IsWalked modes start first records (index + 1) rest new more
-walked_on modes start first records index None rest now new events more result w is pushed =
-    let p : IsPushed events more taken.Wrong true = subst (λ (t : Taken). IsPushed events more t true) is pushed in
-    let no : true ≡ false = p.0 in absurd cc
-walked_on modes start first records index (Some effects) rest now new events more taken.Folded w is pushed =
-    rw (pushed.1, is.2) (walked_folded modes start first records index effects rest now events w is.0 is.1)
-walked_on modes start first records index (Some effects) rest now new events more (taken.Made event) w is pushed =
-    rw (pushed.1, is.3) (walked_made modes start first records index effects rest now events event w is.0 is.1 is.2)
-walked_on modes start first records index (Some effects) rest now new events more taken.Wrong w is pushed =
-    let no : true ≡ false = pushed.0 in absurd cc
-
--- and one that isn't
-pub walked_wrong : (modes : List Mode) (start : ℕ) (first : End) (records : List (Option (List Effect))) (index : ℕ) (item : Option (List Effect))
-    (rest : List (Option (List Effect))) (now new : End) (events more : List Event) (result : Taken)
-    → IsWalked modes start first records index (item ∷ rest) now events → IsTaken modes (nat_lt index start) now new item result
-    → IsPushed events more result false → IsFirstWrong modes start first records index
-walked_wrong modes start first records index None rest now new events more result w is pushed =
-    no_body_here modes start first records rest index now events w
-walked_wrong modes start first records index (Some effects) rest now new events more taken.Folded w is pushed =
-    let no : false ≡ true = pushed.0 in absurd cc
-walked_wrong modes start first records index (Some effects) rest now new events more (taken.Made event) w is pushed =
-    let no : false ≡ true = pushed.0 in absurd cc
-walked_wrong modes start first records index (Some effects) rest now new events more taken.Wrong w is pushed =
-    wrong_here modes start first records index effects rest now events (nat_lt index start) w refl is
+-- and of one with a record that isn't
+pub counted_wrong : (modes : List Mode) (leaf : List ℕ) (index : ℕ) (Holds : List Event → Type 0)
+    → ((bodies : List (List ℕ)) × Lists bodies leaf × IsWalk modes empty_end bodies Holds (walked.Wrong index))
+    → (said : Audit) × IsAuditOf modes leaf said × (finding.No index ≡ finding_of said)
+counted_wrong modes leaf index Holds (bodies, lists, walk) = (
+  audit.No index,
+  record {
+    bodies = bodies;
+    records = walk.records;
+    lists = lists;
+    read = walk.read;
+    says = walk.says;
+  },
+  refl,
+)

@@ -1,9 +1,11 @@
 -- What an audit says of the records of a leaf.
-use Rattle.std.specs.Prelude.{◌≡◌, ℕ, zero, suc, List, [], ◌∷◌, Option, Some, None}
+use Rattle.std.specs.Prelude.{◌≡◌, ℕ, zero, suc, List, [], ◌∷◌, Option, Some, None, length}
 use Rattle.as4_audit.specs.Made.{Fits, IsMade, Makes}
 use Rattle.as4_audit.specs.Start.{start_of}
 use Rattle.as4_audit.specs.declared.finding.Audit.{Audit}
 use Rattle.as4_audit.specs.declared.finding.Audit.TheVariants as audit
+use Rattle.as4_audit.specs.declared.finding.Finding.{Finding}
+use Rattle.as4_audit.specs.declared.finding.Finding.TheVariants as finding
 use Rattle.as4_effects.specs.declared.effect.Effect.{Effect}
 use Rattle.exchange_model.specs.Apply.{applied}
 use Rattle.exchange_model.specs.End.{End, empty_end}
@@ -58,3 +60,8 @@ pub record IsAuditOf (modes : List Mode) (leaf : List ℕ) (said : Audit) : Type
   pub lists : Lists bodies leaf
   pub read : AllRead bodies records
   pub says : Says modes records said
+
+-- the same without the events: their number
+abbrev pub finding_of : Audit → Finding
+finding_of (audit.Yes start events) = finding.Yes start (length events)
+finding_of (audit.No index) = finding.No index

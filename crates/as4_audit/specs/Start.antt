@@ -1,7 +1,7 @@
 -- The start of a leaf: its longest prefix that has the form of a compaction (a submission or a header in each record,
 -- then deliveries, then at most one setting of the clock). A leaf that doesn't begin with a carried submission or a kept
 -- header has no start.
-use Rattle.std.specs.Prelude.{ℕ, suc, List, [], ◌∷◌, Bool, false, ◌&&◌, nat_le, nat_lt, if◌then◌else◌, Option, Some}
+use Rattle.std.specs.Prelude.{ℕ, suc, List, [], ◌∷◌, Bool, false, ◌&&◌, ◌==◌, nat_le, nat_lt, if◌then◌else◌, Option, Some, None}
 use Rattle.as4_effects.specs.declared.effect.Effect.{Effect}
 use Rattle.as4_effects.specs.declared.effect.Effect.TheVariants as effect
 
@@ -32,3 +32,12 @@ begins (item ∷ records) = nat_le 1 (stage_of item) && nat_le (stage_of item) 2
 -- the number of records of the start
 abbrev pub start_of : List (Option (List Effect)) → ℕ
 start_of records = if begins records then run_from 1 records else 0
+
+-- whether a record of the second stage is of the start, after one of the first; the stage 0 is before the first record
+unfoldable pub goes_on : ℕ → ℕ → Bool
+goes_on stage next = if stage == 0 then nat_le 1 next && nat_le next 2 else may_follow stage next
+
+-- the stage of the next record, if it is of the start too; None after the start
+unfoldable pub stage_after : Option ℕ → Option (List Effect) → Option ℕ
+stage_after None item = None
+stage_after (Some stage) item = if goes_on stage (stage_of item) then Some (stage_of item) else None

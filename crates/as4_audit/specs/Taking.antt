@@ -1,11 +1,12 @@
 -- How the audit takes one record: what its parts promise each other.
 use Rattle.std.specs.Prelude.{◌≡◌, ◌≤◌, ◌⊎◌, ℕ, List, [], ◌∷◌, ◌++◌, Bool, true, false, Option, Some, None, IsSome, length, option_map, pos}
-use Rattle.as4_audit.specs.Audit.{AreRight, IsFirstWrong}
+use Rattle.as4_audit.specs.Audit.{AllRead, AreRight, IsFirstWrong}
 use Rattle.as4_audit.specs.Made.{Fits, IsMade, Makes}
-use Rattle.as4_audit.specs.declared.finding.Audit.{Audit}
-use Rattle.as4_audit.specs.declared.finding.Audit.TheVariants as audit
+use Rattle.as4_audit.specs.Start.{start_of}
 use Rattle.as4_audit.specs.declared.walk.Taken.{Taken}
 use Rattle.as4_audit.specs.declared.walk.Taken.TheVariants as taken
+use Rattle.as4_audit.specs.declared.walk.Walked.{Walked}
+use Rattle.as4_audit.specs.declared.walk.Walked.TheVariants as walked
 use Rattle.as4_effects.specs.Effects.{effects_limit}
 use Rattle.as4_effects.specs.declared.effect.Effect.{Effect}
 use Rattle.as4_effects.specs.declared.effect.Effect.TheVariants as effect
@@ -35,10 +36,6 @@ abbrev pub IsCounted : Option (List Effect) → Type 0
 IsCounted None = Unit {0}
 IsCounted (Some effects) = (1 ≤ length effects) × (length effects ≤ effects_limit)
 
-abbrev pub AreCounted : List (Option (List Effect)) → Type 0
-AreCounted [] = Unit {0}
-AreCounted (item ∷ records) = IsCounted item × AreCounted records
-
 -- not right, of the start or after it
 abbrev pub IsWrong : List Mode → Bool → End → List Effect → Type 0
 IsWrong modes true end effects = Fits end effects → ⊥
@@ -51,11 +48,12 @@ AreTaken modes folded end new effects (taken.Made event) =
     (folded ≡ false) × IsMade modes end effects × Makes modes end event effects × (new ≡ applied effects end)
 AreTaken modes folded end new effects taken.Wrong = IsWrong modes folded end effects
 
--- the event of a record that is made was appended; whether the record is right
-abbrev pub IsPushed : List Event → List Event → Taken → Bool → Type 0
-IsPushed events new taken.Folded right = (right ≡ true) × (new ≡ events)
-IsPushed events new (taken.Made event) right = (right ≡ true) × (new ≡ events ++ event ∷ [])
-IsPushed events new taken.Wrong right = (right ≡ false) × (new ≡ events)
+-- which events are held, before and after a record was taken: its event was added, if it is made; and whether the record is
+-- right
+abbrev pub IsAdded : (List Event → Type 0) → (List Event → Type 0) → Taken → Bool → Type 0
+IsAdded Old New taken.Folded right = (right ≡ true) × ((events : List Event) → Old events → New events)
+IsAdded Old New (taken.Made event) right = (right ≡ true) × ((events : List Event) → Old events → New (events ++ event ∷ []))
+IsAdded Old New taken.Wrong right = right ≡ false
 
 -- and of a record
 abbrev pub IsTaken : List Mode → Bool → End → End → Option (List Effect) → Taken → Type 0
@@ -68,10 +66,17 @@ IsReplayed end new effects wanted result =
     ((first_unfit effects end ≡ None) × (new ≡ applied effects end) × (result ≡ wanted))
     ⊎ ((first_unfit effects end ≡ None → ⊥) × (result ≡ taken.Wrong))
 
--- what an audit says of records from an endpoint, of which the first `start` are of the start
-abbrev pub SaysFrom : List Mode → ℕ → End → List (Option (List Effect)) → Audit → Type 0
-SaysFrom modes start end records (audit.Yes count events) = (count ≡ start) × AreRight modes start end records events
-SaysFrom modes start end records (audit.No index) = IsFirstWrong modes start end records index
+-- what a walk says of records from an endpoint, where it holds these events
+abbrev pub WalkSays : List Mode → End → List (Option (List Effect)) → (List Event → Type 0) → Walked → Type 0
+WalkSays modes end records Holds (walked.Right start) =
+    (start ≡ start_of records) × (events : List Event) × Holds events × AreRight modes (start_of records) end records events
+WalkSays modes end records Holds (walked.Wrong index) = IsFirstWrong modes (start_of records) end records index
+
+-- and of the bodies of records
+pub record IsWalk (modes : List Mode) (end : End) (bodies : List (List ℕ)) (Holds : List Event → Type 0) (said : Walked) : Type 0 where
+  pub records : List (Option (List Effect))
+  pub read : AllRead bodies records
+  pub says : WalkSays modes end records Holds said
 
 -- the number of days from 1970-01-01 to a date
 abbrev pub IsDayOf : ℕ → ℕ → ℕ → Option ℕ → Type 0

@@ -18,6 +18,22 @@ pub enum Audit {
     },
 }
 
+/// What an audit finds, without its events.
+#[derive(Clone, Copy, Debug, PartialEq, Eq)]
+pub enum Finding {
+    /// The effects of the start fit, and the machine writes each later record for one event.
+    Yes {
+        /// The number of records of the start.
+        start: u64,
+        /// The number of events.
+        events: u64,
+    },
+    /// The record at this place, from 0, is the first that isn't right.
+    No {
+        index: u64,
+    },
+}
+
 /// Why a leaf isn't audited.
 #[derive(Clone, Copy, Debug, PartialEq, Eq)]
 pub enum AuditRefusal {

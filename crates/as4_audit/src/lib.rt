@@ -2,6 +2,7 @@
 #![tactic(auto)]
 
 mod auditing;
+mod collecting;
 mod events;
 mod failures;
 mod finding;
@@ -16,9 +17,9 @@ mod stamp;
 mod start;
 mod walk;
 
-pub use auditing::audit;
-pub use finding::{Audit, AuditRefusal};
+pub use auditing::{audit, check};
+pub use finding::{Audit, AuditRefusal, Finding};
 pub use laws::{a_leaf_has_one_answer, what_a_step_gives_is_made};
-pub use records::records_of;
+pub use records::{record_of, records_of};
 pub use stamp::stamp_ms;
-pub use start::start_of;
+pub use start::{stage_after, start_of};

@@ -1,7 +1,7 @@
 //! The start of a leaf: the records that a compaction wrote.
 
 ghost use Rattle.std.specs.Prelude.{◌≡◌};
-ghost use Rattle.as4_audit.specs.Start.{begins, may_follow, stage_of, start_of};
+ghost use Rattle.as4_audit.specs.Start.{begins, goes_on, may_follow, stage_after, stage_of, start_of};
 
 use as4_effects::Effect;
 use as4_values::Seq;
@@ -24,6 +24,33 @@ pub fn start_of(records: &[Option<Seq<Effect>>]) -> usize
         count += 1;
     }
     count
+}
+
+/// The stage of the next record, if it is of the start too. Before the first record the stage is 0; after the start there is
+/// none. So the start is found record by record.
+#[tactic(auto, unfolding(crate::specs::Start::stage_after))]
+pub fn stage_after(stage: Option<u8>, item: &Option<Seq<Effect>>) -> Option<u8>
+    ensures { result ≡ stage_after stage item.now }
+{
+    let stage = stage?;
+    let next = stage_of(item);
+    if goes_on(stage, next) {
+        Some(next)
+    } else {
+        None
+    }
+}
+
+/// Whether a record of the second stage is of the start, after one of the first.
+#[tactic(auto, unfolding(crate::specs::Start::goes_on))]
+fn goes_on(stage: u8, next: u8) -> bool
+    ensures { result ≡ goes_on stage next }
+{
+    if stage == 0 {
+        1 <= next && next <= 2
+    } else {
+        may_follow(stage, next)
+    }
 }
 
 /// Whether the first record carries a submission over or keeps a header.

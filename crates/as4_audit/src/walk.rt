@@ -1,13 +1,17 @@
 //! Goes through the records of a leaf, with a machine that follows them.
 
-ghost use Rattle.std.specs.Prelude.{◌≡◌, ◌+◌, ◌≤◌, IfOk, length, nat_le};
-ghost use Rattle.as4_audit.specs.Taking.{AreCounted, IsCounted, IsPushed, IsReplayed, IsTaken, SaysFrom};
+ghost use Rattle.std.specs.Prelude.{◌≡◌, ◌+◌, ◌≤◌, [], List, Option, IfOk, OnOk, length, map, nat_le};
+ghost use Rattle.as4_audit.specs.Audit.{AllRead};
+ghost use Rattle.as4_audit.specs.Taking.{IsAdded, IsCounted, IsReplayed, IsTaken, IsWalk};
 ghost use Rattle.as4_effects.specs.Effects.{effects_limit};
+ghost use Rattle.as4_effects.specs.declared.effect.Effect.{Effect as EffectValue};
 ghost use Rattle.exchange_model.specs.Apply.{record_len};
 ghost use Rattle.fold_laws.specs.Reached.{IsReached};
 
-use crate::finding::Audit;
+use crate::collecting::Collects;
 use crate::made::event_that_makes;
+use crate::records::record_of;
+use crate::start::stage_after;
 use as4_effects::Effect;
 use as4_values::{NoMemory, Seq};
 use event_code::body_len;
@@ -27,58 +31,70 @@ pub enum Taken {
     Wrong,
 }
 
-/// Goes through all records; the first `start` of them are the start.
-pub fn walk(
+/// What a walk through the records of a leaf finds.
+#[derive(Clone, Copy)]
+pub enum Walked {
+    /// All are right, and this number of them are the start.
+    Right { start: u64 },
+    /// The record at this place is the first that isn't right.
+    Wrong { index: u64 },
+}
+
+/// Goes through the records with these bodies, and adds the events of those after the start. Only one record is decoded at
+/// a time.
+pub fn walk<E: Collects>(
     alloc: Global,
     core: &mut Core,
     modes: &Modes,
-    records: Seq<Option<Seq<Effect>>>,
-    start: usize,
-) -> Result<Audit, NoMemory>
+    bodies: &[&[u8]],
+    events: &mut E,
+) -> Result<Walked, NoMemory>
     requires reached { IsReached core.old.end }
     requires same { core.old.modes ≡ modes.now }
-    requires counted { AreCounted records }
-    ensures { IfOk result (SaysFrom modes.now start core.old.end records) }
+    requires none { E.holds events.old [] }
+    ensures { IfOk result (IsWalk modes.now core.old.end (map (λ body. body.now) bodies.now) (E.holds events.new)) }
 {
-    let mut events = Vec::new(alloc);
+    let mut stage = Some(0);
+    let mut start = 0;
     let mut index = 0;
-    for item in records.into_vec() {
-        let taken = match take(alloc, core, modes, item, index < start) {
-            Ok(taken) => taken,
-            Err(error) => {
-                drop(events);
-                return Err(error);
-            }
-        };
-        match push_taken(&mut events, taken) {
-            Ok(true) => {}
-            Ok(false) => {
-                drop(events);
-                return Ok(Audit::No {
-                    index: index as u64,
-                });
-            }
-            Err(NoMemory) => {
-                drop(events);
-                return Err(NoMemory);
-            }
+    for body in bodies {
+        let item = record_of(alloc, body)?;
+        stage = stage_after(stage, &item);
+        let taken = take(alloc, core, modes, item, stage.is_some())?;
+        let is_right = add_taken(events, taken)?;
+        if !is_right {
+            read_rest(alloc, &bodies[index + 1..])?;
+            return Ok(Walked::Wrong {
+                index: index as u64,
+            });
+        }
+        if stage.is_some() {
+            start += 1;
         }
         index += 1;
     }
-    Ok(Audit::Yes {
-        start: start as u64,
-        events: Seq::of(events),
-    })
+    Ok(Walked::Right { start })
 }
 
-/// Appends the event of a record that is made. Returns whether the record is right.
-fn push_taken(events: &mut Vec<Event>, taken: Taken) -> Result<bool, NoMemory>
-    ensures { IfOk result (IsPushed events.old.items events.new.items taken) }
+/// Decodes the bodies after the first record that isn't right: the answer is about all records of the leaf.
+fn read_rest(alloc: Global, bodies: &[&[u8]]) -> Result<(), NoMemory>
+    ensures { OnOk result ((records : List (Option (List EffectValue))) × AllRead (map (λ body. body.now) bodies.now) records) }
+{
+    for body in bodies {
+        let item = record_of(alloc, body)?;
+        drop(item);
+    }
+    Ok(())
+}
+
+/// Adds the event of a record that is made. Returns whether the record is right.
+fn add_taken<E: Collects>(events: &mut E, taken: Taken) -> Result<bool, NoMemory>
+    ensures { IfOk result (IsAdded (E.holds events.old) (E.holds events.new) taken) }
 {
     match taken {
         Taken::Folded => Ok(true),
         Taken::Made(event) => {
-            events.push(event)?;
+            events.add(event)?;
             Ok(true)
         }
         Taken::Wrong => Ok(false),

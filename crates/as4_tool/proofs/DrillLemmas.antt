@@ -7,6 +7,7 @@ use Rattle.drill.specs.declared.script.DrillEnd.{DrillEnd}
 use Rattle.drill.specs.declared.script.DrillEnd.TheVariants as ends
 use Rattle.drill.specs.Ends.{Ends as DrillEnds}
 use Rattle.drill.specs.Generated.{GeneratedEnds}
+use Rattle.drill.specs.Playing.{pair_meaning}
 use Rattle.as4_flow.specs.Flow.{between, flow}
 use Rattle.as4_tool.specs.Command.{drill, generate}
 use Rattle.as4_tool.specs.Ends.{TellsFaults}
@@ -65,7 +66,7 @@ generated_silent seed count ends.WriteFault streams drilled done fault = absurd 
 generated_silent seed count ends.NoMemory streams drilled done fault = drilled
 
 -- a run of a script
-pub played : (end : DrillEnd) (streams : Streams) → DrillEnds end streams
+pub played : (end : DrillEnd) (streams : Streams) → DrillEnds pair_meaning end streams
     → (streams.read_faults ≤ streams.later_read_faults) × (streams.write_faults ≤ streams.later_write_faults)
     → RunsOver (drill false) (status_of end) streams
 played end streams drilled counted = record {

@@ -3,6 +3,7 @@ use Rattle.std.specs.Prelude.{◌≡◌, ◌≢◌, ℕ, ◌≤◌, ◌⊎◌, L
 use Rattle.as4_flow.specs.Flow.{Streams, Told, Rose, appended, TakesFront}
 use Rattle.drill.specs.Ends.{Ends as DrillEnds}
 use Rattle.drill.specs.Generated.{GeneratedEnds}
+use Rattle.drill.specs.Playing.{pair_meaning}
 use Rattle.drill.specs.declared.script.DrillEnd.{DrillEnd}
 use Rattle.drill.specs.declared.script.DrillEnd.TheVariants as drill_end
 use Rattle.as4_tool.specs.Answer.{IsAnswer, IsFileLine}
@@ -43,7 +44,7 @@ Checks status streams =
 
 -- the drill of this script ends so
 abbrev pub IsDrillOf : List ℕ → DrillEnd → Type 0
-IsDrillOf script end = (streams : Streams) × (streams.left ≡ Some script) × DrillEnds end streams
+IsDrillOf script end = (streams : Streams) × (streams.left ≡ Some script) × DrillEnds pair_meaning end streams
 
 -- the input is within the limit and was read to its end, its script was played to its end, and a drawing was written, of which
 -- nothing is said
@@ -77,7 +78,7 @@ Ends (answer stamp nonce) status streams =
     Answers stamp nonce status streams
     ⊎ IsOneOf (ReadFault ∷ NoMemory ∷ NotUser ∷ TooLong ∷ []) status
 Ends check status streams = Checks status streams ⊎ IsOneOf (ReadFault ∷ NoMemory ∷ TooLong ∷ []) status
-Ends (drill false) status streams = (end : DrillEnd) × (status ≡ status_of end) × DrillEnds end streams
+Ends (drill false) status streams = (end : DrillEnd) × (status ≡ status_of end) × DrillEnds pair_meaning end streams
 Ends (drill true) status streams =
     Draws status streams ⊎ DrawsNone status streams ⊎ IsOneOf (ReadFault ∷ NoMemory ∷ TooLong ∷ []) status
 Ends (generate seed count) status streams =

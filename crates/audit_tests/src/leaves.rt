@@ -2,7 +2,7 @@
 ghost use Rattle.std.specs.Prelude.{◌≡◌};
 
 use crate::deeds::{Deed, event_of};
-use crate::said::{MODES, Said, said_of};
+use crate::said::{MODES, Said, found_of, said_of};
 use as4_audit::{Audit, AuditRefusal, audit};
 use as4_disk::{Files, MemoryDisk, Part};
 use as4_values::{Octets, Seq};
@@ -129,6 +129,13 @@ fn said_after(alloc: Global, deeds: &[Deed]) -> Option<Said> {
     said
 }
 
+fn found_after(alloc: Global, deeds: &[Deed]) -> Option<Said> {
+    let leaf = leaf_after(alloc, deeds)?;
+    let found = found_of(alloc, leaf.bytes());
+    drop(leaf);
+    found
+}
+
 #[test]
 fn all_effects_of_an_office_are_made(rt: HostRuntime) {
     assert!(rt; said_after(rt.alloc(), ALL) == Some(Said::Yes(0, 11)));
@@ -142,6 +149,11 @@ fn a_compacted_leaf_has_no_events(rt: HostRuntime) {
 #[test]
 fn events_after_a_compaction_are_found(rt: HostRuntime) {
     assert!(rt; said_after(rt.alloc(), GOES_ON) == Some(Said::Yes(3, 2)));
+}
+
+#[test]
+fn check_counts_the_events_after_a_compaction(rt: HostRuntime) {
+    assert!(rt; found_after(rt.alloc(), GOES_ON) == Some(Said::Yes(3, 2)));
 }
 
 /// What becomes of a leaf with a changed byte.

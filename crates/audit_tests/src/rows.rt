@@ -1,5 +1,6 @@
 //! Leaves that were typed by hand.
-use crate::said::{Said, said_of};
+use crate::said::{Said, found_of, said_of};
+use std::alloc::Global;
 
 /// A tick to 1,000.
 const TICK_1000: [u8; 29] = *b"AS4JNL2\n\x01\0\0\0\0\0\0\0\x0b\0\x01\x02\0\0\0\0\0\0\x03\xe8\0";
@@ -20,6 +21,35 @@ const NO_BODY: [u8; 20] = *b"AS4JNL2\n\x01\0\0\0\0\0\0\0\x02\0\0\0";
 /// A tick to 1,000, and then the first bytes of a record.
 const CUT_SHORT: [u8; 31] =
     *b"AS4JNL2\n\x01\0\0\0\0\0\0\0\x0b\0\x01\x02\0\0\0\0\0\0\x03\xe8\x01\0\0";
+
+/// All of these, and no bytes.
+const ALL: &[&[u8]] = &[
+    &TICK_1000,
+    &TICK_TWICE,
+    &OLD_TICK,
+    &TRIED,
+    &NO_BODY,
+    &CUT_SHORT,
+    b"7777777777",
+    b"",
+];
+
+/// The number of leaves of which `check` finds what `audit` says.
+fn agreed(alloc: Global, leaves: &[&[u8]]) -> usize {
+    let mut count: usize = 0;
+    for leaf in leaves {
+        let said = said_of(alloc, leaf);
+        if said.is_some() && said == found_of(alloc, leaf) {
+            count = count.saturating_add(1);
+        }
+    }
+    count
+}
+
+#[test]
+fn check_finds_what_audit_says(rt: HostRuntime) {
+    assert!(rt; agreed(rt.alloc(), ALL) == 8);
+}
 
 #[test]
 fn a_tick_is_made(rt: HostRuntime) {

@@ -1,5 +1,5 @@
 //! What an audit says of a leaf, in short.
-use as4_audit::{Audit, AuditRefusal, audit};
+use as4_audit::{Audit, AuditRefusal, Finding, audit, check};
 use exchange_model::{Event, What};
 use pmodes::Modes;
 use std::alloc::Global;
@@ -47,6 +47,19 @@ pub(crate) fn said_of(alloc: Global, leaf: &[u8]) -> Option<Said> {
     };
     drop(modes);
     Some(said)
+}
+
+/// What `check` finds of the same leaf.
+pub(crate) fn found_of(alloc: Global, leaf: &[u8]) -> Option<Said> {
+    let modes = Modes::read(alloc, MODES).ok()?;
+    let found = match check(alloc, &modes, leaf) {
+        Ok(Finding::Yes { start, events }) => Said::Yes(start, events as usize),
+        Ok(Finding::No { index }) => Said::No(index),
+        Err(AuditRefusal::NotJournal { at }) => Said::NotJournal(at),
+        Err(AuditRefusal::NoMemory) => Said::NoMemory,
+    };
+    drop(modes);
+    Some(found)
 }
 
 fn short(said: Audit) -> Said {

@@ -1,3 +1,4 @@
 -- The lemmas of auditor.
+mod LineLemmas
 mod ReadingLemmas
 mod TextLemmas

@@ -1,9 +1,8 @@
 -- What is written of an audit.
 use Rattle.std.proofs.Common.{ℕ, List, Option, inl, inr}
-use Rattle.as4_audit.specs.Audit.{IsAuditOf}
+use Rattle.as4_audit.specs.Audit.{IsAuditOf, finding_of}
 use Rattle.as4_audit.specs.declared.finding.Audit.{Audit}
 use Rattle.auditor.specs.Auditing.{AuditsLeaf, TellsText}
-use Rattle.auditor.specs.Ends.{finding_of}
 use Rattle.auditor.specs.declared.ending.AuditEnd.{AuditEnd}
 use Rattle.auditor.specs.declared.form.Form.{Form}
 use Rattle.mode_values.specs.declared.mode.Mode.{Mode}

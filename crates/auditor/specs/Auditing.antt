@@ -1,18 +1,18 @@
 -- What an audit of a journal does, and how it ends.
 use Rattle.std.specs.Prelude.{◌≡◌, ◌≢◌, ◌⊎◌, ℕ, List, Option}
-use Rattle.as4_audit.specs.Audit.{AllRead, IsAuditOf}
+use Rattle.as4_audit.specs.Audit.{AllRead, IsAuditOf, finding_of}
 use Rattle.as4_audit.specs.declared.finding.Audit.{Audit}
+use Rattle.as4_audit.specs.declared.finding.Finding.{Finding}
 use Rattle.as4_disk.specs.declared.part.Part.{Part}
 use Rattle.as4_disk.specs.declared.part.Part.TheVariants.{Selector}
 use Rattle.as4_effects.specs.declared.effect.Effect.{Effect}
 use Rattle.as4_flow.specs.Flow.{Rose, TakesFront, Told, appended}
 use Rattle.as4_host.specs.Files.{IsLonger, bytes_in}
 use Rattle.as4_host.specs.declared.host.Host.{Ghosts as HostMeaning}
-use Rattle.auditor.specs.Ends.{end_found, end_unread, finding_of}
+use Rattle.auditor.specs.Ends.{end_found, end_unread}
 use Rattle.auditor.specs.Lines.{text_of}
 use Rattle.auditor.specs.declared.ending.AuditEnd.{AuditEnd}
 use Rattle.auditor.specs.declared.ending.AuditEnd.TheVariants.{NoMemory, WriteFault, HostFault, NotJournal, TooLong}
-use Rattle.auditor.specs.declared.ending.Finding.{Finding}
 use Rattle.auditor.specs.declared.files.TheConstants.{LEAF_LIMIT}
 use Rattle.auditor.specs.declared.form.Form.{Form}
 use Rattle.auditor.specs.declared.form.Form.TheVariants as form

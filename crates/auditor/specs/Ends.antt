@@ -1,12 +1,9 @@
 -- How an audit of a journal ends.
-use Rattle.std.specs.Prelude.{length}
-use Rattle.as4_audit.specs.declared.finding.Audit.{Audit}
-use Rattle.as4_audit.specs.declared.finding.Audit.TheVariants as audit
 use Rattle.as4_audit.specs.declared.finding.AuditRefusal.{AuditRefusal}
 use Rattle.as4_audit.specs.declared.finding.AuditRefusal.TheVariants as refusal
+use Rattle.as4_audit.specs.declared.finding.Finding.{Finding}
+use Rattle.as4_audit.specs.declared.finding.Finding.TheVariants as finding
 use Rattle.auditor.specs.declared.ending.AuditEnd.{AuditEnd}
-use Rattle.auditor.specs.declared.ending.Finding.{Finding}
-use Rattle.auditor.specs.declared.ending.Finding.TheVariants as finding
 use Rattle.auditor.specs.declared.ending.AuditEnd.TheVariants.{Yes, No, NoMemory, ModesRefused, HostFault, NotJournal}
 use Rattle.handler.specs.declared.ending.HandlerEnd.{HandlerEnd}
 use Rattle.handler.specs.declared.ending.HandlerEnd.TheVariants as ending
@@ -22,12 +19,7 @@ abbrev pub end_refused : AuditRefusal → AuditEnd
 end_refused (refusal.NotJournal at) = NotJournal at
 end_refused refusal.NoMemory = NoMemory
 
--- what an audit found, without the events
-abbrev pub finding_of : Audit → Finding
-finding_of (audit.Yes start events) = finding.Yes (length events)
-finding_of (audit.No index) = finding.No index
-
 -- the end of an audit whose lines were written
 abbrev pub end_found : Finding → AuditEnd
-end_found (finding.Yes events) = Yes
+end_found (finding.Yes start events) = Yes
 end_found (finding.No index) = No

@@ -1,11 +1,12 @@
 -- The lines of an audit, in this program's own format: one for each change after the start of the leaf, and the answer.
-use Rattle.std.specs.Prelude.{ℕ, suc, List, [], ◌∷◌, ◌++◌, Option, Some, None, codes, drop, length, take}
+use Rattle.std.specs.Prelude.{◌≡◌, ℕ, suc, List, [], ◌∷◌, ◌++◌, Option, Some, None, codes, drop, length, take}
 use Rattle.std.specs.Fmt.{decimal}
+use Rattle.as4_audit.specs.Audit.{AllRead}
 use Rattle.as4_audit.specs.Start.{start_of}
+use Rattle.as4_audit.specs.declared.finding.Finding.{Finding}
+use Rattle.as4_audit.specs.declared.finding.Finding.TheVariants.{Yes, No}
 use Rattle.as4_effects.specs.declared.effect.Effect.{Effect}
 use Rattle.as4_effects.specs.declared.effect.Effect.TheVariants as effect
-use Rattle.auditor.specs.declared.ending.Finding.{Finding}
-use Rattle.auditor.specs.declared.ending.Finding.TheVariants.{Yes, No}
 
 -- the line of a change, after this number of received messages; a compaction's changes have none
 unfoldable pub line_of : ℕ → Effect → List ℕ
@@ -50,15 +51,22 @@ received_over received (item ∷ records) = received_over (received_in received 
 
 -- the number of records before which an audit found nothing wrong
 abbrev pub right_records : List (Option (List Effect)) → Finding → ℕ
-right_records records (Yes events) = length records
+right_records records (Yes start events) = length records
 right_records records (No index) = index
 
 abbrev pub answer_line : Finding → List ℕ
-answer_line (Yes events) = codes "yes " ++ decimal events ++ codes "\n"
+answer_line (Yes start events) = codes "yes " ++ decimal events ++ codes "\n"
 answer_line (No index) = codes "no " ++ decimal index ++ codes "\n"
+
+-- the lines of the records before this place, after the start
+abbrev pub lines_before : ℕ → List (Option (List Effect)) → List ℕ
+lines_before place records =
+    record_lines (received_over 0 (take (start_of records) records)) (drop (start_of records) (take place records))
 
 -- the lines of the right records after the start, and the answer
 abbrev pub text_of : List (Option (List Effect)) → Finding → List ℕ
-text_of records finding =
-    record_lines (received_over 0 (take (start_of records) records)) (drop (start_of records) (take (right_records records finding) records))
-    ++ answer_line finding
+text_of records finding = lines_before (right_records records finding) records ++ answer_line finding
+
+-- the same of the records with these bodies
+abbrev pub IsTextFor : List (List ℕ) → Finding → List ℕ → Type 0
+IsTextFor bodies finding text = (records : List (Option (List Effect))) × AllRead bodies records × (text ≡ text_of records finding)

@@ -1,21 +1,20 @@
 //! The audit of the journal at a path.
-ghost use Rattle.std.specs.Prelude.{◌≡◌, ◌≢◌, ◌∷◌, IfErr, IfOk, ℕ};
+ghost use Rattle.std.specs.Prelude.{◌≡◌, ◌≢◌, ◌∷◌, IfErr, IfOk, ℕ, map};
 ghost use Rattle.auditor.specs.Auditing.{AuditsBy, AuditsLeaf, IsShownAs, ReadsAmong, TellsFaults, TellsText};
-ghost use Rattle.auditor.specs.Lines.{text_of};
+ghost use Rattle.auditor.specs.Lines.{IsTextFor};
 ghost use Rattle.handler.specs.Hosts.{files_of};
 ghost use Rattle.journal.specs.Leaf.{IsBroken};
 
-use crate::ending::{AuditEnd, Finding, finding_of, found, refused, unread};
+use crate::ending::{AuditEnd, found, refused, unread};
 use crate::files::read_picked;
 use crate::form::Form;
 use crate::lines::{drawing_of, text_of};
-use as4_audit::{AuditRefusal, audit, records_of};
-use as4_effects::Effect;
+use as4_audit::{AuditRefusal, Finding, check};
 use as4_flow::{SendFailed, Sink, send_all};
 use as4_host::Host;
-use as4_values::{NoMemory, Seq};
+use as4_values::NoMemory;
 use handler::read_modes;
-use journal::{LeafRefusal, leaf_records};
+use journal::{LeafRefusal, lend_records};
 use pmodes::Modes;
 use std::alloc::Global;
 
@@ -63,8 +62,8 @@ fn audit_leaf<O: Sink>(
     ensures faults { TellsFaults AuditEnd.WriteFault result (O.faults output.old) (O.faults output.new) }
     ensures here { result ≢ AuditEnd.HostFault }
 {
-    match audit(alloc, modes, leaf) {
-        Ok(said) => tell(alloc, leaf, form, finding_of(said), output),
+    match check(alloc, modes, leaf) {
+        Ok(finding) => tell(alloc, leaf, form, finding, output),
         Err(refusal) => refused(refusal),
     }
 }
@@ -104,18 +103,13 @@ fn text_of_leaf(
     ensures text { IfOk result (λ text. IsShownAs form leaf.now finding text.items) }
     ensures not_journal { IfErr result (λ e. (at : ℕ) → e ≡ AuditRefusal.NotJournal at → IsBroken at leaf.now) }
 {
-    let bodies = match leaf_records(alloc, leaf) {
+    let bodies = match lend_records(alloc, leaf) {
         Ok(bodies) => bodies,
         Err(LeafRefusal::NotJournal { at }) => return Err(AuditRefusal::NotJournal { at }),
         Err(LeafRefusal::NoMemory) => return Err(AuditRefusal::NoMemory),
     };
-    let records = records_of(alloc, bodies.items());
+    let text = shown_as(alloc, form, &bodies, finding);
     drop(bodies);
-    let Ok(records) = records else {
-        return Err(AuditRefusal::NoMemory);
-    };
-    let text = shown_as(alloc, form, records.items(), finding);
-    drop(records);
     match text {
         Ok(text) => Ok(text),
         Err(NoMemory) => Err(AuditRefusal::NoMemory),
@@ -126,13 +120,13 @@ fn text_of_leaf(
 fn shown_as(
     alloc: Global,
     form: Form,
-    records: &[Option<Seq<Effect>>],
+    bodies: &[&[u8]],
     finding: Finding,
 ) -> Result<Vec<u8>, NoMemory>
-    ensures { form ≡ Form.Lines → IfOk result (λ text. text.items ≡ text_of records.now finding) }
+    ensures { form ≡ Form.Lines → IfOk result (λ text. IsTextFor (map (λ body. body.now) bodies.now) finding text.items) }
 {
     match form {
-        Form::Lines => text_of(alloc, records, finding),
-        Form::Drawing => drawing_of(alloc, records, finding),
+        Form::Lines => text_of(alloc, bodies, finding),
+        Form::Drawing => drawing_of(alloc, bodies, finding),
     }
 }

@@ -1,8 +1,8 @@
 //! How an audit of a journal ends.
 ghost use Rattle.std.specs.Prelude.{◌≡◌};
-ghost use Rattle.auditor.specs.Ends.{end_found, end_refused, end_unread, finding_of};
+ghost use Rattle.auditor.specs.Ends.{end_found, end_refused, end_unread};
 
-use as4_audit::{Audit, AuditRefusal};
+use as4_audit::{AuditRefusal, Finding};
 use handler::HandlerEnd;
 
 /// How an audit of a journal ends.
@@ -44,29 +44,6 @@ pub(crate) fn refused(refusal: AuditRefusal) -> AuditEnd
     match refusal {
         AuditRefusal::NotJournal { at } => AuditEnd::NotJournal { at },
         AuditRefusal::NoMemory => AuditEnd::NoMemory,
-    }
-}
-
-/// What an audit found, without the events.
-#[derive(Clone, Copy, Debug, PartialEq, Eq)]
-pub(crate) enum Finding {
-    /// Every record is right, and the machine writes those after the start for so many events.
-    Yes { events: u64 },
-    /// The record at this place is the first that isn't right.
-    No { index: u64 },
-}
-
-/// What an audit found. The events are given up, with the payloads that they hold.
-pub(crate) fn finding_of(said: Audit) -> Finding
-    ensures { result ≡ finding_of said }
-{
-    match said {
-        Audit::Yes { events, .. } => {
-            let count = events.items().len() as u64;
-            drop(events);
-            Finding::Yes { events: count }
-        }
-        Audit::No { index } => Finding::No { index },
     }
 }
 

@@ -1,71 +1,52 @@
 //! The lines of an audit: one for each change that is no part of a compaction, and the answer.
-ghost use Rattle.std.specs.Prelude.{◌≡◌, ◌++◌, IfOk, OnOk, drop, take};
-ghost use Rattle.auditor.specs.Lines.{answer_line, changes_of, line_of, lines_of, received_after, received_in, received_over, record_lines, right_records, text_of};
+ghost use Rattle.std.specs.Prelude.{◌≡◌, ◌++◌, ◌&&◌, [], List, Option, IfOk, OnOk, if◌then◌else◌, is_none, length, map, nat_lt};
+ghost use Rattle.as4_audit.specs.Audit.{AllRead};
+ghost use Rattle.as4_effects.specs.declared.effect.Effect.{Effect as EffectValue};
+ghost use Rattle.auditor.specs.Lines.{IsTextFor, answer_line, changes_of, line_of, lines_before, lines_of, received_after, received_in, right_records};
 
-use crate::ending::Finding;
 use crate::pieces::{add_named, add_number};
-use as4_audit::start_of;
+use as4_audit::{Finding, record_of, records_of, stage_after, start_of};
 use as4_draw::draw_journal;
 use as4_effects::Effect;
 use as4_values::{NoMemory, Seq};
 use std::alloc::Global;
 
-/// The text of an audit of these records that found this.
+/// The text of an audit of the records with these bodies that found this. Only one record is decoded at a time.
 pub(crate) fn text_of(
     alloc: Global,
-    records: &[Option<Seq<Effect>>],
+    bodies: &[&[u8]],
     finding: Finding,
 ) -> Result<Vec<u8>, NoMemory>
-    ensures { IfOk result (λ text. text.items ≡ text_of records.now finding) }
+    ensures { IfOk result (λ text. IsTextFor (map (λ body. body.now) bodies.now) finding text.items) }
 {
-    let start = start_of(records);
     let mut text = Vec::new(alloc);
-    let received = add_records(&mut text, 0, first(records, start as u64))?;
-    text.clear();
-    add_records(
-        &mut text,
-        received,
-        after(right_records(records, finding), start),
-    )?;
+    add_records(alloc, &mut text, bodies, right_of(bodies.len(), finding))?;
     add_answer(&mut text, finding)?;
     Ok(text)
 }
 
-/// A drawing of the same records.
+/// A drawing of the same records, which are all decoded first.
 pub(crate) fn drawing_of(
     alloc: Global,
-    records: &[Option<Seq<Effect>>],
+    bodies: &[&[u8]],
     finding: Finding,
 ) -> Result<Vec<u8>, NoMemory> {
-    draw_journal(alloc, right_records(records, finding), start_of(records))
+    let records = records_of(alloc, bodies)?;
+    let all = records.items();
+    let right = right_of(all.len(), finding).min(all.len() as u64);
+    let drawing = draw_journal(alloc, &all[..right as usize], start_of(all));
+    drop(records);
+    drawing
 }
 
-// The records before which an audit found nothing wrong.
-fn right_records(records: &[Option<Seq<Effect>>], finding: Finding) -> &[Option<Seq<Effect>>]
-    ensures { result.now ≡ take (right_records records.now finding) records.now }
+// The number of records, out of so many, before which an audit found nothing wrong.
+fn right_of(count: usize, finding: Finding) -> u64
+    ensures { (records : List (Option (List EffectValue))) → length records ≡ count → result ≡ right_records records finding }
 {
     match finding {
-        Finding::Yes { .. } => records,
-        Finding::No { index } => first(records, index),
+        Finding::Yes { .. } => count as u64,
+        Finding::No { index } => index,
     }
-}
-
-// This number of records at the front.
-fn first(records: &[Option<Seq<Effect>>], count: u64) -> &[Option<Seq<Effect>>]
-    ensures { result.now ≡ take count records.now }
-{
-    if count < records.len() as u64 {
-        &records[..count as usize]
-    } else {
-        records
-    }
-}
-
-// The records after this number of them.
-fn after(records: &[Option<Seq<Effect>>], count: usize) -> &[Option<Seq<Effect>>]
-    ensures { result.now ≡ drop count records.now }
-{
-    &records[count.min(records.len())..]
 }
 
 // Adds the line of the answer.
@@ -73,36 +54,71 @@ fn add_answer(out: &mut Vec<u8>, finding: Finding) -> Result<(), NoMemory>
     ensures { OnOk result (out.new.items ≡ out.old.items ++ answer_line finding) }
 {
     match finding {
-        Finding::Yes { events } => add_number(out, b"yes ", events),
+        Finding::Yes { events, .. } => add_number(out, b"yes ", events),
         Finding::No { index } => add_number(out, b"no ", index),
     }
 }
 
-// Adds the lines of records after this number of received messages, and returns that number after the records.
+// Adds the lines of the records before this place, after the start.
 fn add_records(
+    alloc: Global,
     out: &mut Vec<u8>,
-    received: u64,
-    records: &[Option<Seq<Effect>>],
-) -> Result<u64, NoMemory>
-    ensures text { OnOk result (out.new.items ≡ out.old.items ++ record_lines received records.now) }
-    ensures count { IfOk result (λ n. n ≡ received_over received records.now) }
+    bodies: &[&[u8]],
+    place: u64,
+) -> Result<(), NoMemory>
+    ensures { OnOk result ((records : List (Option (List EffectValue))) × AllRead (map (λ body. body.now) bodies.now) records
+        × (out.new.items ≡ out.old.items ++ lines_before place records)) }
 {
-    let mut received = received;
-    for item in records {
-        received = add_record(out, received, item)?;
+    let mut stage = Some(0);
+    let mut received = 0;
+    let mut index = 0;
+    for body in bodies {
+        let item = record_of(alloc, body)?;
+        stage = stage_after(stage, &item);
+        let after = add_record(out, received, &item, is_shown(stage, index, place));
+        drop(item);
+        received = after?;
+        index += 1;
     }
-    Ok(received)
+    Ok(())
 }
 
-// Adds the lines of one record.
-fn add_record(out: &mut Vec<u8>, received: u64, item: &Option<Seq<Effect>>) -> Result<u64, NoMemory>
-    ensures text { OnOk result (out.new.items ≡ out.old.items ++ lines_of received (changes_of item.now)) }
+// Whether a record has lines: it is after the start, and before this place.
+fn is_shown(stage: Option<u8>, index: u64, place: u64) -> bool
+    ensures { result ≡ (is_none stage && nat_lt index place) }
+{
+    stage.is_none() && index < place
+}
+
+// Adds the lines of one record, if it is shown. Returns the number of received messages after it.
+fn add_record(
+    out: &mut Vec<u8>,
+    received: u64,
+    item: &Option<Seq<Effect>>,
+    is_shown: bool,
+) -> Result<u64, NoMemory>
+    ensures text { OnOk result (out.new.items ≡ out.old.items ++ (if is_shown then lines_of received (changes_of item.now) else [])) }
     ensures count { IfOk result (λ n. n ≡ received_in received (changes_of item.now)) }
 {
-    match item {
-        Some(effects) => add_changes(out, received, effects.items()),
-        None => Ok(received),
+    let Some(effects) = item else {
+        return Ok(received);
+    };
+    if is_shown {
+        add_changes(out, received, effects.items())
+    } else {
+        count_changes(received, effects.items())
     }
+}
+
+// The number of received messages after changes.
+fn count_changes(received: u64, effects: &[Effect]) -> Result<u64, NoMemory>
+    ensures { IfOk result (λ n. n ≡ received_in received effects.now) }
+{
+    let mut received = received;
+    for effect in effects {
+        received = counted(received, effect)?;
+    }
+    Ok(received)
 }
 
 // Adds the lines of changes.

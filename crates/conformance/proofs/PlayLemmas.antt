@@ -6,6 +6,7 @@ use Rattle.std.proofs.lemmas.List.Concat.{flat_map-cons}
 use Rattle.as4_flow.specs.Flow.{Streams, appended}
 use Rattle.byte_forms.proofs.PartedLemmas.{one_cut}
 use Rattle.drill.specs.Ends.{Ends, IsOutside, IsTooMuch}
+use Rattle.drill.specs.Playing.{pair_meaning}
 use Rattle.drill_world.specs.Transcript.{DrillState, Plays, PlaysAll, doing_of, end_lines, is_right, is_too_many, lines_limit, new_state, script_text}
 use Rattle.drill.specs.declared.script.DrillEnd.TheVariants as ends
 use Rattle.drill_world.proofs.OneTranscript.{one_transcript}
@@ -76,13 +77,13 @@ end_halts : (count : ℕ) (state : DrillState) → Halts count state []
 unfolding Halts
 end_halts count state l more same right few below = nothing_next l more same
 
-outside_halts : (lines : List Line) (state : DrillState) (rest : List ℕ) → IsOutside lines state rest → Halts (length lines) state rest
+outside_halts : (lines : List Line) (state : DrillState) (rest : List ℕ) → IsOutside pair_meaning lines state rest → Halts (length lines) state rest
 unfolding Halts
 outside_halts lines state rest (some, inl full) l more same right few below = omega (arith, full, below)
 outside_halts lines state rest (some, inr none) l more same right few below =
     let e : true ≡ false = sym right ∙ none l more same in absurd cc
 
-too_much_halts : (lines : List Line) (state : DrillState) (rest : List ℕ) → IsTooMuch lines state rest → Halts (length lines) state rest
+too_much_halts : (lines : List Line) (state : DrillState) (rest : List ℕ) → IsTooMuch pair_meaning lines state rest → Halts (length lines) state rest
 unfolding Halts
 too_much_halts lines state rest much l more same right few below =
     let next = one_next much.0 l state state much.1 more much.3 right (sym much.2 ∙ same) in
@@ -137,7 +138,7 @@ reading_of script text t = record {
   halts = rest_halts t.0 t.2 t.1 script text t.5;
 }
 
-none_left : (lines : List Line) (rest : List ℕ) (state : DrillState) → [] ≡ rest → IsOutside lines state rest → ⊥
+none_left : (lines : List Line) (rest : List ℕ) (state : DrillState) → [] ≡ rest → IsOutside pair_meaning lines state rest → ⊥
 none_left lines rest state same outside = omega (arith, ap length same, outside.0)
 
 pub one_text : (script text other : List ℕ) → IsTranscript script text → IsTranscript script other → text ≡ other
@@ -158,20 +159,20 @@ one_text script text other (lines, words, state, plays, few, inr out) (others, t
 -- a drill over a source and a sink in memory
 
 pub drill_read : (streams : Streams) (script out : List ℕ) → streams.left ≡ Some script → streams.taken ≡ Some [] → streams.later ≡ Some out
-    → Ends ends.Read streams → IsTranscript script out
+    → Ends pair_meaning ends.Read streams → IsTranscript script out
 drill_read streams script out left taken later (lines, words, state, played, at, counts, leaves) =
     let parts : script ≡ script_text lines ++ [] = at.0 script left in
     let e : Some out ≡ Some (words ++ end_lines state.world) = sym later ∙ at.1 ∙ ap (λ (t : Option (List ℕ)). appended t (words ++ end_lines state.world)) taken in
     (lines, words, state, played.plays, played.few, inl (parts ∙ append-nil (script_text lines), cc))
 
 pub drill_line : (streams : Streams) (script out : List ℕ) (number : ℕ) → streams.left ≡ Some script → streams.taken ≡ Some [] → streams.later ≡ Some out
-    → Ends (ends.Line number) streams → IsTranscript script out
+    → Ends pair_meaning (ends.Line number) streams → IsTranscript script out
 drill_line streams script out number left taken later (lines, words, state, played, at, counts, leaves) =
     let outside = at.2 script left in
     let e : Some out ≡ Some words = sym later ∙ at.1 ∙ ap (λ (t : Option (List ℕ)). appended t words) taken in
     (lines, words, state, played.plays, played.few, inr (outside.0, outside.1, outside.2, cc))
 
-pub drill_too_many : (streams : Streams) (script text : List ℕ) → streams.left ≡ Some script → Ends ends.TooMany streams → ¬ IsTranscript script text
+pub drill_too_many : (streams : Streams) (script text : List ℕ) → streams.left ≡ Some script → Ends pair_meaning ends.TooMany streams → ¬ IsTranscript script text
 unfolding rest_of
 drill_too_many streams script text left (lines, words, state, played, at, counts, leaves) (others, texts, there, plays, few, closes) =
     let much = at.1 script left in
@@ -180,7 +181,7 @@ drill_too_many streams script text left (lines, words, state, played, at, counts
     never lines others state there much.0 texts script text closes much.2 same.0 same.2 same.3
   where
     never : (lines others : List Line) (state there : DrillState) (rest texts script text : List ℕ) (closes : Closes others there texts script text)
-        → IsTooMuch lines state rest → lines ≡ others → state ≡ there → rest ≡ rest_of others there texts script text closes → ⊥
+        → IsTooMuch pair_meaning lines state rest → lines ≡ others → state ≡ there → rest ≡ rest_of others there texts script text closes → ⊥
     never lines others state there rest texts script text (inl end) much a b c = nothing_next much.0 much.1 (sym c ∙ much.2)
     never lines others state there rest texts script text (inr (behind, parts, (some, inl full), same)) much a b c =
         omega (arith, full, ap length a, much.5)

@@ -1,6 +1,7 @@
 -- Scripts of a drill, and their transcripts.
 use Rattle.std.specs.Prelude.{◌≡◌, ◌⊎◌, ◌≤◌, ℕ, List, ◌++◌, Bool, length}
 use Rattle.drill.specs.Ends.{IsOutside}
+use Rattle.drill.specs.Playing.{pair_meaning}
 use Rattle.drill_world.specs.Transcript.{DrillState, PlaysAll, end_lines, lines_limit, new_state, script_text}
 use Rattle.drill_script.specs.declared.line.Line.{Line}
 use Rattle.conformance.specs.Ran.{IsVerdict}
@@ -11,7 +12,7 @@ use Rattle.conformance.specs.declared.play.Play.{Play}
 abbrev pub Closes : List Line → DrillState → List ℕ → List ℕ → List ℕ → Type 0
 Closes lines state words script text =
     ((script ≡ script_text lines) × (text ≡ words ++ end_lines state.world))
-    ⊎ ((rest : List ℕ) × (script ≡ script_text lines ++ rest) × IsOutside lines state rest × (text ≡ words))
+    ⊎ ((rest : List ℕ) × (script ≡ script_text lines ++ rest) × IsOutside pair_meaning lines state rest × (text ≡ words))
 
 -- the transcript of a script that makes at most 100,000 events
 abbrev pub IsTranscript : List ℕ → List ℕ → Type 0

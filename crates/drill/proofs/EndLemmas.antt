@@ -1,6 +1,5 @@
 -- How far a drill has come, and how it ends there.
-use Rattle.std.proofs.Common.{◌≡◌, ℕ, ◌+◌, ◌<◌, ◌≤◌, inl, inr, Bool, true, false, ◌&&◌, nat_le, List, [], ◌∷◌, ◌++◌, length, Option, None, Some, IsTrue, refl, sym, ◌∙◌, ap, subst, arith, append_assoc, length-append}
-use Rattle.std.proofs.lemmas.Bool.{and_parts, leb-true}
+use Rattle.std.proofs.Common.{◌≡◌, ℕ, ◌+◌, ◌<◌, ◌≤◌, inl, inr, Bool, true, false, List, [], ◌∷◌, ◌++◌, length, Option, None, Some, IsTrue, refl, sym, ◌∙◌, ap, subst, arith, append_assoc, length-append}
 use Rattle.std.proofs.lemmas.List.{append-nil}
 use Rattle.std.proofs.lemmas.List.Concat.{flat_map-append}
 use Rattle.as4_flow.specs.Flow.{Rose, Flow, between, flow, Told, before, appended, LosesFront, TakesFront}
@@ -8,7 +7,8 @@ use Rattle.as4_flow.proofs.FlowLemmas.{before_nil, before_append, appended_nil, 
 use Rattle.drill.specs.Ends.{Ends, IsOutside, IsTooMuch, Played}
 use Rattle.drill.specs.Next.{HoldsNoLine}
 use Rattle.drill.specs.Running.{SoFar}
-use Rattle.drill_world.specs.Transcript.{DrillState, Plays, PlaysAll, doing_of, new_state, script_text, end_lines, is_right, is_too_many, is_placed, lines_limit}
+use Rattle.drill.specs.declared.play.Play.{Ghosts as PlayMeaning}
+use Rattle.drill_world.specs.Transcript.{lines_limit, script_text}
 use Rattle.drill.specs.declared.script.DrillEnd.TheVariants as ends
 use Rattle.byte_forms.specs.Parted.{parted}
 use Rattle.drill_script.specs.LineText.{line_text, is_line, line_limit}
@@ -17,11 +17,14 @@ use Rattle.drill_script.specs.declared.line.Line.{Line}
 use Rattle.byte_forms.proofs.PartedLemmas.{one_cut}
 use Rattle.drill_script.proofs.OneLineLemmas.{one_line}
 use Rattle.drill.proofs.UnbrokenLemmas.{line_unbroken}
-use Rattle.exchange_model.specs.DeliveredOnce.{HasDeliveredOnce}
 
--- the law of delivery
-abbrev pub Delivers : Type 0
-Delivers = (lines : List Line) (text : List ℕ) (state : DrillState) → PlaysAll lines new_state text state → HasDeliveredOnce state.world
+-- what holds of every script of this kind
+pub record Laws {P : Type 0} (M : PlayMeaning P) : Type 0 where
+  pub none : (s : P) → M.plays_all [] s [] s
+  pub more : (lines : List Line) (l : Line) (text words : List ℕ) (a b c : P) → M.plays_all lines a text b
+      → M.right l b ≡ true → M.too_many l b ≡ false → M.plays l b words c → M.plays_all (lines ++ l ∷ []) a (text ++ words) c
+  pub spelled : (l : Line) (s : P) → M.right l s ≡ true → IsTrue (is_line l) × (length (line_text l) ≤ line_limit)
+  pub delivers : (lines : List Line) (text : List ℕ) (s : P) → M.plays_all lines M.first text s → M.delivers s
 
 -- what can't be true is false
 not_true : (b : Bool) → (b ≡ true → ⊥) → b ≡ false
@@ -34,31 +37,10 @@ is_none None never = refl
 is_none (Some x) never = absurd (never x refl)
 
 -- a line that is played
-pub record Turn (l : Line) (words : List ℕ) (old new : DrillState) : Type 0 where
-  pub right : is_right l old ≡ true
-  pub one_more : is_too_many l old ≡ false
-  pub plays : Plays l (doing_of old.world l) old words new
-
--- lines, and one more
-plays_one : (l : Line) (words : List ℕ) (old new : DrillState) → Turn l words old new → PlaysAll (l ∷ []) old words new
-plays_one l words old new turn = (new, words, [], turn.right, turn.one_more, turn.plays, (refl, refl), sym (append-nil words))
-
-plays_more : (lines : List Line) (l : Line) (text words : List ℕ) (first old new : DrillState) → PlaysAll lines first text old → Turn l words old new
-    → PlaysAll (lines ++ l ∷ []) first (text ++ words) new
-plays_more [] l text words first old new plays turn =
-    let here : Turn l words first new = subst (λ (s : DrillState). Turn l words s new) plays.1 turn in
-    let none : words ≡ text ++ words = ap (λ (t : List ℕ). t ++ words) (sym plays.0) in
-    subst (λ (t : List ℕ). PlaysAll (l ∷ []) first t new) none (plays_one l words first new here)
-plays_more (m ∷ lines) l text words first old new plays turn = (
-  plays.0,
-  plays.1,
-  plays.2 ++ words,
-  plays.3,
-  plays.4,
-  plays.5,
-  plays_more lines l plays.2 words plays.0 old new plays.6 turn,
-  ap (λ (t : List ℕ). t ++ words) plays.7 ∙ append_assoc plays.1 plays.2 words,
-)
+pub record Turn {P : Type 0} (M : PlayMeaning P) (l : Line) (words : List ℕ) (old new : P) : Type 0 where
+  pub right : M.right l old ≡ true
+  pub one_more : M.too_many l old ≡ false
+  pub plays : M.plays l old words new
 
 -- their text, and one more
 script_more : (lines : List Line) (l : Line) → script_text (lines ++ l ∷ []) ≡ script_text lines ++ (line_text l ++ 10 ∷ [])
@@ -80,302 +62,318 @@ came_more lines l held start left came =
 count_more : (lines : List Line) (l : Line) (count : ℕ) → length lines ≡ count → length (lines ++ l ∷ []) ≡ count + 1
 count_more lines l count counted = omega (arith, length-append lines (l ∷ []))
 
--- nothing has come
-pub so_far_none : (state : DrillState) (held : List ℕ) (start : Flow) → state ≡ new_state → held ≡ [] → SoFar state held 0 start start
-so_far_none state held start new none = record {
-  lines = [];
-  text = [];
-  plays = (refl, new);
-  counted = refl;
-  few = omega arith;
-  came = sym (before_nil (before held start.left) ∙ ap (λ (l : List ℕ). before l start.left) none ∙ before_nil start.left);
-  ahead = omega (arith, ap length none);
-  wrote = sym (appended_nil start.taken);
-  read = refl;
-  written = refl;
-}
+module _ (P : Type 0) (M : PlayMeaning P) (law : Laws M) where
+  -- nothing has come
+  pub so_far_none : (state : P) (held : List ℕ) (start : Flow) → state ≡ M.first → held ≡ [] → SoFar M state held 0 start start
+  so_far_none state held start new none = record {
+    lines = [];
+    text = [];
+    plays = subst (λ (s : P). M.plays_all [] M.first [] s) (sym new) (law.none M.first);
+    counted = refl;
+    few = omega arith;
+    came = sym (before_nil (before held start.left) ∙ ap (λ (l : List ℕ). before l start.left) none ∙ before_nil start.left);
+    ahead = omega (arith, ap length none);
+    wrote = sym (appended_nil start.taken);
+    read = refl;
+    written = refl;
+  }
 
--- the source gave some of what is left
-pub so_far_read : (state : DrillState) (held next : List ℕ) (count : ℕ) (start now : Flow) (left : Option (List ℕ)) (reads : ℕ)
-    → before held now.left ≡ before next left → length next ≤ ahead_limit → reads ≡ now.reads → SoFar state held count start now
-    → SoFar state next count start (flow left now.taken reads now.writes)
-so_far_read state held next count start now left reads same within quiet s = record {
-  lines = s.lines;
-  text = s.text;
-  plays = s.plays;
-  counted = s.counted;
-  few = s.few;
-  came = s.came ∙ ap (before (script_text s.lines)) same;
-  ahead = within;
-  wrote = s.wrote;
-  read = quiet ∙ s.read;
-  written = s.written;
-}
+  -- the source gave some of what is left
+  pub so_far_read : (state : P) (held next : List ℕ) (count : ℕ) (start now : Flow) (left : Option (List ℕ)) (reads : ℕ)
+      → before held now.left ≡ before next left → length next ≤ ahead_limit → reads ≡ now.reads → SoFar M state held count start now
+      → SoFar M state next count start (flow left now.taken reads now.writes)
+  so_far_read state held next count start now left reads same within quiet s = record {
+    lines = s.lines;
+    text = s.text;
+    plays = s.plays;
+    counted = s.counted;
+    few = s.few;
+    came = s.came ∙ ap (before (script_text s.lines)) same;
+    ahead = within;
+    wrote = s.wrote;
+    read = quiet ∙ s.read;
+    written = s.written;
+  }
 
--- what stands behind a line is no more than both
-held_less : (front held : List ℕ) → length (parted 10 front held) ≤ ahead_limit → length held ≤ ahead_limit
-held_less front held within = omega (arith, within, length-append front (10 ∷ held))
+  -- what stands behind a line is no more than both
+  held_less : (front held : List ℕ) → length (parted 10 front held) ≤ ahead_limit → length held ≤ ahead_limit
+  held_less front held within = omega (arith, within, length-append front (10 ∷ held))
 
--- a line was played and its text written
-pub so_far_played : (l : Line) (words : List ℕ) (state new : DrillState) (held : List ℕ) (count : ℕ) (start now : Flow) (taken : Option (List ℕ)) (writes : ℕ)
-    → SoFar state (parted 10 (line_text l) held) count start now → Turn l words state new → count < lines_limit
-    → taken ≡ appended now.taken words → writes ≡ now.writes
-    → SoFar new held (count + 1) start (flow now.left taken now.reads writes)
-so_far_played l words state new held count start now taken writes s turn few wrote quiet = record {
-  lines = s.lines ++ l ∷ [];
-  text = s.text ++ words;
-  plays = plays_more s.lines l s.text words new_state state new s.plays turn;
-  counted = count_more s.lines l count s.counted;
-  few = omega (arith, few);
-  came = came_more s.lines l held start.left now.left s.came;
-  ahead = held_less (line_text l) held s.ahead;
-  wrote = wrote ∙ ap (λ (told : Option (List ℕ)). appended told words) s.wrote ∙ appended_append start.taken s.text words;
-  read = s.read;
-  written = quiet ∙ s.written;
-}
+  -- a line was played and its text written
+  pub so_far_played : (l : Line) (words : List ℕ) (state new : P) (held : List ℕ) (count : ℕ) (start now : Flow) (taken : Option (List ℕ)) (writes : ℕ)
+      → SoFar M state (parted 10 (line_text l) held) count start now → Turn M l words state new → count < lines_limit
+      → taken ≡ appended now.taken words → writes ≡ now.writes
+      → SoFar M new held (count + 1) start (flow now.left taken now.reads writes)
+  so_far_played l words state new held count start now taken writes s turn few wrote quiet = record {
+    lines = s.lines ++ l ∷ [];
+    text = s.text ++ words;
+    plays = law.more s.lines l s.text words M.first state new s.plays turn.right turn.one_more turn.plays;
+    counted = count_more s.lines l count s.counted;
+    few = omega (arith, few);
+    came = came_more s.lines l held start.left now.left s.came;
+    ahead = held_less (line_text l) held s.ahead;
+    wrote = wrote ∙ ap (λ (told : Option (List ℕ)). appended told words) s.wrote ∙ appended_append start.taken s.text words;
+    read = s.read;
+    written = quiet ∙ s.written;
+  }
 
-played_so_far : (law : Delivers) (state : DrillState) (held : List ℕ) (count : ℕ) (start now : Flow) (s : SoFar state held count start now) → Played s.lines s.text state
-played_so_far law state held count start now s =
-    record { plays = s.plays; few = omega (arith, s.counted, s.few); once = law s.lines s.text state s.plays }
+  played_so_far : (state : P) (held : List ℕ) (count : ℕ) (start now : Flow) (s : SoFar M state held count start now) → Played M s.lines s.text state
+  played_so_far state held count start now s =
+      record { plays = s.plays; few = omega (arith, s.counted, s.few); once = law.delivers s.lines s.text state s.plays }
 
--- what the source has lost
-pub lost_so_far : (state : DrillState) (held : List ℕ) (count : ℕ) (start now : Flow) (s : SoFar state held count start now)
-    → LosesFront (length (script_text s.lines) + ahead_limit) start.left now.left
-lost_so_far state held count start now s =
-    (script_text s.lines ++ held, omega (arith, s.ahead, length-append (script_text s.lines) held), s.came ∙ before_append (script_text s.lines) held now.left)
+  -- what the source has lost
+  pub lost_so_far : (state : P) (held : List ℕ) (count : ℕ) (start now : Flow) (s : SoFar M state held count start now)
+      → LosesFront (length (script_text s.lines) + ahead_limit) start.left now.left
+  lost_so_far state held count start now s =
+      (script_text s.lines ++ held, omega (arith, s.ahead, length-append (script_text s.lines) held), s.came ∙ before_append (script_text s.lines) held now.left)
 
--- what is told behind a front
-rest_told : (front : List ℕ) (start rest : Option (List ℕ)) (P : List ℕ → Type 0) → start ≡ before front rest → Told rest P
-    → Told start (λ script. (behind_it : List ℕ) × (script ≡ front ++ behind_it) × P behind_it)
-rest_told front start None P came told script is = absurd cc
-rest_told front start (Some rest) P came told script is =
-    let same : script ≡ front ++ rest = cc in
-    (rest, same, told rest refl)
+  -- what is told behind a front
+  rest_told : (front : List ℕ) (start rest : Option (List ℕ)) (P : List ℕ → Type 0) → start ≡ before front rest → Told rest P
+      → Told start (λ script. (behind_it : List ℕ) × (script ≡ front ++ behind_it) × P behind_it)
+  rest_told front start None P came told script is = absurd cc
+  rest_told front start (Some rest) P came told script is =
+      let same : script ≡ front ++ rest = cc in
+      (rest, same, told rest refl)
 
-rest_is : (front : List ℕ) (start rest : Option (List ℕ)) → start ≡ before front rest
-    → Told start (λ script. (behind_it : List ℕ) × (script ≡ front ++ behind_it))
-rest_is front start None came script is = absurd cc
-rest_is front start (Some rest) came script is =
-    let same : script ≡ front ++ rest = cc in
-    (rest, same)
+  rest_is : (front : List ℕ) (start rest : Option (List ℕ)) → start ≡ before front rest
+      → Told start (λ script. (behind_it : List ℕ) × (script ≡ front ++ behind_it))
+  rest_is front start None came script is = absurd cc
+  rest_is front start (Some rest) came script is =
+      let same : script ≡ front ++ rest = cc in
+      (rest, same)
 
-nothing_told : (front : List ℕ) (start rest : Option (List ℕ)) → start ≡ before front rest → Told rest (λ bytes. bytes ≡ [])
-    → Told start (λ script. script ≡ front ++ [])
-nothing_told front start None came none script is = absurd cc
-nothing_told front start (Some rest) came none script is =
-    let same : script ≡ front ++ rest = cc in
-    same ∙ ap (λ (t : List ℕ). front ++ t) (none rest refl)
+  nothing_told : (front : List ℕ) (start rest : Option (List ℕ)) → start ≡ before front rest → Told rest (λ bytes. bytes ≡ [])
+      → Told start (λ script. script ≡ front ++ [])
+  nothing_told front start None came none script is = absurd cc
+  nothing_told front start (Some rest) came none script is =
+      let same : script ≡ front ++ rest = cc in
+      same ∙ ap (λ (t : List ℕ). front ++ t) (none rest refl)
 
--- bytes that hold no line are outside
-no_line_outside : (lines : List Line) (state : DrillState) (rest : List ℕ) → HoldsNoLine rest → IsOutside lines state rest
-no_line_outside lines state rest none = (none.0, inr (λ l more is. not_true (is_right l state) (λ right. never l more is right)))
-  where
-    never : (l : Line) (more : List ℕ) → rest ≡ line_text l ++ 10 ∷ more → is_right l state ≡ true → ⊥
-    never l more is right =
-        let parts = and_parts (is_line l) (nat_le (length (line_text l)) line_limit && is_placed l state) right in
-        let short = and_parts (nat_le (length (line_text l)) line_limit) (is_placed l state) parts.1 in
-        let low : length (line_text l) ≤ line_limit = leb-true (length (line_text l)) line_limit short.0 in
-        let long : line_limit < length (line_text l) = none.1 l more is parts.0 in
-        omega arith
+  -- bytes that hold no line are outside
+  no_line_outside : (lines : List Line) (state : P) (rest : List ℕ) → HoldsNoLine rest → IsOutside M lines state rest
+  no_line_outside lines state rest none = (none.0, inr (λ l more is. not_true (M.right l state) (λ right. never l more is right)))
+    where
+      never : (l : Line) (more : List ℕ) → rest ≡ line_text l ++ 10 ∷ more → M.right l state ≡ true → ⊥
+      never l more is right =
+          let spelled = law.spelled l state right in
+          let low : length (line_text l) ≤ line_limit = spelled.1 in
+          let long : line_limit < length (line_text l) = none.1 l more is spelled.0 in
+          omega arith
 
--- a line that isn't right here is the only one here
-wrong_outside : (lines : List Line) (state : DrillState) (l : Line) (more rest : List ℕ) → rest ≡ line_text l ++ 10 ∷ more → IsTrue (is_line l)
-    → is_right l state ≡ false → IsOutside lines state rest
-wrong_outside lines state l more rest is said wrong = (
-  omega (arith, ap length is, length-append (line_text l) (10 ∷ more)),
-  inr (λ m others same. not_true (is_right m state) (λ right. never m others same right)),
+  -- a line that isn't right here is the only one here
+  wrong_outside : (lines : List Line) (state : P) (l : Line) (more rest : List ℕ) → rest ≡ line_text l ++ 10 ∷ more → IsTrue (is_line l)
+      → M.right l state ≡ false → IsOutside M lines state rest
+  wrong_outside lines state l more rest is said wrong = (
+    omega (arith, ap length is, length-append (line_text l) (10 ∷ more)),
+    inr (λ m others same. not_true (M.right m state) (λ right. never m others same right)),
+  )
+    where
+      never : (m : Line) (others : List ℕ) → rest ≡ line_text m ++ 10 ∷ others → M.right m state ≡ true → ⊥
+      never m others same right =
+          let other : IsTrue (is_line m) = (law.spelled m state right).0 in
+          let cut = one_cut 10 (line_text l) more (line_text m) others (sym is ∙ same) (line_unbroken l said) (line_unbroken m other) in
+          let one : l ≡ m = one_line l m said other cut.0 in
+          let clash : M.right m state ≡ false = subst (λ (k : Line). M.right k state ≡ false) one wrong in
+          cc
+
+  -- what a line that is told stands before
+  line_told : (l : Line) (held : List ℕ) (left : Option (List ℕ)) (P : List ℕ → Type 0)
+      → ((more rest : List ℕ) → rest ≡ line_text l ++ 10 ∷ more → P rest) → Told (before (parted 10 (line_text l) held) left) P
+  line_told l held None P each rest is = absurd cc
+  line_told l held (Some left) P each rest is =
+      let whole : rest ≡ parted 10 (line_text l) held ++ left = cc in
+      each (held ++ left) rest (whole ∙ append_assoc (line_text l) (10 ∷ held) left)
+
+  -- no line of the grammar stands next
+  pub ends_outside : (state : P) (held : List ℕ) (count : ℕ) (start now : Flow) → SoFar M state held count start now
+      → Told (before held now.left) HoldsNoLine → Ends M (ends.Line (count + 1)) (between start now)
+  ends_outside state held count start now s none = (
+    s.lines,
+    s.text,
+    state,
+    played_so_far state held count start now s,
+    (
+      omega (arith, s.counted),
+      s.wrote,
+      rest_told (script_text s.lines) start.left (before held now.left) (IsOutside M s.lines state) s.came
+          (λ rest is. no_line_outside s.lines state rest (none rest is)),
+    ),
+    (s.read, s.written),
+    lost_so_far state held count start now s,
+  )
+
+  -- a line that isn't in its place stands next
+  pub ends_wrong : (l : Line) (state : P) (held : List ℕ) (count : ℕ) (start now : Flow)
+      → SoFar M state (parted 10 (line_text l) held) count start now → IsTrue (is_line l) → M.right l state ≡ false
+      → Ends M (ends.Line (count + 1)) (between start now)
+  ends_wrong l state held count start now s said wrong = (
+    s.lines,
+    s.text,
+    state,
+    played_so_far state (parted 10 (line_text l) held) count start now s,
+    (
+      omega (arith, s.counted),
+      s.wrote,
+      rest_told (script_text s.lines) start.left (before (parted 10 (line_text l) held) now.left) (IsOutside M s.lines state) s.came
+          (line_told l held now.left (IsOutside M s.lines state) (λ more rest is. wrong_outside s.lines state l more rest is said wrong)),
+    ),
+    (s.read, s.written),
+    lost_so_far state (parted 10 (line_text l) held) count start now s,
+  )
+
+  -- a count that rose from where it stood
+  rose_since : (start now later : ℕ) → now ≡ start → Rose now later → Rose start later
+  rose_since start now later same rose = subst (λ (n : ℕ). Rose n later) same rose
+
+  -- nothing is held where nothing is held and left
+  nothing_left : (held : List ℕ) (left : Option (List ℕ)) → Told (before held left) (λ bytes. bytes ≡ []) → Told left (λ bytes. bytes ≡ [])
+  nothing_left [] None none bytes is = absurd cc
+  nothing_left (h ∷ held) None none bytes is = absurd cc
+  nothing_left [] (Some rest) none bytes is = let same : bytes ≡ rest = cc in same ∙ none rest refl
+  nothing_left (h ∷ held) (Some rest) none bytes is = let never : h ∷ (held ++ rest) ≡ [] = none (h ∷ (held ++ rest)) refl in absurd (cc never)
+
+  -- a line stands next that would make one event too many
+  pub ends_too_many : (l : Line) (state : P) (held : List ℕ) (count : ℕ) (start now : Flow)
+      → SoFar M state (parted 10 (line_text l) held) count start now → M.right l state ≡ true → M.too_many l state ≡ true → count < lines_limit
+      → Ends M ends.TooMany (between start now)
+  ends_too_many l state held count start now s right many few = (
+    s.lines,
+    s.text,
+    state,
+    played_so_far state (parted 10 (line_text l) held) count start now s,
+    (
+      s.wrote,
+      rest_told (script_text s.lines) start.left (before (parted 10 (line_text l) held) now.left) (IsTooMuch M s.lines state) s.came
+          (line_told l held now.left (IsTooMuch M s.lines state) (λ more rest is. (l, more, is, right, many, omega (arith, s.counted, few)))),
+    ),
+    (s.read, s.written),
+    lost_so_far state (parted 10 (line_text l) held) count start now s,
+  )
+
+  -- so many lines were played as a script may have, and one stands next
+  pub ends_full : (l : Line) (state : P) (held : List ℕ) (count : ℕ) (start now : Flow)
+      → SoFar M state (parted 10 (line_text l) held) count start now → count ≡ lines_limit → Ends M (ends.Line (count + 1)) (between start now)
+  ends_full l state held count start now s full = (
+    s.lines,
+    s.text,
+    state,
+    played_so_far state (parted 10 (line_text l) held) count start now s,
+    (
+      omega (arith, s.counted),
+      s.wrote,
+      rest_told (script_text s.lines) start.left (before (parted 10 (line_text l) held) now.left) (IsOutside M s.lines state) s.came
+          (line_told l held now.left (IsOutside M s.lines state) (λ more rest is. (some_left more rest is, inl (s.counted ∙ full)))),
+    ),
+    (s.read, s.written),
+    lost_so_far state (parted 10 (line_text l) held) count start now s,
+  )
+    where
+      some_left : (more rest : List ℕ) → rest ≡ line_text l ++ 10 ∷ more → 0 < length rest
+      some_left more rest is = omega (arith, ap length is, length-append (line_text l) (10 ∷ more))
+
+  -- memory ran out
+  pub ends_without_memory : (state : P) (held : List ℕ) (count : ℕ) (start now : Flow) → SoFar M state held count start now
+      → Ends M ends.NoMemory (between start now)
+  ends_without_memory state held count start now s = (
+    s.lines,
+    s.text,
+    state,
+    played_so_far state held count start now s,
+    (s.wrote, rest_is (script_text s.lines) start.left (before held now.left) s.came),
+    (s.read, s.written),
+    lost_so_far state held count start now s,
+  )
+
+  -- the source failed
+  pub ends_unread : (state : P) (held : List ℕ) (count : ℕ) (start now : Flow) (reads : ℕ) → SoFar M state held count start now
+      → Rose now.reads reads → Ends M ends.ReadFault (between start (flow now.left now.taken reads now.writes))
+  ends_unread state held count start now reads s rose = (
+    s.lines,
+    s.text,
+    state,
+    played_so_far state held count start now s,
+    (s.wrote, rest_is (script_text s.lines) start.left (before held now.left) s.came),
+    (rose_since start.reads now.reads reads s.read rose, s.written),
+    lost_so_far state held count start now s,
+  )
+
+  -- all was read and written
+  pub ends_read : (state : P) (held : List ℕ) (count : ℕ) (start now : Flow) (taken : Option (List ℕ)) (writes : ℕ)
+      → SoFar M state held count start now → Told (before held now.left) (λ bytes. bytes ≡ [])
+      → taken ≡ appended now.taken (M.end_lines state) → writes ≡ now.writes
+      → Ends M ends.Read (between start (flow now.left taken now.reads writes))
+  ends_read state held count start now taken writes s none wrote quiet = (
+    s.lines,
+    s.text,
+    state,
+    played_so_far state held count start now s,
+    (
+      nothing_told (script_text s.lines) start.left (before held now.left) s.came none,
+      wrote ∙ ap (λ (told : Option (List ℕ)). appended told (M.end_lines state)) s.wrote ∙ appended_append start.taken s.text (M.end_lines state),
+    ),
+    (s.read, quiet ∙ s.written),
+    nothing_left held now.left none,
+  )
+
+  -- the sink failed within the numbers of the ends
+  pub ends_unfinished : (state : P) (held : List ℕ) (count : ℕ) (start now : Flow) (taken : Option (List ℕ)) (writes : ℕ)
+      → SoFar M state held count start now → Told (before held now.left) (λ bytes. bytes ≡ [])
+      → TakesFront (M.end_lines state) now.taken taken → Rose now.writes writes
+      → Ends M ends.WriteFault (between start (flow now.left taken now.reads writes))
+  ends_unfinished state held count start now taken writes s none front rose = (
+    s.lines,
+    s.text,
+    state,
+    played_so_far state held count start now s,
+    inr (
+      takes_more s.text (M.end_lines state) start.taken now.taken taken s.wrote front,
+      nothing_told (script_text s.lines) start.left (before held now.left) s.came none,
+    ),
+    (s.read, rose_since start.writes now.writes writes s.written rose),
+    lost_so_far state held count start now s,
+  )
+
+  -- the sink failed within the text of a line
+  pub ends_unwritten : (l : Line) (words : List ℕ) (state new : P) (held : List ℕ) (count : ℕ) (start now : Flow) (taken : Option (List ℕ)) (writes : ℕ)
+      → SoFar M state (parted 10 (line_text l) held) count start now → Turn M l words state new → count < lines_limit
+      → TakesFront words now.taken taken → Rose now.writes writes
+      → Ends M ends.WriteFault (between start (flow now.left taken now.reads writes))
+  ends_unwritten l words state new held count start now taken writes s turn few front rose = (
+    s.lines ++ l ∷ [],
+    s.text ++ words,
+    new,
+    (
+        let plays = law.more s.lines l s.text words M.first state new s.plays turn.right turn.one_more turn.plays in
+        record {
+          plays = plays;
+          few = omega (arith, count_more s.lines l count s.counted, few);
+          once = law.delivers (s.lines ++ l ∷ []) (s.text ++ words) new plays;
+        }
+        ),
+    inl (
+      takes_more s.text words start.taken now.taken taken s.wrote front,
+      rest_is (script_text (s.lines ++ l ∷ [])) start.left (before held now.left) (came_more s.lines l held start.left now.left s.came),
+    ),
+    (s.read, rose_since start.writes now.writes writes s.written rose),
+    (
+      script_text (s.lines ++ l ∷ []) ++ held,
+      omega (arith, held_less (line_text l) held s.ahead, length-append (script_text (s.lines ++ l ∷ [])) held),
+      came_more s.lines l held start.left now.left s.came ∙ before_append (script_text (s.lines ++ l ∷ [])) held now.left,
+    ),
+  )
+
+-- no line was played for want of memory
+pub ends_at_once : (P : Type 0) (M : PlayMeaning P) → M.plays_all [] M.first [] M.first → M.delivers M.first → (start : Flow)
+    → Ends M ends.NoMemory (between start start)
+ends_at_once P M none once start = (
+  [],
+  [],
+  M.first,
+  record { plays = none; few = omega arith; once = once },
+  (sym (appended_nil start.taken), all_of start.left),
+  (refl, refl),
+  ([], omega arith, sym (before_nil start.left)),
 )
   where
-    never : (m : Line) (others : List ℕ) → rest ≡ line_text m ++ 10 ∷ others → is_right m state ≡ true → ⊥
-    never m others same right =
-        let other : IsTrue (is_line m) = (and_parts (is_line m) (nat_le (length (line_text m)) line_limit && is_placed m state) right).0 in
-        let cut = one_cut 10 (line_text l) more (line_text m) others (sym is ∙ same) (line_unbroken l said) (line_unbroken m other) in
-        let one : l ≡ m = one_line l m said other cut.0 in
-        let clash : is_right m state ≡ false = subst (λ (k : Line). is_right k state ≡ false) one wrong in
-        cc
-
--- what a line that is told stands before
-line_told : (l : Line) (held : List ℕ) (left : Option (List ℕ)) (P : List ℕ → Type 0)
-    → ((more rest : List ℕ) → rest ≡ line_text l ++ 10 ∷ more → P rest) → Told (before (parted 10 (line_text l) held) left) P
-line_told l held None P each rest is = absurd cc
-line_told l held (Some left) P each rest is =
-    let whole : rest ≡ parted 10 (line_text l) held ++ left = cc in
-    each (held ++ left) rest (whole ∙ append_assoc (line_text l) (10 ∷ held) left)
-
--- no line of the grammar stands next
-pub ends_outside : Delivers → (state : DrillState) (held : List ℕ) (count : ℕ) (start now : Flow) → SoFar state held count start now
-    → Told (before held now.left) HoldsNoLine → Ends (ends.Line (count + 1)) (between start now)
-ends_outside law state held count start now s none = (
-  s.lines,
-  s.text,
-  state,
-  played_so_far law state held count start now s,
-  (
-    omega (arith, s.counted),
-    s.wrote,
-    rest_told (script_text s.lines) start.left (before held now.left) (IsOutside s.lines state) s.came
-        (λ rest is. no_line_outside s.lines state rest (none rest is)),
-  ),
-  (s.read, s.written),
-  lost_so_far state held count start now s,
-)
-
--- a line that isn't in its place stands next
-pub ends_wrong : Delivers → (l : Line) (state : DrillState) (held : List ℕ) (count : ℕ) (start now : Flow)
-    → SoFar state (parted 10 (line_text l) held) count start now → IsTrue (is_line l) → is_right l state ≡ false
-    → Ends (ends.Line (count + 1)) (between start now)
-ends_wrong law l state held count start now s said wrong = (
-  s.lines,
-  s.text,
-  state,
-  played_so_far law state (parted 10 (line_text l) held) count start now s,
-  (
-    omega (arith, s.counted),
-    s.wrote,
-    rest_told (script_text s.lines) start.left (before (parted 10 (line_text l) held) now.left) (IsOutside s.lines state) s.came
-        (line_told l held now.left (IsOutside s.lines state) (λ more rest is. wrong_outside s.lines state l more rest is said wrong)),
-  ),
-  (s.read, s.written),
-  lost_so_far state (parted 10 (line_text l) held) count start now s,
-)
-
--- a count that rose from where it stood
-rose_since : (start now later : ℕ) → now ≡ start → Rose now later → Rose start later
-rose_since start now later same rose = subst (λ (n : ℕ). Rose n later) same rose
-
--- nothing is held where nothing is held and left
-nothing_left : (held : List ℕ) (left : Option (List ℕ)) → Told (before held left) (λ bytes. bytes ≡ []) → Told left (λ bytes. bytes ≡ [])
-nothing_left [] None none bytes is = absurd cc
-nothing_left (h ∷ held) None none bytes is = absurd cc
-nothing_left [] (Some rest) none bytes is = let same : bytes ≡ rest = cc in same ∙ none rest refl
-nothing_left (h ∷ held) (Some rest) none bytes is = let never : h ∷ (held ++ rest) ≡ [] = none (h ∷ (held ++ rest)) refl in absurd (cc never)
-
--- a line stands next that would make one event too many
-pub ends_too_many : Delivers → (l : Line) (state : DrillState) (held : List ℕ) (count : ℕ) (start now : Flow)
-    → SoFar state (parted 10 (line_text l) held) count start now → is_right l state ≡ true → is_too_many l state ≡ true → count < lines_limit
-    → Ends ends.TooMany (between start now)
-ends_too_many law l state held count start now s right many few = (
-  s.lines,
-  s.text,
-  state,
-  played_so_far law state (parted 10 (line_text l) held) count start now s,
-  (
-    s.wrote,
-    rest_told (script_text s.lines) start.left (before (parted 10 (line_text l) held) now.left) (IsTooMuch s.lines state) s.came
-        (line_told l held now.left (IsTooMuch s.lines state) (λ more rest is. (l, more, is, right, many, omega (arith, s.counted, few)))),
-  ),
-  (s.read, s.written),
-  lost_so_far state (parted 10 (line_text l) held) count start now s,
-)
-
--- so many lines were played as a script may have, and one stands next
-pub ends_full : Delivers → (l : Line) (state : DrillState) (held : List ℕ) (count : ℕ) (start now : Flow)
-    → SoFar state (parted 10 (line_text l) held) count start now → count ≡ lines_limit → Ends (ends.Line (count + 1)) (between start now)
-ends_full law l state held count start now s full = (
-  s.lines,
-  s.text,
-  state,
-  played_so_far law state (parted 10 (line_text l) held) count start now s,
-  (
-    omega (arith, s.counted),
-    s.wrote,
-    rest_told (script_text s.lines) start.left (before (parted 10 (line_text l) held) now.left) (IsOutside s.lines state) s.came
-        (line_told l held now.left (IsOutside s.lines state) (λ more rest is. (some_left more rest is, inl (s.counted ∙ full)))),
-  ),
-  (s.read, s.written),
-  lost_so_far state (parted 10 (line_text l) held) count start now s,
-)
-  where
-    some_left : (more rest : List ℕ) → rest ≡ line_text l ++ 10 ∷ more → 0 < length rest
-    some_left more rest is = omega (arith, ap length is, length-append (line_text l) (10 ∷ more))
-
--- memory ran out
-pub ends_without_memory : Delivers → (state : DrillState) (held : List ℕ) (count : ℕ) (start now : Flow) → SoFar state held count start now
-    → Ends ends.NoMemory (between start now)
-ends_without_memory law state held count start now s = (
-  s.lines,
-  s.text,
-  state,
-  played_so_far law state held count start now s,
-  (s.wrote, rest_is (script_text s.lines) start.left (before held now.left) s.came),
-  (s.read, s.written),
-  lost_so_far state held count start now s,
-)
-
--- the source failed
-pub ends_unread : Delivers → (state : DrillState) (held : List ℕ) (count : ℕ) (start now : Flow) (reads : ℕ) → SoFar state held count start now
-    → Rose now.reads reads → Ends ends.ReadFault (between start (flow now.left now.taken reads now.writes))
-ends_unread law state held count start now reads s rose = (
-  s.lines,
-  s.text,
-  state,
-  played_so_far law state held count start now s,
-  (s.wrote, rest_is (script_text s.lines) start.left (before held now.left) s.came),
-  (rose_since start.reads now.reads reads s.read rose, s.written),
-  lost_so_far state held count start now s,
-)
-
--- all was read and written
-pub ends_read : Delivers → (state : DrillState) (held : List ℕ) (count : ℕ) (start now : Flow) (taken : Option (List ℕ)) (writes : ℕ)
-    → SoFar state held count start now → Told (before held now.left) (λ bytes. bytes ≡ [])
-    → taken ≡ appended now.taken (end_lines state.world) → writes ≡ now.writes
-    → Ends ends.Read (between start (flow now.left taken now.reads writes))
-ends_read law state held count start now taken writes s none wrote quiet = (
-  s.lines,
-  s.text,
-  state,
-  played_so_far law state held count start now s,
-  (
-    nothing_told (script_text s.lines) start.left (before held now.left) s.came none,
-    wrote ∙ ap (λ (told : Option (List ℕ)). appended told (end_lines state.world)) s.wrote ∙ appended_append start.taken s.text (end_lines state.world),
-  ),
-  (s.read, quiet ∙ s.written),
-  nothing_left held now.left none,
-)
-
--- the sink failed within the numbers of the ends
-pub ends_unfinished : Delivers → (state : DrillState) (held : List ℕ) (count : ℕ) (start now : Flow) (taken : Option (List ℕ)) (writes : ℕ)
-    → SoFar state held count start now → Told (before held now.left) (λ bytes. bytes ≡ [])
-    → TakesFront (end_lines state.world) now.taken taken → Rose now.writes writes
-    → Ends ends.WriteFault (between start (flow now.left taken now.reads writes))
-ends_unfinished law state held count start now taken writes s none front rose = (
-  s.lines,
-  s.text,
-  state,
-  played_so_far law state held count start now s,
-  inr (
-    takes_more s.text (end_lines state.world) start.taken now.taken taken s.wrote front,
-    nothing_told (script_text s.lines) start.left (before held now.left) s.came none,
-  ),
-  (s.read, rose_since start.writes now.writes writes s.written rose),
-  lost_so_far state held count start now s,
-)
-
--- the sink failed within the text of a line
-pub ends_unwritten : Delivers → (l : Line) (words : List ℕ) (state new : DrillState) (held : List ℕ) (count : ℕ) (start now : Flow) (taken : Option (List ℕ)) (writes : ℕ)
-    → SoFar state (parted 10 (line_text l) held) count start now → Turn l words state new → count < lines_limit
-    → TakesFront words now.taken taken → Rose now.writes writes
-    → Ends ends.WriteFault (between start (flow now.left taken now.reads writes))
-ends_unwritten law l words state new held count start now taken writes s turn few front rose = (
-  s.lines ++ l ∷ [],
-  s.text ++ words,
-  new,
-  (
-      let plays = plays_more s.lines l s.text words new_state state new s.plays turn in
-      record {
-        plays = plays;
-        few = omega (arith, count_more s.lines l count s.counted, few);
-        once = law (s.lines ++ l ∷ []) (s.text ++ words) new plays;
-      }
-      ),
-  inl (
-    takes_more s.text words start.taken now.taken taken s.wrote front,
-    rest_is (script_text (s.lines ++ l ∷ [])) start.left (before held now.left) (came_more s.lines l held start.left now.left s.came),
-  ),
-  (s.read, rose_since start.writes now.writes writes s.written rose),
-  (
-    script_text (s.lines ++ l ∷ []) ++ held,
-    omega (arith, held_less (line_text l) held s.ahead, length-append (script_text (s.lines ++ l ∷ [])) held),
-    came_more s.lines l held start.left now.left s.came ∙ before_append (script_text (s.lines ++ l ∷ [])) held now.left,
-  ),
-)
+    all_of : (left : Option (List ℕ)) → Told left (λ script. (rest : List ℕ) × (script ≡ script_text [] ++ rest))
+    all_of left script told = (script, refl)

@@ -1,5 +1,5 @@
 -- How the generated world is led on, line by line.
-use Rattle.std.proofs.Common.{◌≡◌, ◌≢◌, inl, inr, ℕ, zero, suc, ◌+◌, ◌*◌, ◌^◌, ◌%◌, ◌==◌, ◌<◌, ◌≤◌, List, [], ◌∷◌, ◌++◌, Bool, true, false, ◌&&◌, nat_le, if◌then◌else◌, length, Some, refl, sym, ◌∙◌, ap, subst, arith, append_assoc, length-append, codes}
+use Rattle.std.proofs.Common.{◌≡◌, ◌≢◌, inl, inr, ℕ, zero, suc, ◌+◌, ◌*◌, ◌^◌, ◌%◌, ◌==◌, ◌<◌, ◌≤◌, List, [], ◌∷◌, ◌++◌, Bool, true, false, ◌&&◌, nat_le, if◌then◌else◌, length, None, Some, refl, sym, ◌∙◌, ap, subst, arith, append_assoc, length-append, codes}
 use Rattle.std.specs.Prelude.{IsTrue, Ok, OnOk, Err, Result, ⊤}
 use Rattle.std.specs.Fmt.{decimal}
 use Rattle.std.proofs.lemmas.Bool.{and_from, eq-eqb, ne_eqb, le-leb, lt-ltb, leb-false}
@@ -10,10 +10,10 @@ use Rattle.drill_world.specs.Events.{Doing}
 use Rattle.drill.specs.Generated.{IsGenerated, Leads, Pushes, PlaysRound, Rounds, Taken, transmission, carried, carried_both, counted, submissions, ticks_a, invoice, next_number, size_by}
 use Rattle.drill.specs.Generating.{Grows, PlaysTransmission}
 use Rattle.drill_world.specs.Transcript.{Plays, PlaysAll, DrillState, doing_of, events_limit, is_right, is_too_many, new_state, running_of}
-use Rattle.drill.proofs.EndLemmas.{Delivers}
 use Rattle.drill.proofs.SpendLemmas.{line_events, submits_grow}
 use Rattle.drill_world.proofs.StateLemmas.{right_at_end}
 use Rattle.drill_script.specs.LineText.{line_text, line_limit, is_line, is_name, is_stoppable, load_text}
+use Rattle.drill_script.specs.Scripts.{is_of_pair, is_pair_line}
 use Rattle.drill_script.specs.declared.line.EndName.{EndName}
 use Rattle.drill_script.specs.declared.line.EndName.TheVariants as name
 use Rattle.drill_script.specs.declared.line.Line.{Line}
@@ -22,6 +22,10 @@ use Rattle.drill_script.specs.declared.line.Stoppable.TheVariants as run
 use Rattle.drill_script.specs.declared.line.ScriptLoad.TheVariants.{Size}
 use Rattle.drill_script.specs.declared.line.Way.TheVariants.{Push}
 use Rattle.exchange_model.specs.DeliveredOnce.{HasDeliveredOnce}
+
+-- the law of delivery
+abbrev pub Delivers : Type 0
+Delivers = (lines : List Line) (text : List ℕ) (state : DrillState) → PlaysAll lines new_state text state → HasDeliveredOnce state.world
 
 -- lines, and more of them
 
@@ -51,7 +55,7 @@ leads_none old new same = ([], (refl, same))
 
 -- the rule, at this number of the counter
 carried_twice_is : (c : ℕ) (end : EndName) (place : ℕ) → c % 3 ≢ 2 → c % 5 ≡ 4
-    → line.Run (run.Came end place) ∷ line.Lost end place ∷ [] ≡ carried c end place
+    → line.Run (run.Came end None place) ∷ line.Lost end None place ∷ [] ≡ carried c end place
 carried_twice_is c end place first last = rw (ne_eqb (c % 3) 2 first, eq-eqb (c % 5) 4 last) refl
 
 both_is : (c place answer : ℕ) → c % 3 ≢ 2 → carried c name.B place ++ carried (c + 1) name.A answer ≡ carried_both c place answer
@@ -71,9 +75,9 @@ leads_more (Ok done) xs ys all old mid new is first rest =
 leads_more (Err e) xs ys all old mid new is first rest = tt
 
 pub carried_twice : {E : Type 0} (result : Result ⊤ E) (c : ℕ) (end : EndName) (place : ℕ) (old mid new : DrillState) → c % 3 ≢ 2 → c % 5 ≡ 4
-    → Leads (line.Run (run.Came end place) ∷ []) old mid → OnOk result (Leads (line.Lost end place ∷ []) mid new) → OnOk result (Leads (carried c end place) old new)
+    → Leads (line.Run (run.Came end None place) ∷ []) old mid → OnOk result (Leads (line.Lost end None place ∷ []) mid new) → OnOk result (Leads (carried c end place) old new)
 carried_twice result c end place old mid new first last came lost =
-    leads_more result (line.Run (run.Came end place) ∷ []) (line.Lost end place ∷ []) (carried c end place) old mid new (carried_twice_is c end place first last) came lost
+    leads_more result (line.Run (run.Came end None place) ∷ []) (line.Lost end None place ∷ []) (carried c end place) old mid new (carried_twice_is c end place first last) came lost
 
 pub both_carried : {E : Type 0} (result : Result ⊤ E) (c place answer : ℕ) (old mid new : DrillState) → c % 3 ≢ 2
     → Leads (carried c name.B place) old mid → OnOk result (Leads (carried (c + 1) name.A answer) mid new)
@@ -167,15 +171,21 @@ transmission_few c later old new few transmission =
 decimal_short : (n : ℕ) → n < 2 ^ 64 → length (decimal n) ≤ 20
 decimal_short n small = length-decimal-le 20 n (omega arith) (omega arith) small
 
-pub came_short : (end : EndName) (n : ℕ) → n < 2 ^ 64 → length (line_text (line.Run (run.Came end n))) ≤ line_limit
+pub came_short : (end : EndName) (n : ℕ) → n < 2 ^ 64 → length (line_text (line.Run (run.Came end None n))) ≤ line_limit
 unfolding line_text
 came_short name.A n small = let short = decimal_short n small in omega (arith, length-append {A = ℕ})
 came_short name.B n small = let short = decimal_short n small in omega (arith, length-append {A = ℕ})
+came_short name.First n small = let short = decimal_short n small in omega (arith, length-append {A = ℕ})
+came_short name.Hub n small = let short = decimal_short n small in omega (arith, length-append {A = ℕ})
+came_short name.Last n small = let short = decimal_short n small in omega (arith, length-append {A = ℕ})
 
-pub lost_short : (end : EndName) (n : ℕ) → n < 2 ^ 64 → length (line_text (line.Lost end n)) ≤ line_limit
+pub lost_short : (end : EndName) (n : ℕ) → n < 2 ^ 64 → length (line_text (line.Lost end None n)) ≤ line_limit
 unfolding line_text
 lost_short name.A n small = let short = decimal_short n small in omega (arith, length-append {A = ℕ})
 lost_short name.B n small = let short = decimal_short n small in omega (arith, length-append {A = ℕ})
+lost_short name.First n small = let short = decimal_short n small in omega (arith, length-append {A = ℕ})
+lost_short name.Hub n small = let short = decimal_short n small in omega (arith, length-append {A = ℕ})
+lost_short name.Last n small = let short = decimal_short n small in omega (arith, length-append {A = ℕ})
 
 pub tick_short : (n : ℕ) → n < 2 ^ 64 → length (line_text (line.Run (run.Tick name.A n))) ≤ line_limit
 unfolding line_text
@@ -193,7 +203,7 @@ pub take_short : length (line_text (line.Run (run.Take name.A))) ≤ line_limit
 unfolding line_text
 take_short = omega arith
 
-pub mode_short : length (line_text (line.Mode invoice Push 10 3000)) ≤ line_limit
+pub mode_short : length (line_text (line.Mode invoice None Push 10 3000)) ≤ line_limit
 unfolding line_text
 mode_short =
     let first = decimal_short 10 (omega arith) in
@@ -202,11 +212,11 @@ mode_short =
 
 -- and in range
 
-pub came_said : (end : EndName) (n : ℕ) → n < 2 ^ 64 → IsTrue (is_line (line.Run (run.Came end n)))
+pub came_said : (end : EndName) (n : ℕ) → n < 2 ^ 64 → IsTrue (is_line (line.Run (run.Came end None n)))
 unfolding is_line is_stoppable
 came_said end n small = lt-ltb n (2 ^ 64) small
 
-pub lost_said : (end : EndName) (n : ℕ) → n < 2 ^ 64 → IsTrue (is_line (line.Lost end n))
+pub lost_said : (end : EndName) (n : ℕ) → n < 2 ^ 64 → IsTrue (is_line (line.Lost end None n))
 unfolding is_line
 lost_said end n small = lt-ltb n (2 ^ 64) small
 
@@ -222,33 +232,62 @@ pub take_said : IsTrue (is_line (line.Run (run.Take name.A)))
 unfolding is_line is_stoppable
 take_said = refl
 
-pub mode_said : IsTrue (is_line (line.Mode invoice Push 10 3000))
+pub mode_said : IsTrue (is_line (line.Mode invoice None Push 10 3000))
 unfolding is_line is_name
 mode_said = refl
 
 -- and right
 
-pub came_right : (end : EndName) (n : ℕ) (state : DrillState) → n < 2 ^ 64 → is_right (line.Run (run.Came end n)) state ≡ true
-came_right end n state small = right_at_end (line.Run (run.Came end n)) state tt (came_said end n small) (came_short end n small)
+-- the lines of a pair
 
-pub lost_right : (end : EndName) (n : ℕ) (state : DrillState) → n < 2 ^ 64 → is_right (line.Lost end n) state ≡ true
-lost_right end n state small = right_at_end (line.Lost end n) state tt (lost_said end n small) (lost_short end n small)
+came_of_pair : (end : EndName) (n : ℕ) → is_of_pair end ≡ true → is_pair_line (line.Run (run.Came end None n)) ≡ true
+unfolding is_pair_line
+came_of_pair end n pair = and_from (is_of_pair end) true pair refl
+
+lost_of_pair : (end : EndName) (n : ℕ) → is_of_pair end ≡ true → is_pair_line (line.Lost end None n) ≡ true
+unfolding is_pair_line
+lost_of_pair end n pair = and_from (is_of_pair end) true pair refl
+
+tick_of_pair : (n : ℕ) → is_pair_line (line.Run (run.Tick name.A n)) ≡ true
+unfolding is_pair_line
+tick_of_pair n = refl
+
+take_of_pair : is_pair_line (line.Run (run.Take name.A)) ≡ true
+unfolding is_pair_line
+take_of_pair = refl
+
+submit_of_pair : (mode : List ℕ) (n : ℕ) → is_pair_line (line.Run (run.Submit name.A mode (Size n))) ≡ true
+unfolding is_pair_line
+submit_of_pair mode n = refl
+
+mode_of_pair : is_pair_line (line.Mode invoice None Push 10 3000) ≡ true
+unfolding is_pair_line
+mode_of_pair = refl
+
+pub came_right : (end : EndName) (n : ℕ) (state : DrillState) → is_of_pair end ≡ true → n < 2 ^ 64 → is_right (line.Run (run.Came end None n)) state ≡ true
+came_right end n state pair small = right_at_end (line.Run (run.Came end None n)) state tt (came_of_pair end n pair) (came_said end n small) (came_short end n small)
+
+pub lost_right : (end : EndName) (n : ℕ) (state : DrillState) → is_of_pair end ≡ true → n < 2 ^ 64 → is_right (line.Lost end None n) state ≡ true
+lost_right end n state pair small = right_at_end (line.Lost end None n) state tt (lost_of_pair end n pair) (lost_said end n small) (lost_short end n small)
 
 pub tick_right : (n : ℕ) (state : DrillState) → n ≤ 33000 → is_right (line.Run (run.Tick name.A n)) state ≡ true
-tick_right n state small = right_at_end (line.Run (run.Tick name.A n)) state tt (tick_said n small) (tick_short n (omega arith))
+tick_right n state small = right_at_end (line.Run (run.Tick name.A n)) state tt (tick_of_pair n) (tick_said n small) (tick_short n (omega arith))
 
 pub take_right : (state : DrillState) → is_right (line.Run (run.Take name.A)) state ≡ true
-take_right state = right_at_end (line.Run (run.Take name.A)) state tt take_said take_short
+take_right state = right_at_end (line.Run (run.Take name.A)) state tt take_of_pair take_said take_short
 
 pub submit_right : (mode : List ℕ) (n : ℕ) (state : DrillState) → mode ≡ invoice → n ≤ 40960 → is_right (line.Run (run.Submit name.A mode (Size n))) state ≡ true
-submit_right mode n state is small = right_at_end (line.Run (run.Submit name.A mode (Size n))) state tt (submit_said mode n is small) (submit_short mode n is small)
+submit_right mode n state is small = right_at_end (line.Run (run.Submit name.A mode (Size n))) state tt (submit_of_pair mode n) (submit_said mode n is small) (submit_short mode n is small)
 
-pub mode_right : (state : DrillState) → state ≡ new_state → is_right (line.Mode invoice Push 10 3000) state ≡ true
+abbrev invoice_mode : Line
+invoice_mode = line.Mode invoice None Push 10 3000
+
+pub mode_right : (state : DrillState) → state ≡ new_state → is_right (line.Mode invoice None Push 10 3000) state ≡ true
 mode_right state is =
-    subst (λ (s : DrillState). is_right (line.Mode invoice Push 10 3000) s ≡ true) (sym is)
-    (and_from (is_line (line.Mode invoice Push 10 3000)) (nat_le (length (line_text (line.Mode invoice Push 10 3000))) line_limit && true) mode_said
-    (and_from (nat_le (length (line_text (line.Mode invoice Push 10 3000))) line_limit) true
-    (le-leb (length (line_text (line.Mode invoice Push 10 3000))) line_limit mode_short) refl))
+    subst (λ (s : DrillState). is_right (line.Mode invoice None Push 10 3000) s ≡ true) (sym is)
+    (and_from (is_line invoice_mode) (nat_le (length (line_text invoice_mode)) line_limit && (is_pair_line invoice_mode && true)) mode_said
+    (and_from (nat_le (length (line_text invoice_mode)) line_limit) (is_pair_line invoice_mode && true) (le-leb (length (line_text invoice_mode)) line_limit mode_short)
+    (and_from (is_pair_line invoice_mode) true mode_of_pair refl)))
 
 -- rounds
 
@@ -332,19 +371,19 @@ submit_named result mode n old new is leads = subst (λ (m : List ℕ). OnOk res
 
 -- the mode's line, where the name is built
 
-pub mode_said_named : (mode : List ℕ) → mode ≡ invoice → IsTrue (is_line (line.Mode mode Push 10 3000))
-mode_said_named mode is = subst (λ (m : List ℕ). IsTrue (is_line (line.Mode m Push 10 3000))) (sym is) mode_said
+pub mode_said_named : (mode : List ℕ) → mode ≡ invoice → IsTrue (is_line (line.Mode mode None Push 10 3000))
+mode_said_named mode is = subst (λ (m : List ℕ). IsTrue (is_line (line.Mode m None Push 10 3000))) (sym is) mode_said
 
-pub mode_short_named : (mode : List ℕ) → mode ≡ invoice → length (line_text (line.Mode mode Push 10 3000)) ≤ line_limit
-mode_short_named mode is = subst (λ (m : List ℕ). length (line_text (line.Mode m Push 10 3000)) ≤ line_limit) (sym is) mode_short
+pub mode_short_named : (mode : List ℕ) → mode ≡ invoice → length (line_text (line.Mode mode None Push 10 3000)) ≤ line_limit
+mode_short_named mode is = subst (λ (m : List ℕ). length (line_text (line.Mode m None Push 10 3000)) ≤ line_limit) (sym is) mode_short
 
-pub mode_right_named : (mode : List ℕ) (state : DrillState) → mode ≡ invoice → state ≡ new_state → is_right (line.Mode mode Push 10 3000) state ≡ true
+pub mode_right_named : (mode : List ℕ) (state : DrillState) → mode ≡ invoice → state ≡ new_state → is_right (line.Mode mode None Push 10 3000) state ≡ true
 mode_right_named mode state is new =
-    subst (λ (m : List ℕ). is_right (line.Mode m Push 10 3000) state ≡ true) (sym is) (mode_right state new)
+    subst (λ (m : List ℕ). is_right (line.Mode m None Push 10 3000) state ≡ true) (sym is) (mode_right state new)
 
 pub mode_named : {E : Type 0} (result : Result ⊤ E) (mode : List ℕ) (old new : DrillState) → mode ≡ invoice
-    → OnOk result (Leads (line.Mode mode Push 10 3000 ∷ []) old new) → OnOk result (Leads (line.Mode invoice Push 10 3000 ∷ []) old new)
-mode_named result mode old new is leads = subst (λ (m : List ℕ). OnOk result (Leads (line.Mode m Push 10 3000 ∷ []) old new)) is leads
+    → OnOk result (Leads (line.Mode mode None Push 10 3000 ∷ []) old new) → OnOk result (Leads (line.Mode invoice None Push 10 3000 ∷ []) old new)
+mode_named result mode old new is leads = subst (λ (m : List ℕ). OnOk result (Leads (line.Mode m None Push 10 3000 ∷ []) old new)) is leads
 
 -- the whole script, from a new state
 
@@ -373,7 +412,7 @@ rounds_lead (suc rounds) round c old new plays =
 generated_leads : (seed count : ℕ) (state : DrillState) → IsGenerated seed count state → SomeLead new_state state
 unfolding IsGenerated
 generated_leads seed count state is =
-    lead_then new_state is.0 state (line.Mode invoice Push 10 3000 ∷ submissions seed seed count, is.2)
+    lead_then new_state is.0 state (line.Mode invoice None Push 10 3000 ∷ submissions seed seed count, is.2)
     (lead_then is.0 is.1 state (rounds_lead 11 0 0 is.0 is.1 is.3) (ticks_a 33000, is.4))
 
 -- each message was delivered once

@@ -26,7 +26,7 @@ use Rattle.exchange_model.specs.declared.sent.Sent.{Sent}
 -- each line makes one event or none
 pub line_events : (l : Line) (doing : Doing) (old new : DrillState) (text : List ℕ) → Plays l doing old text new
     → (new.events ≡ old.events) ⊎ (new.events ≡ old.events + 1)
-line_events (line.Mode name way retries period) doing old new text plays = inl (ap (λ (s : DrillState). s.events) plays.3)
+line_events (line.Mode name link way retries period) doing old new text plays = inl (ap (λ (s : DrillState). s.events) plays.3)
 line_events l (Does ask) old new text makes = inr (ap (λ (s : DrillState). s.events) makes.leads)
 line_events l (Stops call pick ask) old new text stops = inr (ap (λ (s : DrillState). s.events) stops.leads)
 line_events l (Reopens end) old new text reopens = inl (ap (λ (s : DrillState). s.events) reopens.1)
@@ -54,7 +54,7 @@ leads_events lines old new leads = some_events lines old new leads.0 leads.1
 pub carried_few : (c : ℕ) (end : EndName) (place : ℕ) → length (carried c end place) ≤ 2
 carried_few c end place = by_first (c % 3 == 2) (c % 5 == 4)
   where
-    by_first : (b d : Bool) → length (if b then [] else line.Run (run.Came end place) ∷ (if d then line.Lost end place ∷ [] else [])) ≤ 2
+    by_first : (b d : Bool) → length (if b then [] else line.Run (run.Came end None place) ∷ (if d then line.Lost end None place ∷ [] else [])) ≤ 2
     by_first true d = omega arith
     by_first false true = omega arith
     by_first false false = omega arith
@@ -79,13 +79,13 @@ comes_calmly end lost None old new text says =
     subst (IsCalm (left old)) (sym same) (calm_none (left old))
 comes_calmly name.A lost (Some m) old new text makes =
     subst (λ (s : DrillState). IsCalm (left old) (left s)) (sym makes.leads) (came_calm makes.act.modes (left old) makes.act.event makes.act.outcome m makes.is.may.step makes.is.does)
-comes_calmly name.B lost (Some m) old new text makes =
+comes_calmly end lost (Some m) old new text makes =
     subst (λ (s : DrillState). IsCalm (left old) (left s)) (sym makes.leads) (calm_none (left old))
 
 -- lines of packages that come
 abbrev IsCarrying : Line → Type 0
-IsCarrying (line.Run (run.Came end number)) = Unit {0}
-IsCarrying (line.Lost end number) = Unit {0}
+IsCarrying (line.Run (run.Came end from number)) = Unit {0}
+IsCarrying (line.Lost end from number) = Unit {0}
 IsCarrying other = ⊥
 
 abbrev AllCarrying : List Line → Type 0
@@ -94,15 +94,16 @@ AllCarrying (l ∷ lines) = IsCarrying l × AllCarrying lines
 
 line_calm : (l : Line) (old new : DrillState) (text : List ℕ) → IsCarrying l → Plays l (doing_of old.world l) old text new → IsCalm (left old) (left new)
 unfolding doing_of running_of
-line_calm (line.Run (run.Came end number)) old new text is plays = comes_calmly end false (package_for end number old.world) old new text plays
-line_calm (line.Lost end number) old new text is plays = comes_calmly end true (package_for end number old.world) old new text plays
-line_calm (line.Mode name way retries period) old new text never plays = absurd never
+line_calm (line.Run (run.Came end from number)) old new text is plays = comes_calmly end false (package_for end number old.world) old new text plays
+line_calm (line.Lost end from number) old new text is plays = comes_calmly end true (package_for end number old.world) old new text plays
+line_calm (line.Mode name link way retries period) old new text never plays = absurd never
 line_calm (line.Run (run.Submit end mode load)) old new text never plays = absurd never
 line_calm (line.Run (run.Tick end moment)) old new text never plays = absurd never
 line_calm (line.Run (run.Take end)) old new text never plays = absurd never
 line_calm (line.Run (run.Confirm end number)) old new text never plays = absurd never
 line_calm (line.Ask end mode) old new text never plays = absurd never
 line_calm (line.Pair end mode number) old new text never plays = absurd never
+line_calm (line.Relay end mode) old new text never plays = absurd never
 line_calm (line.Read end number) old new text never plays = absurd never
 line_calm (line.Status end number) old new text never plays = absurd never
 line_calm (line.Crash end) old new text never plays = absurd never
@@ -123,7 +124,7 @@ all_carrying (x ∷ xs) ys first rest = (first.0, all_carrying xs ys first.1 res
 carried_carrying : (c : ℕ) (end : EndName) (place : ℕ) → AllCarrying (carried c end place)
 carried_carrying c end place = by_first (c % 3 == 2) (c % 5 == 4)
   where
-    by_first : (b d : Bool) → AllCarrying (if b then [] else line.Run (run.Came end place) ∷ (if d then line.Lost end place ∷ [] else []))
+    by_first : (b d : Bool) → AllCarrying (if b then [] else line.Run (run.Came end None place) ∷ (if d then line.Lost end None place ∷ [] else []))
     by_first true d = tt
     by_first false true = (tt, (tt, tt))
     by_first false false = (tt, tt)

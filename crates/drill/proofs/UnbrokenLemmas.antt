@@ -1,5 +1,5 @@
 -- A line has no LF.
-use Rattle.std.proofs.Common.{◌≡◌, ◌≢◌, ℕ, ◌/◌, ◌%◌, ◌^◌, ◌<◌, ◌≤◌, ◌&&◌, true, nat_le, nat_lt, List, [], ◌∷◌, length, IsTrue, codes, refl, sym, subst, arith}
+use Rattle.std.proofs.Common.{◌≡◌, ◌≢◌, ℕ, ◌/◌, ◌%◌, ◌^◌, ◌<◌, ◌≤◌, ◌&&◌, true, nat_le, nat_lt, None, Some, List, [], ◌∷◌, length, IsTrue, codes, refl, sym, subst, arith}
 use Rattle.std.specs.Char.{digit_value}
 use Rattle.std.specs.Fmt.{decimal}
 use Rattle.std.specs.List.{list_all}
@@ -12,9 +12,11 @@ use Rattle.as4_disk.specs.declared.change.Pick.TheVariants as pick
 use Rattle.byte_forms.specs.Digits.{hex_digit}
 use Rattle.drill_script.specs.Lacking.{spaced}
 use Rattle.byte_forms.specs.Parted.{Lacks}
-use Rattle.drill_script.specs.LineText.{line_text, is_line, is_drill_byte, is_name, is_load, is_stoppable, end_text, way_text, pick_text, load_text, hex_text, stoppable_text}
+use Rattle.drill_script.specs.LineText.{line_text, is_line, is_drill_byte, is_name, is_load, is_stoppable, end_text, link_text, way_text, pick_text, load_text, hex_text, stoppable_text}
 use Rattle.drill_script.specs.declared.line.EndName.{EndName}
-use Rattle.drill_script.specs.declared.line.EndName.TheVariants.{A, B}
+use Rattle.drill_script.specs.declared.line.EndName.TheVariants.{A, B, First, Hub, Last}
+use Rattle.drill_script.specs.declared.line.LinkName.{LinkName}
+use Rattle.drill_script.specs.declared.line.LinkName.TheVariants.{Front, Rear}
 use Rattle.drill_script.specs.declared.line.Line.{Line}
 use Rattle.drill_script.specs.declared.line.Line.TheVariants as line
 use Rattle.drill_script.specs.declared.line.ScriptLoad.{ScriptLoad}
@@ -33,6 +35,9 @@ spaced_unbroken front rest first second = Lacks_append 10 front (32 ∷ rest) fi
 end_unbroken : (end : EndName) → Lacks 10 (end_text end)
 end_unbroken A = Lacks_tested 10 _ refl
 end_unbroken B = Lacks_tested 10 _ refl
+end_unbroken First = Lacks_tested 10 _ refl
+end_unbroken Hub = Lacks_tested 10 _ refl
+end_unbroken Last = Lacks_tested 10 _ refl
 
 way_unbroken : (way : Way) → Lacks 10 (way_text way)
 way_unbroken Push = Lacks_tested 10 _ refl
@@ -93,6 +98,48 @@ counted_unbroken word end number first small =
     spaced_unbroken word (spaced (end_text end) (decimal number)) first
     (spaced_unbroken (end_text end) (decimal number) (end_unbroken end) (decimal_unbroken number (ltb-true number (2 ^ 64) small)))
 
+-- a word, two ends and a number
+arrival_unbroken : (word : List ℕ) (end from : EndName) (number : ℕ) → Lacks 10 word → IsTrue (nat_lt number (2 ^ 64))
+    → Lacks 10 (spaced word (spaced (end_text end) (spaced (end_text from) (decimal number))))
+arrival_unbroken word end from number first small =
+    spaced_unbroken word (spaced (end_text end) (spaced (end_text from) (decimal number))) first
+    (spaced_unbroken (end_text end) (spaced (end_text from) (decimal number)) (end_unbroken end)
+    (spaced_unbroken (end_text from) (decimal number) (end_unbroken from) (decimal_unbroken number (ltb-true number (2 ^ 64) small))))
+
+-- the way of a mode, and its numbers
+settings_unbroken : (name : List ℕ) (way : Way) (retries period : ℕ)
+    → IsTrue (is_name name && (nat_le retries 1000 && (nat_le 1 period && nat_le period 1000000000)))
+    → IsTrue (is_name name) × Lacks 10 (spaced (way_text way) (spaced (decimal retries) (decimal period)))
+settings_unbroken name way retries period right =
+    let named = and_parts (is_name name) (nat_le retries 1000 && (nat_le 1 period && nat_le period 1000000000)) right in
+    let few = and_parts (nat_le retries 1000) (nat_le 1 period && nat_le period 1000000000) named.1 in
+    let some = and_parts (nat_le 1 period) (nat_le period 1000000000) few.1 in
+    let low : retries ≤ 1000 = leb-true retries 1000 few.0 in
+    let short : period ≤ 1000000000 = leb-true period 1000000000 some.1 in (
+      named.0,
+      spaced_unbroken _ _ (way_unbroken way)
+          (spaced_unbroken _ _ (decimal_unbroken retries (omega arith)) (decimal_unbroken period (omega arith))),
+    )
+
+mode_unbroken : (name : List ℕ) (way : Way) (retries period : ℕ)
+    → IsTrue (is_name name && (nat_le retries 1000 && (nat_le 1 period && nat_le period 1000000000)))
+    → Lacks 10 (spaced (codes "mode") (spaced name (spaced (way_text way) (spaced (decimal retries) (decimal period)))))
+mode_unbroken name way retries period right =
+    let parts = settings_unbroken name way retries period right in
+    spaced_unbroken _ _ (Lacks_tested 10 (codes "mode") refl) (spaced_unbroken _ _ (name_unbroken name parts.0) parts.1)
+
+link_unbroken : (link : LinkName) → Lacks 10 (link_text link)
+link_unbroken Front = Lacks_tested 10 _ refl
+link_unbroken Rear = Lacks_tested 10 _ refl
+
+linked_unbroken : (name : List ℕ) (link : LinkName) (way : Way) (retries period : ℕ)
+    → IsTrue (is_name name && (nat_le retries 1000 && (nat_le 1 period && nat_le period 1000000000)))
+    → Lacks 10 (spaced (codes "mode") (spaced name (spaced (link_text link) (spaced (way_text way) (spaced (decimal retries) (decimal period))))))
+linked_unbroken name link way retries period right =
+    let parts = settings_unbroken name way retries period right in
+    spaced_unbroken _ _ (Lacks_tested 10 (codes "mode") refl)
+    (spaced_unbroken _ _ (name_unbroken name parts.0) (spaced_unbroken _ _ (link_unbroken link) parts.1))
+
 run_unbroken : (said : Stoppable) → IsTrue (is_stoppable said) → Lacks 10 (stoppable_text said)
 unfolding is_stoppable
 run_unbroken (run.Submit end mode load) right =
@@ -103,21 +150,14 @@ run_unbroken (run.Tick end moment) right =
     let low : moment ≤ 253402300799999 = leb-true moment 253402300799999 right in
     counted_unbroken (codes "tick") end moment (Lacks_tested 10 _ refl) (lt-ltb moment (2 ^ 64) (omega arith))
 run_unbroken (run.Take end) right = spaced_unbroken _ _ (Lacks_tested 10 (codes "take") refl) (end_unbroken end)
-run_unbroken (run.Came end number) right = counted_unbroken (codes "came") end number (Lacks_tested 10 _ refl) right
+run_unbroken (run.Came end None number) right = counted_unbroken (codes "came") end number (Lacks_tested 10 _ refl) right
+run_unbroken (run.Came end (Some from) number) right = arrival_unbroken (codes "came") end from number (Lacks_tested 10 _ refl) right
 run_unbroken (run.Confirm end number) right = counted_unbroken (codes "confirm") end number (Lacks_tested 10 _ refl) right
 
 pub line_unbroken : (said : Line) → IsTrue (is_line said) → Lacks 10 (line_text said)
 unfolding is_line line_text
-line_unbroken (line.Mode name way retries period) right =
-    let named = and_parts (is_name name) (nat_le retries 1000 && (nat_le 1 period && nat_le period 1000000000)) right in
-    let few = and_parts (nat_le retries 1000) (nat_le 1 period && nat_le period 1000000000) named.1 in
-    let some = and_parts (nat_le 1 period) (nat_le period 1000000000) few.1 in
-    let low : retries ≤ 1000 = leb-true retries 1000 few.0 in
-    let short : period ≤ 1000000000 = leb-true period 1000000000 some.1 in
-    spaced_unbroken _ _ (Lacks_tested 10 (codes "mode") refl)
-    (spaced_unbroken _ _ (name_unbroken name named.0)
-    (spaced_unbroken _ _ (way_unbroken way)
-    (spaced_unbroken _ _ (decimal_unbroken retries (omega arith)) (decimal_unbroken period (omega arith)))))
+line_unbroken (line.Mode name None way retries period) right = mode_unbroken name way retries period right
+line_unbroken (line.Mode name (Some link) way retries period) right = linked_unbroken name link way retries period right
 line_unbroken (line.Run l) right = run_unbroken l right
 line_unbroken (line.Ask end mode) right =
     spaced_unbroken _ _ (Lacks_tested 10 (codes "ask") refl) (spaced_unbroken _ _ (end_unbroken end) (name_unbroken mode right))
@@ -126,7 +166,10 @@ line_unbroken (line.Pair end mode number) right =
     spaced_unbroken _ _ (Lacks_tested 10 (codes "pair") refl)
     (spaced_unbroken _ _ (end_unbroken end)
     (spaced_unbroken _ _ (name_unbroken mode parts.0) (decimal_unbroken number (ltb-true number (2 ^ 64) parts.1))))
-line_unbroken (line.Lost end number) right = counted_unbroken (codes "lost") end number (Lacks_tested 10 _ refl) right
+line_unbroken (line.Relay end mode) right =
+    spaced_unbroken _ _ (Lacks_tested 10 (codes "relay") refl) (spaced_unbroken _ _ (end_unbroken end) (name_unbroken mode right))
+line_unbroken (line.Lost end None number) right = counted_unbroken (codes "lost") end number (Lacks_tested 10 _ refl) right
+line_unbroken (line.Lost end (Some from) number) right = arrival_unbroken (codes "lost") end from number (Lacks_tested 10 _ refl) right
 line_unbroken (line.Read end number) right = counted_unbroken (codes "read") end number (Lacks_tested 10 _ refl) right
 line_unbroken (line.Status end number) right = counted_unbroken (codes "status") end number (Lacks_tested 10 _ refl) right
 line_unbroken (line.Crash end) right = spaced_unbroken _ _ (Lacks_tested 10 (codes "crash") refl) (end_unbroken end)

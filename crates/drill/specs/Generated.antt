@@ -47,7 +47,7 @@ submissions seed x (suc count) =
 -- the other end's package of this place is carried to an end, with this number of the counter
 abbrev pub carried : ℕ → EndName → ℕ → List Line
 carried c end place =
-    if c % 3 == 2 then [] else line.Run (run.Came end place) ∷ (if c % 5 == 4 then line.Lost end place ∷ [] else [])
+    if c % 3 == 2 then [] else line.Run (run.Came end None place) ∷ (if c % 5 == 4 then line.Lost end None place ∷ [] else [])
 
 -- a's package of the first place is carried to end b, and what b answers to it, b's of the second place, to end a
 abbrev pub carried_both : ℕ → ℕ → ℕ → List Line
@@ -109,7 +109,7 @@ Rounds (suc rounds) round c old new =
 unfoldable pub IsGenerated : ℕ → ℕ → DrillState → Type 0
 IsGenerated seed count state =
     (begun : DrillState) × (done : DrillState)
-    × Leads (line.Mode invoice Push 10 3000 ∷ submissions seed seed count) new_state begun
+    × Leads (line.Mode invoice None Push 10 3000 ∷ submissions seed seed count) new_state begun
     × Rounds 11 0 0 begun done × Leads (ticks_a 33000) done state
 
 -- by what the seed and the count lead to: the numbers of both ends are written, and each message was delivered once

@@ -5,6 +5,7 @@ ghost use Rattle.drill.specs.Generated.{GeneratedEnds, IsGenerated, Leads, Plays
 ghost use Rattle.drill.specs.Generating.{Grows, IsPushed, PlaysTransmission, handed, to_push};
 ghost use Rattle.drill_world.specs.Transcript.{DrillState as StateValue, events_limit, is_right, new_state};
 ghost use Rattle.drill_script.specs.LineText.{is_line, line_limit, line_text};
+ghost use Rattle.drill_script.specs.Scripts.{is_of_pair};
 ghost use Rattle.drill_script.specs.declared.line.EndName.TheVariants as name;
 ghost use Rattle.drill_script.specs.declared.line.Line.TheVariants as line;
 ghost use Rattle.drill_script.specs.declared.line.Stoppable.TheVariants as run;
@@ -41,7 +42,8 @@ fn play_one(state: &mut DrillState, line: Line) -> Result<(), NoMemory>
 
 // The package of this place is carried to the end, by the rule of the counter.
 fn carry(state: &mut DrillState, counter: u64, end: EndName, place: u64) -> Result<(), NoMemory>
-    requires { state.old.events + 2 ≤ events_limit }
+    requires few { state.old.events + 2 ≤ events_limit }
+    requires pair { is_of_pair end ≡ true }
     ensures { OnOk result (Leads (carried counter end place) state.old state.new) }
 {
     if counter % 3 == 2 {
@@ -51,6 +53,7 @@ fn carry(state: &mut DrillState, counter: u64, end: EndName, place: u64) -> Resu
         state,
         Line::Run(Stoppable::Came {
             end,
+            from: None,
             package: place,
         }),
     )?;
@@ -59,6 +62,7 @@ fn carry(state: &mut DrillState, counter: u64, end: EndName, place: u64) -> Resu
             state,
             Line::Lost {
                 end,
+                from: None,
                 package: place,
             },
         )
@@ -212,11 +216,12 @@ fn invoice_name(alloc: Global) -> Result<Octets, NoMemory>
 // Both ends get the mode.
 fn name_mode(alloc: Global, state: &mut DrillState) -> Result<(), NoMemory>
     requires { state.old ≡ new_state }
-    ensures { OnOk result (Leads (line.Mode invoice Pushed 10 3000 ∷ []) state.old state.new) }
+    ensures { OnOk result (Leads (line.Mode invoice None Pushed 10 3000 ∷ []) state.old state.new) }
 {
     let name = invoice_name(alloc)?;
     let line = Line::Mode {
         name,
+        link: None,
         way: Way::Push,
         retries: 10,
         period: 3000,
@@ -263,7 +268,7 @@ fn submit_all(alloc: Global, state: &mut DrillState, seed: u64, count: u64) -> R
 fn prepare(alloc: Global, state: &mut DrillState, seed: u64, count: u64) -> Result<(), NoMemory>
     requires new { state.old ≡ new_state }
     requires few { count ≤ 1000 }
-    ensures leads { OnOk result (Leads (line.Mode invoice Pushed 10 3000 ∷ submissions seed seed count) state.old state.new) }
+    ensures leads { OnOk result (Leads (line.Mode invoice None Pushed 10 3000 ∷ submissions seed seed count) state.old state.new) }
     ensures grows { OnOk result (Grows count count state.old state.new) }
 {
     name_mode(alloc, state)?;

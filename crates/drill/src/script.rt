@@ -3,14 +3,17 @@ ghost use Rattle.std.specs.Prelude.{◌⊎◌, Some, false, true, ◌≡◌, ℕ
 ghost use Rattle.as4_flow.specs.Flow.{Flow, between, flow, Told, before};
 ghost use Rattle.drill.specs.Ends.{Ends};
 ghost use Rattle.drill.specs.Running.{SoFar};
-ghost use Rattle.drill_world.specs.Transcript.{is_right, is_too_many, lines_limit};
+ghost use Rattle.drill.specs.Playing.{chain_meaning, pair_meaning};
+ghost use Rattle.drill_world.specs.Transcript.{lines_limit};
 ghost use Rattle.byte_forms.specs.Parted.{parted};
 ghost use Rattle.drill_script.specs.LineText.{is_line, line_limit, line_text};
 
 use crate::next::{Next, next_line};
+use crate::play::Play;
 use as4_flow::{Sink, Source, send_all};
 use drill_script::{Line, LineReader};
 use drill_world::{DrillState, Refused, a_drill_delivers_once};
+use hub_world::{HubState, a_chain_drill_delivers_once};
 use std::alloc::Global;
 
 /// The most lines that a script has.
@@ -35,10 +38,10 @@ pub enum DrillEnd {
     NoMemory,
 }
 
-/// Runs the script on two ends, and writes a line for each that does something. Where the script ends early, or a fault
-/// comes, what the lines before have written stays.
+/// Runs the script on a pair of endpoints, and writes a line for each that does something. Where the script ends early, or
+/// a fault comes, what the lines before have written stays.
 pub fn drill<S: Source, K: Sink>(alloc: Global, source: &mut S, sink: &mut K) -> DrillEnd
-    ensures ends { Ends result (between
+    ensures ends { Ends pair_meaning result (between
         (flow (S.left source.old) (K.taken sink.old) (S.faults source.old) (K.faults sink.old))
         (flow (S.left source.new) (K.taken sink.new) (S.faults source.new) (K.faults sink.new))) }
     ensures counted { (S.faults source.old ≤ S.faults source.new) × (K.faults sink.old ≤ K.faults sink.new) }
@@ -46,9 +49,7 @@ pub fn drill<S: Source, K: Sink>(alloc: Global, source: &mut S, sink: &mut K) ->
     a_drill_delivers_once();
     match DrillState::new(alloc) {
         Ok(mut state) => {
-            let mut reader = LineReader::new(alloc);
-            let end = play_lines(alloc, &mut reader, source, &mut state, sink);
-            drop(reader);
+            let end = run(alloc, source, &mut state, sink);
             drop(state);
             end
         }
@@ -56,17 +57,55 @@ pub fn drill<S: Source, K: Sink>(alloc: Global, source: &mut S, sink: &mut K) ->
     }
 }
 
+/// The same on a chain of three endpoints, of which the second is a hub that relays.
+pub fn hub_drill<S: Source, K: Sink>(alloc: Global, source: &mut S, sink: &mut K) -> DrillEnd
+    ensures ends { Ends chain_meaning result (between
+        (flow (S.left source.old) (K.taken sink.old) (S.faults source.old) (K.faults sink.old))
+        (flow (S.left source.new) (K.taken sink.new) (S.faults source.new) (K.faults sink.new))) }
+    ensures counted { (S.faults source.old ≤ S.faults source.new) × (K.faults sink.old ≤ K.faults sink.new) }
+{
+    a_chain_drill_delivers_once();
+    match HubState::new(alloc) {
+        Ok(mut state) => {
+            let end = run(alloc, source, &mut state, sink);
+            drop(state);
+            end
+        }
+        Err(_) => DrillEnd::NoMemory,
+    }
+}
+
+// Runs the script from its start.
+fn run<P: Play, S: Source, K: Sink>(
+    alloc: Global,
+    source: &mut S,
+    state: &mut P,
+    sink: &mut K,
+) -> DrillEnd
+    requires { state.old ≡ P.first }
+    ensures ends { Ends P.Play result (between
+        (flow (S.left source.old) (K.taken sink.old) (S.faults source.old) (K.faults sink.old))
+        (flow (S.left source.new) (K.taken sink.new) (S.faults source.new) (K.faults sink.new))) }
+    ensures counted { (S.faults source.old ≤ S.faults source.new) × (K.faults sink.old ≤ K.faults sink.new) }
+{
+    state.laws();
+    let mut reader = LineReader::new(alloc);
+    let end = play_lines(alloc, &mut reader, source, state, sink);
+    drop(reader);
+    end
+}
+
 // Reads, plays and writes line by line, until the drill ends.
-fn play_lines<S: Source, K: Sink>(
+fn play_lines<P: Play, S: Source, K: Sink>(
     alloc: Global,
     reader: &mut LineReader,
     source: &mut S,
-    state: &mut DrillState,
+    state: &mut P,
     sink: &mut K,
 ) -> DrillEnd
     ensures ends { (start : Flow)
-        → SoFar state.old reader.old 0 start (flow (S.left source.old) (K.taken sink.old) (S.faults source.old) (K.faults sink.old))
-        → Ends result (between start (flow (S.left source.new) (K.taken sink.new) (S.faults source.new) (K.faults sink.new))) }
+        → SoFar P.Play state.old reader.old 0 start (flow (S.left source.old) (K.taken sink.old) (S.faults source.old) (K.faults sink.old))
+        → Ends P.Play result (between start (flow (S.left source.new) (K.taken sink.new) (S.faults source.new) (K.faults sink.new))) }
     ensures counted { (S.faults source.old ≤ S.faults source.new) × (K.faults sink.old ≤ K.faults sink.new) }
 {
     let mut played = 0;
@@ -80,23 +119,23 @@ fn play_lines<S: Source, K: Sink>(
 
 // Reads the next line, plays it and writes its text, where so many were played before. It answers how the drill ends, if
 // it does here.
-fn play_next<S: Source, K: Sink>(
+fn play_next<P: Play, S: Source, K: Sink>(
     alloc: Global,
     reader: &mut LineReader,
     source: &mut S,
-    state: &mut DrillState,
+    state: &mut P,
     sink: &mut K,
     played: u64,
 ) -> Option<DrillEnd>
     requires { played ≤ lines_limit }
     ensures so_far { (start : Flow)
-        → SoFar state.old reader.old played start (flow (S.left source.old) (K.taken sink.old) (S.faults source.old) (K.faults sink.old))
+        → SoFar P.Play state.old reader.old played start (flow (S.left source.old) (K.taken sink.old) (S.faults source.old) (K.faults sink.old))
         → let now : Flow = flow (S.left source.new) (K.taken sink.new) (S.faults source.new) (K.faults sink.new) in
-        MatchOption result (SoFar state.new reader.new (played + 1) start now) (λ end. Ends end (between start now)) }
+        MatchOption result (SoFar P.Play state.new reader.new (played + 1) start now) (λ end. Ends P.Play end (between start now)) }
     ensures more { IsNone result → played < lines_limit }
     ensures counted { (S.faults source.old ≤ S.faults source.new) × (K.faults sink.old ≤ K.faults sink.new) }
 {
-    a_drill_delivers_once();
+    state.laws();
     match next_line(alloc, reader, source) {
         Next::Line(line) => play_line(state, &line, sink, played),
         Next::End => Some(finish(state, sink)),
@@ -107,8 +146,8 @@ fn play_next<S: Source, K: Sink>(
 }
 
 // Plays a line and writes its text, where so many were played before. It answers how the drill ends, if it does here.
-fn play_line<K: Sink>(
-    state: &mut DrillState,
+fn play_line<P: Play, K: Sink>(
+    state: &mut P,
     line: &Line,
     sink: &mut K,
     played: u64,
@@ -117,23 +156,23 @@ fn play_line<K: Sink>(
     requires short { length (line_text line.now) ≤ line_limit }
     requires few { played ≤ lines_limit }
     ensures so_far { (start : Flow) (held : List ℕ) (left : Option (List ℕ)) (reads : ℕ)
-        → SoFar state.old (parted 10 (line_text line.now) held) played start (flow left (K.taken sink.old) reads (K.faults sink.old))
+        → SoFar P.Play state.old (parted 10 (line_text line.now) held) played start (flow left (K.taken sink.old) reads (K.faults sink.old))
         → let now : Flow = flow left (K.taken sink.new) reads (K.faults sink.new) in
-        MatchOption result (SoFar state.new held (played + 1) start now) (λ end. Ends end (between start now)) }
+        MatchOption result (SoFar P.Play state.new held (played + 1) start now) (λ end. Ends P.Play end (between start now)) }
     ensures more { IsNone result → played < lines_limit }
     ensures counted { K.faults sink.old ≤ K.faults sink.new }
 
     // A line that isn't in its place, or one event too many, is told as such, whether or not memory would suffice.
-    ensures wrong { (played ≡ lines_limit) ⊎ (is_right line.now state.old ≡ false)
+    ensures wrong { (played ≡ lines_limit) ⊎ (P.right line.now state.old ≡ false)
         → result ≡ Some (DrillEnd.Line (played + 1)) }
-    ensures full { played < lines_limit → is_right line.now state.old ≡ true → is_too_many line.now state.old ≡ true
+    ensures full { played < lines_limit → P.right line.now state.old ≡ true → P.too_many line.now state.old ≡ true
         → result ≡ Some DrillEnd.TooMany }
 {
-    a_drill_delivers_once();
+    state.laws();
     if played == MAX_LINES {
         return Some(DrillEnd::Line { number: played + 1 });
     }
-    match state.play(line) {
+    match state.play_line(line) {
         Ok(text) => match send_all(sink, text.bytes()) {
             Ok(()) => None,
             Err(_) => Some(DrillEnd::WriteFault),
@@ -144,16 +183,16 @@ fn play_line<K: Sink>(
     }
 }
 
-// Writes the numbers of both ends, where nothing is left to read.
-fn finish<K: Sink>(state: &DrillState, sink: &mut K) -> DrillEnd
+// Writes the numbers of the endpoints, where nothing is left to read.
+fn finish<P: Play, K: Sink>(state: &P, sink: &mut K) -> DrillEnd
     ensures ends { (start : Flow) (held : List ℕ) (count : ℕ) (left : Option (List ℕ)) (reads : ℕ)
-        → SoFar state.now held count start (flow left (K.taken sink.old) reads (K.faults sink.old))
+        → SoFar P.Play state.now held count start (flow left (K.taken sink.old) reads (K.faults sink.old))
         → Told (before held left) (λ bytes. bytes ≡ [])
-        → Ends result (between start (flow left (K.taken sink.new) reads (K.faults sink.new))) }
+        → Ends P.Play result (between start (flow left (K.taken sink.new) reads (K.faults sink.new))) }
     ensures counted { K.faults sink.old ≤ K.faults sink.new }
 {
-    a_drill_delivers_once();
-    match state.end_lines() {
+    state.laws();
+    match state.last_lines() {
         Ok(text) => match send_all(sink, text.bytes()) {
             Ok(()) => DrillEnd::Read,
             Err(_) => DrillEnd::WriteFault,

@@ -11,11 +11,11 @@ use Rattle.drill_script.specs.declared.line.Line.{Line}
 use Rattle.drill_script.specs.declared.line.Line.TheVariants as line
 use Rattle.drill_script.specs.declared.line.Stoppable.{Stoppable}
 use Rattle.drill_script.specs.declared.line.Stoppable.TheVariants as stoppable
-use Rattle.drill_script.specs.declared.verb.Counted.TheVariants.{Lost, Read, Status}
+use Rattle.drill_script.specs.declared.verb.Counted.TheVariants.{Read, Status}
 use Rattle.drill_script.specs.declared.verb.RunVerb.{RunVerb}
 use Rattle.drill_script.specs.declared.verb.RunVerb.TheVariants.{Submit, Tick, Take, Came, Confirm}
 use Rattle.drill_script.specs.declared.verb.Verb.{Verb}
-use Rattle.drill_script.specs.declared.verb.Verb.TheVariants.{Mode, Run, Ask, Pair, Count, Crash, Stop, Fold}
+use Rattle.drill_script.specs.declared.verb.Verb.TheVariants.{Mode, Run, Ask, Relay, Pair, Lost, Count, Crash, Stop, Fold}
 use Rattle.byte_forms.proofs.PartedLemmas.{Lacks_tested}
 
 -- a first word that needs memory is one of those
@@ -24,10 +24,12 @@ kept_word Mode kept = (0, omega arith, refl)
 kept_word (Run Submit) kept = (1, omega arith, refl)
 kept_word (Run verb) kept = absurd kept
 kept_word Ask kept = (2, omega arith, refl)
-kept_word Pair kept = (3, omega arith, refl)
+kept_word Relay kept = (3, omega arith, refl)
+kept_word Pair kept = (4, omega arith, refl)
+kept_word Lost kept = absurd kept
 kept_word (Count counted) kept = absurd kept
 kept_word Crash kept = absurd kept
-kept_word Stop kept = (4, omega arith, refl)
+kept_word Stop kept = (5, omega arith, refl)
 kept_word Fold kept = absurd kept
 
 pub verb_unspaced : (verb : Verb) → Lacks 32 (verb_text verb)
@@ -38,8 +40,9 @@ verb_unspaced (Run Take) = Lacks_tested 32 _ refl
 verb_unspaced (Run Came) = Lacks_tested 32 _ refl
 verb_unspaced (Run Confirm) = Lacks_tested 32 _ refl
 verb_unspaced Ask = Lacks_tested 32 _ refl
+verb_unspaced Relay = Lacks_tested 32 _ refl
 verb_unspaced Pair = Lacks_tested 32 _ refl
-verb_unspaced (Count Lost) = Lacks_tested 32 _ refl
+verb_unspaced Lost = Lacks_tested 32 _ refl
 verb_unspaced (Count Read) = Lacks_tested 32 _ refl
 verb_unspaced (Count Status) = Lacks_tested 32 _ refl
 verb_unspaced Crash = Lacks_tested 32 _ refl
@@ -51,17 +54,18 @@ pub run_parts : (said : Stoppable) → stoppable_text said ≡ parted 32 (run_ve
 run_parts (stoppable.Submit end mode load) = refl
 run_parts (stoppable.Tick end moment) = refl
 run_parts (stoppable.Take end) = refl
-run_parts (stoppable.Came end number) = refl
+run_parts (stoppable.Came end from number) = refl
 run_parts (stoppable.Confirm end number) = refl
 
 -- the first word, a space and the rest
 pub line_parts : (said : Line) → line_text said ≡ parted 32 (verb_text (verb_of said)) (tail_of (line_words said))
 unfolding line_text
-line_parts (line.Mode name way retries period) = refl
+line_parts (line.Mode name link way retries period) = refl
 line_parts (line.Run l) = run_parts l
 line_parts (line.Ask end mode) = refl
+line_parts (line.Relay end mode) = refl
 line_parts (line.Pair end mode number) = refl
-line_parts (line.Lost end number) = refl
+line_parts (line.Lost end from number) = refl
 line_parts (line.Read end number) = refl
 line_parts (line.Status end number) = refl
 line_parts (line.Crash end) = refl
@@ -73,7 +77,7 @@ pub stop_tail : (call : ℕ) (pick : Pick) (l : Stoppable) → tail_of (line_wor
 stop_tail call pick (stoppable.Submit end mode load) = refl
 stop_tail call pick (stoppable.Tick end moment) = refl
 stop_tail call pick (stoppable.Take end) = refl
-stop_tail call pick (stoppable.Came end number) = refl
+stop_tail call pick (stoppable.Came end from number) = refl
 stop_tail call pick (stoppable.Confirm end number) = refl
 
 -- bytes cut at a space are a line's text if the line has this verb and this tail
@@ -105,7 +109,8 @@ verb_from word =
     else (if first == 116 then (if second == 97 then Run Take else Run Tick)
     else (if first == 97 then Ask
     else (if first == 99 then (if second == 97 then Run Came else (if second == 111 then Run Confirm else Crash))
-    else (if first == 108 then Count Lost else (if first == 112 then Pair else (if first == 102 then Fold else Count Read)))))))
+    else (if first == 108 then Lost else (if first == 112 then Pair else (if first == 102 then Fold
+    else (if get_or word 2 0 == 97 then Count Read else Relay))))))))
 
 verb_from_text : (verb : Verb) → verb_from (verb_text verb) ≡ verb
 unfolding verb_from
@@ -116,8 +121,9 @@ verb_from_text (Run Take) = refl
 verb_from_text (Run Came) = refl
 verb_from_text (Run Confirm) = refl
 verb_from_text Ask = refl
+verb_from_text Relay = refl
 verb_from_text Pair = refl
-verb_from_text (Count Lost) = refl
+verb_from_text Lost = refl
 verb_from_text (Count Read) = refl
 verb_from_text (Count Status) = refl
 verb_from_text Crash = refl

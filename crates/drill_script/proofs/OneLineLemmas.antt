@@ -1,5 +1,5 @@
 -- A text is that of at most one line.
-use Rattle.std.proofs.Common.{◌≡◌, ℕ, ◌≤◌, List, [], get_or, IsTrue, codes, refl, sym, ◌∙◌, ap, arith}
+use Rattle.std.proofs.Common.{◌≡◌, ℕ, ◌==◌, if◌then◌else◌, ◌^◌, ◌<◌, ◌≤◌, List, [], get_or, Option, Some, None, IsTrue, codes, refl, sym, ◌∙◌, ap, arith}
 use Rattle.std.specs.Fmt.{decimal}
 use Rattle.std.proofs.lemmas.Bool.{leb-true}
 use Rattle.std.proofs.lemmas.Fmt.{decimal_injective}
@@ -7,10 +7,12 @@ use Rattle.std.proofs.lemmas.List.{append-nil, append_cancel_left}
 use Rattle.as4_disk.specs.declared.change.Pick.{Pick}
 use Rattle.as4_disk.specs.declared.change.Pick.TheVariants.{Old, New, Other}
 use Rattle.drill_script.specs.Lacking.{spaced}
-use Rattle.drill_script.specs.LineText.{line_text, line_words, is_line, is_load, is_stoppable, end_text, way_text, pick_text, load_text, hex_text, stoppable_text, stoppable_words}
-use Rattle.drill_script.specs.LineParts.{Spells, SpellsRun, run_verb_of, run_verb_text, verb_of, verb_text, tail_of, settings_text}
+use Rattle.drill_script.specs.LineText.{line_text, line_words, is_line, is_load, is_stoppable, end_text, link_text, way_text, pick_text, load_text, hex_text, stoppable_text, stoppable_words}
+use Rattle.drill_script.specs.LineParts.{Spells, SpellsRun, run_verb_of, run_verb_text, verb_of, verb_text, tail_of, settings_text, linked_text, arrival_text}
 use Rattle.drill_script.specs.declared.line.EndName.{EndName}
-use Rattle.drill_script.specs.declared.line.EndName.TheVariants.{A, B}
+use Rattle.drill_script.specs.declared.line.EndName.TheVariants.{A, B, First, Hub, Last}
+use Rattle.drill_script.specs.declared.line.LinkName.{LinkName}
+use Rattle.drill_script.specs.declared.line.LinkName.TheVariants.{Front, Rear}
 use Rattle.drill_script.specs.declared.line.Line.{Line}
 use Rattle.drill_script.specs.declared.line.ScriptLoad.{ScriptLoad}
 use Rattle.drill_script.specs.declared.line.ScriptLoad.TheVariants.{Nothing, Hex, Size}
@@ -21,19 +23,35 @@ use Rattle.drill_script.specs.declared.line.Way.TheVariants.{Push, Pull}
 use Rattle.drill_script.specs.declared.verb.RunVerb.{RunVerb}
 use Rattle.drill_script.specs.declared.verb.RunVerb.TheVariants.{Submit, Tick, Take, Came, Confirm}
 use Rattle.drill_script.specs.declared.verb.Verb.{Verb}
-use Rattle.drill_script.specs.declared.verb.Verb.TheVariants.{Mode, Run, Ask, Pair, Count, Crash, Stop, Fold}
+use Rattle.drill_script.specs.declared.verb.Verb.TheVariants.{Mode, Run, Ask, Relay, Pair, Lost, Count, Crash, Stop, Fold}
 use Rattle.drill_script.proofs.HexLemmas.{hex_done}
 use Rattle.byte_forms.proofs.PartedLemmas.{one_cut}
 use Rattle.drill_script.proofs.LineLemmas.{line_parts, run_parts, verb_unspaced, one_verb, one_run_verb}
 use Rattle.drill_script.proofs.LoadLemmas.{none_only, none_text, hex_load_text, size_load_text}
-use Rattle.drill_script.proofs.SpellLemmas.{NumberedIs, ask_spelled, came_spelled, confirm_spelled, counted_spelled, crash_spelled, fold_spelled, mode_spelled, pair_spelled, run_spelled, stop_spelled, submit_spelled, take_spelled, tick_spelled}
-use Rattle.drill_script.proofs.WordLemmas.{end_unspaced, way_unspaced, pick_unspaced, decimal_unspaced, name_unspaced}
+use Rattle.drill_script.proofs.SpellLemmas.{ArrivalIs, NumberedIs, ask_spelled, lost_spelled, relay_spelled, came_spelled, confirm_spelled, counted_spelled, crash_spelled, fold_spelled, mode_spelled, pair_spelled, run_spelled, stop_spelled, submit_spelled, take_spelled, tick_spelled}
+use Rattle.drill_script.proofs.WordLemmas.{end_unspaced, link_unspaced, link_is_no_way, number_is_alone, way_unspaced, pick_unspaced, decimal_unspaced, name_unspaced}
+
+end_from : List ℕ → EndName
+end_from text =
+    let first = get_or text 0 0 in
+    if first == 97 then A else (if first == 98 then B else (if first == 102 then First else (if first == 104 then Hub else Last)))
+
+end_from_text : (end : EndName) → end_from (end_text end) ≡ end
+unfolding end_from
+end_from_text A = refl
+end_from_text B = refl
+end_from_text First = refl
+end_from_text Hub = refl
+end_from_text Last = refl
 
 one_end : (end other : EndName) → end_text end ≡ end_text other → end ≡ other
-one_end A A same = refl
-one_end A B same = absurd (omega (arith, ap (λ (l : List ℕ). get_or l 0 0) same))
-one_end B A same = absurd (omega (arith, ap (λ (l : List ℕ). get_or l 0 0) same))
-one_end B B same = refl
+one_end end other same = sym (end_from_text end) ∙ ap end_from same ∙ end_from_text other
+
+one_link : (link other : LinkName) → link_text link ≡ link_text other → link ≡ other
+one_link Front Front same = refl
+one_link Front Rear same = absurd (omega (arith, ap (λ (l : List ℕ). get_or l 0 0) same))
+one_link Rear Front same = absurd (omega (arith, ap (λ (l : List ℕ). get_or l 0 0) same))
+one_link Rear Rear same = refl
 
 one_way : (way other : Way) → way_text way ≡ way_text other → way ≡ other
 one_way Push Push same = refl
@@ -83,6 +101,40 @@ one_settings way other_way retries other_retries period other_period few other_f
       decimal_injective period other_period (omega arith) (omega arith) numbers.1,
     )
 
+one_linked : (link other_link : Option LinkName) (way other_way : Way) (retries other_retries period other_period : ℕ) → retries ≤ 1000 → other_retries ≤ 1000 → period ≤ 1000000000 → other_period ≤ 1000000000 → linked_text link (settings_text way retries period) ≡ linked_text other_link (settings_text other_way other_retries other_period) → (link ≡ other_link) × (way ≡ other_way) × (retries ≡ other_retries) × (period ≡ other_period)
+one_linked None None way other_way retries other_retries period other_period few other_few short other_short same =
+    let settings = one_settings way other_way retries other_retries period other_period few other_few short other_short same in
+    (refl, settings.0, settings.1, settings.2)
+one_linked None (Some link) way other_way retries other_retries period other_period few other_few short other_short same =
+    absurd (link_is_no_way link way _ _ (sym same))
+one_linked (Some link) None way other_way retries other_retries period other_period few other_few short other_short same =
+    absurd (link_is_no_way link other_way _ _ same)
+one_linked (Some link) (Some other) way other_way retries other_retries period other_period few other_few short other_short same =
+    let cut = one_cut 32 (link_text link) (settings_text way retries period) (link_text other) (settings_text other_way other_retries other_period) same (link_unspaced link) (link_unspaced other) in
+    let settings = one_settings way other_way retries other_retries period other_period few other_few short other_short cut.1 in
+    (ap Some (one_link link other cut.0), settings.0, settings.1, settings.2)
+
+one_arrival_text : (end other_end : EndName) (from other_from : Option EndName) (number other_number : ℕ) → number < 2 ^ 64 → other_number < 2 ^ 64 → arrival_text end from number ≡ arrival_text other_end other_from other_number → (end ≡ other_end) × (from ≡ other_from) × (number ≡ other_number)
+one_arrival_text end other_end None None number other_number small other_small same =
+    let parts = one_spaced_end end other_end (decimal number) (decimal other_number) same in
+    (parts.0, refl, decimal_injective number other_number small other_small parts.1)
+one_arrival_text end other_end None (Some from) number other_number small other_small same =
+    let parts = one_spaced_end end other_end (decimal number) (spaced (end_text from) (decimal other_number)) same in
+    absurd (number_is_alone number from (decimal other_number) small parts.1)
+one_arrival_text end other_end (Some from) None number other_number small other_small same =
+    let parts = one_spaced_end end other_end (spaced (end_text from) (decimal number)) (decimal other_number) same in
+    absurd (number_is_alone other_number from (decimal number) other_small (sym parts.1))
+one_arrival_text end other_end (Some from) (Some other) number other_number small other_small same =
+    let parts = one_spaced_end end other_end (spaced (end_text from) (decimal number)) (spaced (end_text other) (decimal other_number)) same in
+    let names = one_spaced_end from other (decimal number) (decimal other_number) parts.1 in
+    (parts.0, ap Some names.0, decimal_injective number other_number small other_small names.1)
+
+-- arrivals
+one_arrival : {X : Type 0} (make : EndName → Option EndName → ℕ → X) (tail : List ℕ) (one other : X) (end other_end : EndName) (from other_from : Option EndName) (number other_number : ℕ) → ArrivalIs make tail one end from number → ArrivalIs make tail other other_end other_from other_number → one ≡ other
+one_arrival make tail one other end other_end from other_from number other_number a b =
+    let parts = one_arrival_text end other_end from other_from number other_number a.small b.small (sym a.tail_is ∙ b.tail_is) in
+    a.line_is ∙ (λ i. make (parts.0 i) (parts.1 i) (parts.2 i)) ∙ sym b.line_is
+
 -- lines that name only an endpoint
 one_alone : {X : Type 0} (make : EndName → X) (tail : List ℕ) (one other : X) → (end : EndName) × (one ≡ make end) × (tail ≡ end_text end) → (end : EndName) × (other ≡ make end) × (tail ≡ end_text end) → one ≡ other
 one_alone make tail one other a b = let ends : a.0 ≡ b.0 = one_end a.0 b.0 (sym a.2 ∙ b.2) in a.1 ∙ ap make ends ∙ sym b.1
@@ -110,7 +162,7 @@ one_run_spelled Take tail one other first second = one_alone _ tail one other (t
 one_run_spelled Came tail one other first second =
     let a = came_spelled tail one first in
     let b = came_spelled tail other second in
-    one_numbered _ tail one other a.0 b.0 a.1 b.1 a.2 b.2
+    one_arrival _ tail one other a.0 b.0 a.1 b.1 a.2 b.2 a.3 b.3
 one_run_spelled Confirm tail one other first second =
     let a = confirm_spelled tail one first in
     let b = confirm_spelled tail other second in
@@ -128,9 +180,9 @@ one_spelled : (verb : Verb) (tail : List ℕ) (one other : Line) → Spells verb
 one_spelled Mode tail one other first second =
     let a = mode_spelled tail one first in
     let b = mode_spelled tail other second in
-    let names = one_cut 32 a.0 (settings_text a.1 a.2 a.3) b.0 (settings_text b.1 b.2 b.3) (sym a.4.tail_is ∙ b.4.tail_is) (name_unspaced a.0 a.4.named) (name_unspaced b.0 b.4.named) in
-    let settings = one_settings a.1 b.1 a.2 b.2 a.3 b.3 a.4.few b.4.few a.4.short b.4.short names.1 in
-    cc (a.4.line_is, b.4.line_is, names.0, settings.0, settings.1, settings.2)
+    let names = one_cut 32 a.0 (linked_text a.1 (settings_text a.2 a.3 a.4)) b.0 (linked_text b.1 (settings_text b.2 b.3 b.4)) (sym a.5.tail_is ∙ b.5.tail_is) (name_unspaced a.0 a.5.named) (name_unspaced b.0 b.5.named) in
+    let settings = one_linked a.1 b.1 a.2 b.2 a.3 b.3 a.4 b.4 a.5.few b.5.few a.5.short b.5.short names.1 in
+    cc (a.5.line_is, b.5.line_is, names.0, settings.0, settings.1, settings.2, settings.3)
 one_spelled (Run verb) tail one other first second =
     let a = run_spelled verb tail one first in
     let b = run_spelled verb tail other second in
@@ -140,6 +192,15 @@ one_spelled Ask tail one other first second =
     let b = ask_spelled tail other second in
     let parts = one_spaced_end a.0 b.0 a.1 b.1 (sym a.2.tail_is ∙ b.2.tail_is) in
     cc (a.2.line_is, b.2.line_is, parts.0, parts.1)
+one_spelled Relay tail one other first second =
+    let a = relay_spelled tail one first in
+    let b = relay_spelled tail other second in
+    let parts = one_spaced_end a.0 b.0 a.1 b.1 (sym a.2.tail_is ∙ b.2.tail_is) in
+    cc (a.2.line_is, b.2.line_is, parts.0, parts.1)
+one_spelled Lost tail one other first second =
+    let a = lost_spelled tail one first in
+    let b = lost_spelled tail other second in
+    one_arrival _ tail one other a.0 b.0 a.1 b.1 a.2 b.2 a.3 b.3
 one_spelled Pair tail one other first second =
     let a = pair_spelled tail one first in
     let b = pair_spelled tail other second in

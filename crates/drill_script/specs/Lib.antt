@@ -4,3 +4,4 @@ pub mod Lacking
 pub mod LineParts
 pub mod LineText
 pub mod Lines
+pub mod Scripts

@@ -1,23 +1,24 @@
 -- The lines of a drill script, in this program's own format: words separated by one space.
 --
---     mode NAME WAY RETRIES PERIOD      WAY is push or pull
---     submit END MODE LOAD              END is a or b; LOAD is none, hex=DIGITS or size=S
+--     mode NAME [LINK] WAY RETRIES PERIOD   LINK is fh or hl, in a script of a chain; WAY is push or pull
+--     submit END MODE LOAD                  END is a or b, or f, h or l of a chain; LOAD is none, hex=DIGITS or size=S
 --     tick END MOMENT
 --     take END
 --     ask END MODE
+--     relay END MODE                        in a script of a chain
 --     pair END MODE NUMBER
---     came END PACKAGE
---     lost END PACKAGE
+--     came END [FROM] PACKAGE               FROM is an endpoint, in a script of a chain
+--     lost END [FROM] PACKAGE
 --     read END NUMBER
 --     confirm END NUMBER
 --     status END NUMBER
 --     crash END
---     stop CALL PICK LINE               CALL is 1 to 4; PICK is old, new or other; LINE is a line of submit, tick, take,
---                                       came or confirm
+--     stop CALL PICK LINE                   CALL is 1 to 4; PICK is old, new or other; LINE is a line of submit, tick,
+--                                           take, came or confirm
 --     fold END
 --
 -- A line has only one text. Numbers are decimal, without a sign and without leading zeros.
-use Rattle.std.specs.Prelude.{ℕ, ◌+◌, ◌/◌, ◌%◌, ◌^◌, List, [], ◌∷◌, ◌++◌, Bool, true, ◌&&◌, ◌||◌, nat_le, nat_lt, if◌then◌else◌, length, codes}
+use Rattle.std.specs.Prelude.{ℕ, ◌/◌, ◌%◌, ◌^◌, List, [], ◌∷◌, ◌++◌, Bool, true, ◌&&◌, ◌||◌, nat_le, nat_lt, length, codes, Option, Some, None}
 use Rattle.std.specs.Fmt.{decimal}
 use Rattle.std.specs.List.{flat_map, join_with_byte, list_all}
 use Rattle.as4_values.specs.declared.moment.TheConstants.{MAX_MOMENT}
@@ -25,9 +26,11 @@ use Rattle.as4_disk.specs.declared.change.Pick.{Pick}
 use Rattle.as4_disk.specs.declared.change.Pick.TheVariants as pick
 use Rattle.byte_forms.specs.Digits.{hex_digit}
 use Rattle.drill_script.specs.declared.line.EndName.{EndName}
-use Rattle.drill_script.specs.declared.line.EndName.TheVariants.{A, B}
+use Rattle.drill_script.specs.declared.line.EndName.TheVariants.{A, B, First, Hub, Last}
 use Rattle.drill_script.specs.declared.line.Line.{Line}
 use Rattle.drill_script.specs.declared.line.Line.TheVariants as line
+use Rattle.drill_script.specs.declared.line.LinkName.{LinkName}
+use Rattle.drill_script.specs.declared.line.LinkName.TheVariants.{Front, Rear}
 use Rattle.drill_script.specs.declared.line.ScriptLoad.{ScriptLoad}
 use Rattle.drill_script.specs.declared.line.ScriptLoad.TheVariants.{Nothing, Hex, Size}
 use Rattle.drill_script.specs.declared.line.Stoppable.{Stoppable}
@@ -38,6 +41,23 @@ use Rattle.drill_script.specs.declared.line.Way.TheVariants.{Push, Pull}
 abbrev pub end_text : EndName → List ℕ
 end_text A = codes "a"
 end_text B = codes "b"
+end_text First = codes "f"
+end_text Hub = codes "h"
+end_text Last = codes "l"
+
+-- the endpoint that a package comes from, where it is named
+abbrev pub from_words : Option EndName → List (List ℕ)
+from_words None = []
+from_words (Some from) = end_text from ∷ []
+
+abbrev pub link_text : LinkName → List ℕ
+link_text Front = codes "fh"
+link_text Rear = codes "hl"
+
+-- the link of a mode, where it is named
+abbrev pub link_words : Option LinkName → List (List ℕ)
+link_words None = []
+link_words (Some link) = link_text link ∷ []
 
 abbrev pub way_text : Way → List ℕ
 way_text Push = codes "push"
@@ -62,16 +82,18 @@ abbrev pub stoppable_words : Stoppable → List (List ℕ)
 stoppable_words (Submit end mode load) = codes "submit" ∷ end_text end ∷ mode ∷ load_text load ∷ []
 stoppable_words (Tick end moment) = codes "tick" ∷ end_text end ∷ decimal moment ∷ []
 stoppable_words (Take end) = codes "take" ∷ end_text end ∷ []
-stoppable_words (Came end number) = codes "came" ∷ end_text end ∷ decimal number ∷ []
+stoppable_words (Came end from number) = codes "came" ∷ end_text end ∷ (from_words from ++ decimal number ∷ [])
 stoppable_words (Confirm end number) = codes "confirm" ∷ end_text end ∷ decimal number ∷ []
 
 -- the words of a line
 abbrev pub line_words : Line → List (List ℕ)
-line_words (line.Mode name way retries period) = codes "mode" ∷ name ∷ way_text way ∷ decimal retries ∷ decimal period ∷ []
+line_words (line.Mode name link way retries period) =
+    codes "mode" ∷ name ∷ (link_words link ++ way_text way ∷ decimal retries ∷ decimal period ∷ [])
 line_words (line.Run l) = stoppable_words l
 line_words (line.Ask end mode) = codes "ask" ∷ end_text end ∷ mode ∷ []
+line_words (line.Relay end mode) = codes "relay" ∷ end_text end ∷ mode ∷ []
 line_words (line.Pair end mode number) = codes "pair" ∷ end_text end ∷ mode ∷ decimal number ∷ []
-line_words (line.Lost end number) = codes "lost" ∷ end_text end ∷ decimal number ∷ []
+line_words (line.Lost end from number) = codes "lost" ∷ end_text end ∷ (from_words from ++ decimal number ∷ [])
 line_words (line.Read end number) = codes "read" ∷ end_text end ∷ decimal number ∷ []
 line_words (line.Status end number) = codes "status" ∷ end_text end ∷ decimal number ∷ []
 line_words (line.Crash end) = codes "crash" ∷ end_text end ∷ []
@@ -108,17 +130,18 @@ unfoldable pub is_stoppable : Stoppable → Bool
 is_stoppable (Submit end mode load) = is_name mode && is_load load
 is_stoppable (Tick end moment) = nat_le moment MAX_MOMENT
 is_stoppable (Take end) = true
-is_stoppable (Came end number) = nat_lt number (2 ^ 64)
+is_stoppable (Came end from number) = nat_lt number (2 ^ 64)
 is_stoppable (Confirm end number) = nat_lt number (2 ^ 64)
 
 -- the values of a line are in range
 unfoldable pub is_line : Line → Bool
-is_line (line.Mode name way retries period) =
+is_line (line.Mode name link way retries period) =
     is_name name && (nat_le retries 1000 && (nat_le 1 period && nat_le period 1000000000))
 is_line (line.Run l) = is_stoppable l
 is_line (line.Ask end mode) = is_name mode
+is_line (line.Relay end mode) = is_name mode
 is_line (line.Pair end mode number) = is_name mode && nat_lt number (2 ^ 64)
-is_line (line.Lost end number) = nat_lt number (2 ^ 64)
+is_line (line.Lost end from number) = nat_lt number (2 ^ 64)
 is_line (line.Read end number) = nat_lt number (2 ^ 64)
 is_line (line.Status end number) = nat_lt number (2 ^ 64)
 is_line (line.Crash end) = true

@@ -2,11 +2,26 @@
 use as4_disk::Pick;
 use as4_values::Octets;
 
-/// One of the two endpoints.
+/// An endpoint: one of a pair, or one of a chain.
 #[derive(Clone, Copy, Debug, PartialEq, Eq)]
 pub enum EndName {
     A,
     B,
+    /// The first endpoint of a chain.
+    First,
+    /// The hub of a chain.
+    Hub,
+    /// The last endpoint of a chain.
+    Last,
+}
+
+/// A link of a chain.
+#[derive(Clone, Copy, Debug, PartialEq, Eq)]
+pub enum LinkName {
+    /// From the first endpoint to the hub.
+    Front,
+    /// From the hub to the last endpoint.
+    Rear,
 }
 
 /// How the messages of a mode are sent.
@@ -44,9 +59,10 @@ pub enum Stoppable {
     Take {
         end: EndName,
     },
-    /// The package of this number from the other endpoint arrives.
+    /// The package of this number arrives: from the other endpoint of the pair, or from the named one of the chain.
     Came {
         end: EndName,
+        from: Option<EndName>,
         package: u64,
     },
     /// The messages in the inbox up to this number are confirmed.
@@ -59,9 +75,10 @@ pub enum Stoppable {
 /// A line of a script.
 #[derive(Drop)]
 pub enum Line {
-    /// Both endpoints have this mode.
+    /// All endpoints have this mode: of the pair, or of the named link of the chain.
     Mode {
         name: Octets,
+        link: Option<LinkName>,
         way: Way,
         retries: u32,
         period: u64,
@@ -79,10 +96,16 @@ pub enum Line {
         mode: Octets,
         number: u64,
     },
-    /// The package of this number from the other endpoint arrives, and the reply is lost.
+    /// The package of this number arrives, and the reply is lost.
     Lost {
         end: EndName,
+        from: Option<EndName>,
         package: u64,
+    },
+    /// The next message of the hub's inbox is submitted by this mode.
+    Relay {
+        end: EndName,
+        mode: Octets,
     },
     /// A message in the inbox is read.
     Read {

@@ -1,21 +1,23 @@
 //! A line, read from its bytes.
 //!
 //!     a word, a space, and the rest: the word gives the kind of the line, and the kind says how the rest is read
-ghost use Rattle.std.specs.Prelude.{◌≡◌, ℕ, ◌≤◌, Some, IfOk, IfSome, IsErr, IsTrue};
-ghost use Rattle.drill_script.specs.LineText.{line_text, is_line};
-ghost use Rattle.drill_script.specs.LineParts.{BeginsKept, IsKept, Spells, settings_text, counted_line};
+ghost use Rattle.std.specs.Prelude.{◌≡◌, ℕ, ◌≤◌, List, Option, Some, IfOk, IfSome, IsErr, IsTrue};
+ghost use Rattle.drill_script.specs.Lacking.{spaced};
+ghost use Rattle.drill_script.specs.LineText.{end_text, line_text, is_line, is_name};
+ghost use Rattle.drill_script.specs.LineParts.{BeginsKept, IsKept, Spells, settings_text, linked_text, counted_line};
 ghost use Rattle.drill_script.specs.declared.line.Line.{Line};
+ghost use Rattle.drill_script.specs.declared.line.LinkName.{LinkName};
 ghost use Rattle.drill_script.specs.declared.line.Way.{Way};
 ghost use Rattle.drill_script.specs.declared.verb.Verb.TheVariants as verb;
 
-use crate::line::{EndName, Line, Way};
+use crate::line::{EndName, Line, LinkName, Way};
 use crate::stoppable::{run_of, stoppable_of};
 use crate::verb::{Counted, RunVerb, Verb, read_verb};
 use crate::words::{
-    call_and, end_and, end_and_number, end_of, may_name, name_and, number_and, number_of,
-    octets_of, pick_and, way_and,
+    arrival_of, call_and, end_and, end_and_number, end_of, link_and, may_name, name_and,
+    number_and, number_of, octets_of, pick_and, way_and,
 };
-use as4_values::NoMemory;
+use as4_values::{NoMemory, Octets};
 use byte_forms::cut_at;
 use std::alloc::Global;
 
@@ -62,7 +64,9 @@ fn tail_of(alloc: Global, verb: Verb, tail: &[u8]) -> Result<Option<Line>, NoMem
         Verb::Mode => mode_of(alloc, tail),
         Verb::Run(run) => run_line(alloc, run, tail),
         Verb::Ask => ask_of(alloc, tail),
+        Verb::Relay => relay_of(alloc, tail),
         Verb::Pair => pair_of(alloc, tail),
+        Verb::Lost => Ok(lost_of(tail)),
         Verb::Count(counted) => Ok(counted_of(counted, tail)),
         Verb::Crash => Ok(crash_of(tail)),
         Verb::Stop => stop_of(alloc, tail),
@@ -70,7 +74,7 @@ fn tail_of(alloc: Global, verb: Verb, tail: &[u8]) -> Result<Option<Line>, NoMem
     }
 }
 
-// Reads a mode: its name, way, retries and period.
+// Reads a mode: its name, its link if one is named, its way, retries and period.
 fn mode_of(alloc: Global, tail: &[u8]) -> Result<Option<Line>, NoMemory>
     ensures found { IfOk result (λ read. IfSome read (Spells verb.Mode tail.now)) }
     ensures only { (line : Line) → Spells verb.Mode tail.now line → IfOk result (λ read. read ≡ Some line) }
@@ -78,16 +82,32 @@ fn mode_of(alloc: Global, tail: &[u8]) -> Result<Option<Line>, NoMemory>
     let Some((name, words)) = name_and(tail) else {
         return Ok(None);
     };
-    let Some((way, retries, period)) = settings_of(words) else {
+    let Some((link, (way, retries, period))) = linked_settings_of(words) else {
         return Ok(None);
     };
     let name = octets_of(alloc, name)?;
     Ok(Some(Line::Mode {
         name,
+        link,
         way,
         retries,
         period,
     }))
+}
+
+// Reads a link if one is named, a way, a number of retries and a period.
+fn linked_settings_of(words: &[u8]) -> Option<(Option<LinkName>, (Way, u32, u64))>
+    ensures found { IfSome result (λ all. words.now ≡ linked_text all.0 (settings_text all.1.0 all.1.1 all.1.2)) }
+    ensures range { IfSome result (λ all. (all.1.1 ≤ 1000) × (1 ≤ all.1.2) × (all.1.2 ≤ 1000000000)) }
+    ensures only { (link : Option LinkName) (way : Way) (retries period : ℕ) → retries ≤ 1000 → 1 ≤ period → period ≤ 1000000000
+        → words.now ≡ linked_text link (settings_text way retries period) → result ≡ Some (link, (way, retries, period)) }
+{
+    if let Some(settings) = settings_of(words) {
+        return Some((None, settings));
+    }
+    let (link, words) = link_and(words)?;
+    let settings = settings_of(words)?;
+    Some((Some(link), settings))
 }
 
 // Reads a way, a number of retries and a period.
@@ -124,6 +144,30 @@ fn ask_of(alloc: Global, tail: &[u8]) -> Result<Option<Line>, NoMemory>
     ensures found { IfOk result (λ read. IfSome read (Spells verb.Ask tail.now)) }
     ensures only { (line : Line) → Spells verb.Ask tail.now line → IfOk result (λ read. read ≡ Some line) }
 {
+    let Some((end, mode)) = end_and_mode(alloc, tail)? else {
+        return Ok(None);
+    };
+    Ok(Some(Line::Ask { end, mode }))
+}
+
+// Reads the endpoint that relays, and its mode.
+fn relay_of(alloc: Global, tail: &[u8]) -> Result<Option<Line>, NoMemory>
+    ensures found { IfOk result (λ read. IfSome read (Spells verb.Relay tail.now)) }
+    ensures only { (line : Line) → Spells verb.Relay tail.now line → IfOk result (λ read. read ≡ Some line) }
+{
+    let Some((end, mode)) = end_and_mode(alloc, tail)? else {
+        return Ok(None);
+    };
+    Ok(Some(Line::Relay { end, mode }))
+}
+
+// Reads an endpoint and a mode.
+fn end_and_mode(alloc: Global, tail: &[u8]) -> Result<Option<(EndName, Octets)>, NoMemory>
+    ensures found { IfOk result (λ read. IfSome read
+        (λ parts. (tail.now ≡ spaced (end_text parts.0) parts.1) × IsTrue (is_name parts.1))) }
+    ensures only { (end : EndName) (mode : List ℕ) → IsTrue (is_name mode) → tail.now ≡ spaced (end_text end) mode
+        → IfOk result (λ read. read ≡ Some (end, mode)) }
+{
     let Some((end, word)) = end_and(tail) else {
         return Ok(None);
     };
@@ -131,7 +175,7 @@ fn ask_of(alloc: Global, tail: &[u8]) -> Result<Option<Line>, NoMemory>
         return Ok(None);
     }
     let mode = octets_of(alloc, word)?;
-    Ok(Some(Line::Ask { end, mode }))
+    Ok(Some((end, mode)))
 }
 
 // Reads the endpoint that asks, its mode, and the number of the message to be receipted.
@@ -152,6 +196,15 @@ fn pair_of(alloc: Global, tail: &[u8]) -> Result<Option<Line>, NoMemory>
     Ok(Some(Line::Pair { end, mode, number }))
 }
 
+// Reads the arrival of a package whose reply is lost.
+fn lost_of(tail: &[u8]) -> Option<Line>
+    ensures found { IfSome result (Spells verb.Lost tail.now) }
+    ensures only { (line : Line) → Spells verb.Lost tail.now line → result ≡ Some line }
+{
+    let (end, from, package) = arrival_of(tail)?;
+    Some(Line::Lost { end, from, package })
+}
+
 // Reads an endpoint and a number.
 fn counted_of(counted: Counted, tail: &[u8]) -> Option<Line>
     ensures found { IfSome result (Spells (verb.Count counted) tail.now) }
@@ -166,10 +219,6 @@ fn counted_line(counted: Counted, end: EndName, number: u64) -> Line
     ensures { result ≡ counted_line counted end number }
 {
     match counted {
-        Counted::Lost => Line::Lost {
-            end,
-            package: number,
-        },
         Counted::Read => Line::Read { end, number },
         Counted::Status => Line::Status { end, number },
     }

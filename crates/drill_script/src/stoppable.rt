@@ -9,7 +9,7 @@ ghost use Rattle.drill_script.specs.declared.verb.Verb.TheVariants.{Run};
 use crate::line::Stoppable;
 use crate::load::load_of;
 use crate::verb::{RunVerb, read_run_verb};
-use crate::words::{end_and, end_and_number, end_of, name_and, octets_of};
+use crate::words::{arrival_of, end_and, end_and_number, end_of, name_and, octets_of};
 use as4_values::{MAX_MOMENT, NoMemory};
 use byte_forms::cut_at;
 use std::alloc::Global;
@@ -89,14 +89,13 @@ fn take_of(tail: &[u8]) -> Option<Stoppable>
     Some(Stoppable::Take { end })
 }
 
-// Reads the endpoint at which a package arrives, and its number.
-#[tactic(auto, using(crate::proofs::SpellLemmas::came_spells))]
+// Reads the endpoint at which a package arrives, the one that it comes from if that is named, and its number.
 fn came_of(tail: &[u8]) -> Option<Stoppable>
     ensures found { IfSome result (SpellsRun run.Came tail.now) }
     ensures only { (line : Stoppable) → SpellsRun run.Came tail.now line → result ≡ Some line }
 {
-    let (end, package) = end_and_number(tail)?;
-    Some(Stoppable::Came { end, package })
+    let (end, from, package) = arrival_of(tail)?;
+    Some(Stoppable::Came { end, from, package })
 }
 
 // Reads the endpoint that confirms messages, and the number of the last one.

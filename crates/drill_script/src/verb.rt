@@ -14,7 +14,6 @@ pub(crate) enum RunVerb {
 /// The verbs that are followed by an endpoint and a number, of lines that can't be stopped.
 #[derive(Clone, Copy, Debug, PartialEq, Eq)]
 pub(crate) enum Counted {
-    Lost,
     Read,
     Status,
 }
@@ -25,7 +24,9 @@ pub(crate) enum Verb {
     Mode,
     Run(RunVerb),
     Ask,
+    Relay,
     Pair,
+    Lost,
     Count(Counted),
     Crash,
     Stop,
@@ -51,8 +52,14 @@ pub(crate) fn read_verb(word: &[u8]) -> Option<Verb>
     if word == b"ask".as_slice() {
         return Some(Verb::Ask);
     }
+    if word == b"relay".as_slice() {
+        return Some(Verb::Relay);
+    }
     if word == b"pair".as_slice() {
         return Some(Verb::Pair);
+    }
+    if word == b"lost".as_slice() {
+        return Some(Verb::Lost);
     }
     if word == b"crash".as_slice() {
         return Some(Verb::Crash);
@@ -94,9 +101,6 @@ fn read_counted(word: &[u8]) -> Option<Counted>
     ensures found { IfSome result (λ counted. word.now ≡ counted_text counted) }
     ensures only { (counted : Counted) → word.now ≡ counted_text counted → result ≡ Some counted }
 {
-    if word == b"lost".as_slice() {
-        return Some(Counted::Lost);
-    }
     if word == b"read".as_slice() {
         return Some(Counted::Read);
     }

@@ -1,13 +1,14 @@
 //! The words of a line, one at a time.
-ghost use Rattle.std.specs.Prelude.{◌≡◌, ℕ, Some, List, ◌∷◌, ◌++◌, ◌<◌, ◌≤◌, ◌^◌, IfOk, IfSome, IsTrue};
+ghost use Rattle.std.specs.Prelude.{◌≡◌, ℕ, Some, List, Option, ◌∷◌, ◌++◌, ◌<◌, ◌≤◌, ◌^◌, IfOk, IfSome, IsTrue};
 ghost use Rattle.std.specs.List.{list_all};
 ghost use Rattle.std.specs.Option.{IsSomeAnd};
 ghost use Rattle.std.specs.Fmt.{decimal};
 ghost use Rattle.drill_script.specs.Lacking.{spaced};
-ghost use Rattle.drill_script.specs.LineText.{end_text, way_text, pick_text, is_drill_byte, is_name};
+ghost use Rattle.drill_script.specs.LineParts.{arrival_text};
+ghost use Rattle.drill_script.specs.LineText.{end_text, link_text, way_text, pick_text, is_drill_byte, is_name};
 ghost use Rattle.as4_disk.specs.declared.change.Pick.{Pick};
 
-use crate::line::{EndName, Way};
+use crate::line::{EndName, LinkName, Way};
 use as4_disk::Pick;
 use as4_values::{NoMemory, Octets};
 use byte_forms::{cut_at, decimal_of};
@@ -55,6 +56,29 @@ pub(crate) fn end_of(word: &[u8]) -> Option<EndName>
     }
     if word == b"b".as_slice() {
         return Some(EndName::B);
+    }
+    if word == b"f".as_slice() {
+        return Some(EndName::First);
+    }
+    if word == b"h".as_slice() {
+        return Some(EndName::Hub);
+    }
+    if word == b"l".as_slice() {
+        return Some(EndName::Last);
+    }
+    None
+}
+
+// Reads the name of a link.
+fn link_of(word: &[u8]) -> Option<LinkName>
+    ensures found { IfSome result (λ link. word.now ≡ link_text link) }
+    ensures only { (link : LinkName) → word.now ≡ link_text link → result ≡ Some link }
+{
+    if word == b"fh".as_slice() {
+        return Some(LinkName::Front);
+    }
+    if word == b"hl".as_slice() {
+        return Some(LinkName::Rear);
     }
     None
 }
@@ -114,6 +138,18 @@ pub(crate) fn way_and(words: &[u8]) -> Option<(Way, &[u8])>
     Some((way, rest))
 }
 
+/// Reads a link, and returns the rest.
+#[tactic(auto, using(crate::proofs::WordLemmas::link_unspaced))]
+pub(crate) fn link_and(words: &[u8]) -> Option<(LinkName, &[u8])>
+    ensures found { IfSome result (λ parts. words.now ≡ spaced (link_text parts.0) parts.1.now) }
+    ensures only { (link : LinkName) (rest : List ℕ) → words.now ≡ spaced (link_text link) rest
+        → IsSomeAnd result (λ parts. (parts.0 ≡ link) × (parts.1.now ≡ rest)) }
+{
+    let (word, rest) = cut_at(b' ', words)?;
+    let link = link_of(word)?;
+    Some((link, rest))
+}
+
 /// Reads a number, and returns the rest.
 #[tactic(auto, using(crate::proofs::WordLemmas::decimal_unspaced))]
 pub(crate) fn number_and(words: &[u8]) -> Option<(u64, &[u8])>
@@ -137,6 +173,21 @@ pub(crate) fn end_and_number(words: &[u8]) -> Option<(EndName, u64)>
     let (end, word) = end_and(words)?;
     let number = number_of(word)?;
     Some((end, number))
+}
+
+/// Reads the endpoint at which a package arrives, the one that it comes from if that is named, and its number.
+pub(crate) fn arrival_of(words: &[u8]) -> Option<(EndName, Option<EndName>, u64)>
+    ensures found { IfSome result (λ parts. words.now ≡ arrival_text parts.0 parts.1 parts.2) }
+    ensures range { IfSome result (λ parts. parts.2 < 2 ^ 64) }
+    ensures only { (end : EndName) (from : Option EndName) (number : ℕ) → number < 2 ^ 64
+        → words.now ≡ arrival_text end from number → result ≡ Some (end, from, number) }
+{
+    let (end, rest) = end_and(words)?;
+    if let Some(number) = number_of(rest) {
+        return Some((end, None, number));
+    }
+    let (from, number) = end_and_number(rest)?;
+    Some((end, Some(from), number))
 }
 
 /// Reads the number of a device call, and returns the rest.

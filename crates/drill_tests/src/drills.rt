@@ -3,16 +3,29 @@
 ghost use Rattle.std.specs.Prelude.{◌≤◌};
 
 use as4_flow::{MemorySink, MemorySource};
-use drill::{DrillEnd, drill, generate};
+use drill::{DrillEnd, drill, generate, hub_drill};
 use std::alloc::{AllocError, Global};
 
-/// Whether the script ends so and writes this text.
+/// Whether the script ends so on a pair of endpoints and writes this text.
 pub(crate) fn plays(alloc: Global, script: &[u8], end: DrillEnd, wanted: &[u8]) -> bool {
+    ends_so(alloc, false, script, end, wanted)
+}
+
+/// The same on a chain of three.
+pub(crate) fn plays_in_chain(alloc: Global, script: &[u8], end: DrillEnd, wanted: &[u8]) -> bool {
+    ends_so(alloc, true, script, end, wanted)
+}
+
+fn ends_so(alloc: Global, in_chain: bool, script: &[u8], end: DrillEnd, wanted: &[u8]) -> bool {
     match script.to_vec(alloc) {
         Ok(bytes) => {
             let mut source = MemorySource::of(bytes, Vec::new(alloc), Vec::new(alloc));
             let mut sink = MemorySink::of(alloc, Vec::new(alloc), Vec::new(alloc));
-            let ended = drill(alloc, &mut source, &mut sink);
+            let ended = if in_chain {
+                hub_drill(alloc, &mut source, &mut sink)
+            } else {
+                drill(alloc, &mut source, &mut sink)
+            };
             drop(source);
             let is_written = sink.bytes() == wanted;
             drop(sink);

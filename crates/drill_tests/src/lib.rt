@@ -4,6 +4,8 @@
 #[cfg(test)]
 mod drills;
 #[cfg(test)]
+mod hubs;
+#[cfg(test)]
 mod scripts;
 #[cfg(test)]
 mod stops;

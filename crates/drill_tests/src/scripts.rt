@@ -3,7 +3,7 @@
 use as4_disk::Pick;
 use as4_flow::MemorySource;
 use drill_script::{
-    EndName, LINE_LIMIT, Line, LineGot, LineReader, ScriptLoad, Stoppable, Way, line_of,
+    EndName, LINE_LIMIT, Line, LineGot, LineReader, LinkName, ScriptLoad, Stoppable, Way, line_of,
 };
 use std::alloc::{AllocError, Global};
 use std::test::Fail;
@@ -22,14 +22,21 @@ fn shape_of(line: &Line) -> Shape {
     match line {
         Line::Mode {
             name,
+            link,
             way,
             period,
             ..
-        } => told(b'm', *way == Way::Pull, name.bytes().len(), *period),
+        } => told(
+            b'm',
+            *way == Way::Pull,
+            name.bytes().len().wrapping_add(link_of(*link)),
+            *period,
+        ),
         Line::Run(line) => run_shape_of(line),
         Line::Ask { end, mode } => told(b'a', is_b(*end), mode.bytes().len(), 0),
+        Line::Relay { end, mode } => told(b'y', is_b(*end), mode.bytes().len(), 0),
         Line::Pair { end, mode, number } => told(b'p', is_b(*end), mode.bytes().len(), *number),
-        Line::Lost { end, package } => told(b'l', is_b(*end), 0, *package),
+        Line::Lost { end, from, package } => told(b'l', is_b(*end), from_of(*from), *package),
         Line::Read { end, number } => told(b'r', is_b(*end), 0, *number),
         Line::Status { end, number } => told(b'u', is_b(*end), 0, *number),
         Line::Crash { end } => told(b'x', is_b(*end), 0, 0),
@@ -45,7 +52,9 @@ fn run_shape_of(line: &Stoppable) -> Shape {
         }
         Stoppable::Tick { end, moment } => told(b't', is_b(*end), 0, *moment),
         Stoppable::Take { end } => told(b'k', is_b(*end), 0, 0),
-        Stoppable::Came { end, package } => told(b'c', is_b(*end), 0, *package),
+        Stoppable::Came { end, from, package } => {
+            told(b'c', is_b(*end), from_of(*from), *package)
+        }
         Stoppable::Confirm { end, number } => told(b'f', is_b(*end), 0, *number),
     }
 }
@@ -74,8 +83,30 @@ fn told(kind: u8, is_second: bool, named: usize, number: u64) -> Shape {
     }
 }
 
+// Whether it is the endpoint b, or the last one of a chain.
 fn is_b(end: EndName) -> bool {
-    end == EndName::B
+    end == EndName::B || end == EndName::Last
+}
+
+// A number for the endpoint that a package comes from.
+fn from_of(from: Option<EndName>) -> usize {
+    match from {
+        None => 0,
+        Some(EndName::A) => 1,
+        Some(EndName::B) => 2,
+        Some(EndName::First) => 3,
+        Some(EndName::Hub) => 4,
+        Some(EndName::Last) => 5,
+    }
+}
+
+// A number for the link of a mode.
+fn link_of(link: Option<LinkName>) -> usize {
+    match link {
+        None => 0,
+        Some(LinkName::Front) => 100,
+        Some(LinkName::Rear) => 200,
+    }
 }
 
 // The size of a load, or its last byte.
@@ -104,7 +135,7 @@ fn shape_in(alloc: Global, bytes: &[u8]) -> Result<Option<Shape>, Fail> {
 }
 
 /// Lines, and the fields of their shapes.
-const LINES: [(&[u8], u8, bool, usize, u64); 22] = [
+const LINES: [(&[u8], u8, bool, usize, u64); 29] = [
     (b"mode m1 push 3 5000", b'm', false, 2, 5_000),
     (b"mode z pull 1000 1000000000", b'm', true, 1, 1_000_000_000),
     (b"submit a m1 none", b's', false, 2, 0),
@@ -133,6 +164,13 @@ const LINES: [(&[u8], u8, bool, usize, u64); 22] = [
     (b"stop 2 new submit b m1 size=5", b'S', true, 110, 52),
     (b"stop 3 new confirm a 0", b'F', false, 110, 3),
     (b"fold a", b'z', false, 0, 0),
+    (b"mode m fh push 3 1000", b'm', false, 101, 1_000),
+    (b"mode n hl pull 3 1000", b'm', true, 201, 1_000),
+    (b"relay h n", b'y', false, 1, 0),
+    (b"came h f 0", b'c', false, 3, 0),
+    (b"came l h 12", b'c', true, 4, 12),
+    (b"lost h l 1", b'l', false, 5, 1),
+    (b"stop 1 new came f h 2", b'C', false, 110, 21),
 ];
 
 /// The first row with another shape.

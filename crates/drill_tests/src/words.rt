@@ -177,10 +177,10 @@ fn an_end_is_told_by_its_numbers(rt: HostRuntime) {
 /// A mode with up to three retries, five seconds apart.
 fn mode(alloc: Global, name: &[u8], way: Way) -> Result<Mode, NoMemory>
     requires { IsTrue (is_name name.now) }
-    ensures { IfOk result (IsDrillMode name.now way 3 5000) }
+    ensures { IfOk result (IsDrillMode None name.now way 3 5000) }
 {
     let name = Octets::of(Vec::from_slice(alloc, name)?);
-    drill_mode(alloc, &name, way, 3, 5000)
+    drill_mode(alloc, None, &name, way, 3, 5000)
 }
 
 /// Whether the route is a push, or a pull from this channel.

@@ -39,7 +39,7 @@ no_repeat : {X : Type 0} (repeats : X → X → Bool) (xs : List X) → AllPairs
 no_repeat repeats xs apart = sym (no_repeat_from repeats [] xs (λ i j d before _ short. apart i j d before short))
 
 acts_by_name : (mode : Mode) → IsSomeDrillMode mode → mode.name ≡ mode.action
-acts_by_name mode is = is.4.named ∙ sym is.4.action
+acts_by_name mode is = is.5.named ∙ sym is.5.action
 
 apart_by_name : (a b : Mode) → IsSomeDrillMode a → IsSomeDrillMode b → a.name ≢ b.name → are_same_terms (mode_terms a) (mode_terms b) ≡ false
 apart_by_name a b is_one is_other differ =

@@ -1,5 +1,5 @@
 -- The texts of a drill's modes are in range.
-use Rattle.std.proofs.Common.{◌≡◌, ℕ, ◌+◌, ◌≤◌, List, [], ◌∷◌, ◌++◌, Bool, true, false, not, ◌&&◌, nat_le, ◌==◌, length, length-append, refl, arith}
+use Rattle.std.proofs.Common.{◌≡◌, ℕ, ◌+◌, ◌≤◌, Option, Some, List, [], ◌∷◌, ◌++◌, Bool, true, false, not, ◌&&◌, nat_le, ◌==◌, length, length-append, refl, arith}
 use Rattle.std.specs.Prelude.{IsTrue, None, codes, slice_index}
 use Rattle.std.specs.List.{list_all}
 use Rattle.std.proofs.lemmas.Bool.{and_parts, and_from, le-leb, leb-true}
@@ -13,9 +13,11 @@ use Rattle.as4_values.specs.declared.header.Side.{Side}
 use Rattle.as4_values.specs.declared.route.Route.{Route}
 use Rattle.as4_values.specs.declared.route.Route.TheVariants as route
 use Rattle.drill_script.specs.LineText.{is_drill_byte, is_name}
+use Rattle.drill_script.specs.declared.line.LinkName.{LinkName}
+use Rattle.drill_script.specs.declared.line.LinkName.TheVariants.{Front, Rear}
 use Rattle.drill_script.specs.declared.line.Way.{Way}
 use Rattle.drill_script.specs.declared.line.Way.TheVariants.{Push, Pull}
-use Rattle.drill_texts.specs.Modes.{IsDrillSide, drill_address, route_of}
+use Rattle.drill_texts.specs.Modes.{IsDrillSide, drill_address, receiver_of, route_of, sender_of}
 
 -- a plain byte other than a space
 abbrev pub is_word_byte : ℕ → Bool
@@ -102,13 +104,17 @@ name_is_short name named =
     let short : length name ≤ 32 = (named_of name named).short in
     le-leb (length name) 255 (omega arith)
 
-pub sender_is_short : (side : Side) → IsDrillSide (codes "drill-a") (codes "sender") side → IsTrue (is_short_side side.parties side.role)
+pub sender_is_short : (link : Option LinkName) (side : Side) → IsDrillSide (sender_of link) (codes "sender") side → IsTrue (is_short_side side.parties side.role)
 unfolding is_short_side is_short_party is_short
-sender_is_short side is = rw (is.party, is.plays) refl
+sender_is_short None side is = rw (is.party, is.plays) refl
+sender_is_short (Some Front) side is = rw (is.party, is.plays) refl
+sender_is_short (Some Rear) side is = rw (is.party, is.plays) refl
 
-pub receiver_is_short : (side : Side) → IsDrillSide (codes "drill-b") (codes "receiver") side → IsTrue (is_short_side side.parties side.role)
+pub receiver_is_short : (link : Option LinkName) (side : Side) → IsDrillSide (receiver_of link) (codes "receiver") side → IsTrue (is_short_side side.parties side.role)
 unfolding is_short_side is_short_party is_short
-receiver_is_short side is = rw (is.party, is.plays) refl
+receiver_is_short None side is = rw (is.party, is.plays) refl
+receiver_is_short (Some Front) side is = rw (is.party, is.plays) refl
+receiver_is_short (Some Rear) side is = rw (is.party, is.plays) refl
 
 pub service_is_short : (value : List ℕ) → value ≡ codes "drill" → IsTrue (is_short_service (record { value = value; kind = None }))
 unfolding is_short_service is_short

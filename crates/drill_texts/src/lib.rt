@@ -10,5 +10,5 @@ mod replies;
 pub use loads::loads_of;
 pub use modes::{drill_mode, modes_of};
 pub use replies::{
-    end_line, folded_line, no_package_line, reopened_line, reply_line, unknown_line,
+    end_line, folded_line, no_mode_line, no_package_line, reopened_line, reply_line, unknown_line,
 };

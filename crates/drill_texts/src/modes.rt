@@ -1,25 +1,26 @@
-//! The processing modes of a drill, which both endpoints have (P-Modes, ebMS 3.0 Core, section 4).
+//! The processing modes of a drill, which all its endpoints have (P-Modes, ebMS 3.0 Core, section 4).
 //!
 //!     NAME    1 to 32 of a to z and 0 to 9; it is also the action
-//!     from    the party drill-a in the role sender
-//!     to      the party drill-b in the role receiver
+//!     from    the party drill-a, or drill-f or drill-h of a chain, in the role sender
+//!     to      the party drill-b, or drill-h or drill-l of a chain, in the role receiver
 //!     route   One-Way/Push to http://drill/, or One-Way/Pull from the channel drill-NAME
 
-ghost use Rattle.std.specs.Prelude.{◌≡◌, ◌≤◌, IfOk, IsTrue, length};
+ghost use Rattle.std.specs.Prelude.{◌≡◌, ◌≤◌, IfOk, IsTrue, codes, length};
 ghost use Rattle.as4_values.specs.PlainTexts.{IsPlainText};
 ghost use Rattle.drill_script.specs.LineText.{is_name};
-ghost use Rattle.drill_texts.specs.Modes.{AreDrillModes, IsDrillMode, IsDrillSide, route_of};
+ghost use Rattle.drill_texts.specs.Modes.{AreDrillModes, IsDrillMode, IsDrillSide, receiver_of, route_of, sender_of};
 
 use as4_values::{NoMemory, Octets, Party, Route, Seq, Service, Side, Text};
-use drill_script::Way;
+use drill_script::{LinkName, Way};
 use mode_values::Mode;
 use pmodes::{ModeRefusal, Modes};
 use std::alloc::Global;
 
-/// The processing mode of a line of a script: from `drill-a` to `drill-b`, over the address `http://drill/`.
-#[tactic(auto, using(crate::proofs::ModeLemmas::word_is_plain, crate::proofs::ModeLemmas::name_is_plain, crate::proofs::ModeLemmas::name_is_mode_name, crate::proofs::ModeLemmas::name_is_short, crate::proofs::ModeLemmas::sender_is_short, crate::proofs::ModeLemmas::receiver_is_short, crate::proofs::ModeLemmas::service_is_short, crate::proofs::ModeLemmas::no_agreement, crate::proofs::ModeLemmas::route_is_right, crate::proofs::ModeLemmas::never_collects))]
+/// The processing mode of a line of a script: of a pair, or of a link of a chain, over the address `http://drill/`.
+#[tactic(auto, using(crate::proofs::ModeLemmas::word_is_plain, crate::proofs::ModeLemmas::name_is_plain))]
 pub fn drill_mode(
     alloc: Global,
+    link: Option<LinkName>,
     name: &Octets,
     way: Way,
     retries: u32,
@@ -29,12 +30,12 @@ pub fn drill_mode(
     requires retries { retries ≤ 1000 }
     requires begun { 1 ≤ period }
     requires period { period ≤ 1000000000 }
-    ensures { IfOk result (IsDrillMode name.now way retries period) }
+    ensures { IfOk result (IsDrillMode link name.now way retries period) }
 {
     match (
         Text::plain(alloc, name.bytes()),
-        side_of(alloc, b"drill-a", b"sender"),
-        side_of(alloc, b"drill-b", b"receiver"),
+        sender_of(alloc, link),
+        receiver_of(alloc, link),
         Text::plain(alloc, b"drill"),
         Text::plain(alloc, name.bytes()),
         route_of(alloc, name.bytes(), way),
@@ -73,6 +74,30 @@ pub fn modes_of(alloc: Global, list: Seq<Mode>) -> Result<Modes, NoMemory>
         Ok(modes) => Ok(modes),
         Err(ModeRefusal::NoMemory) => Err(NoMemory),
         Err(_) => unreachable!(),
+    }
+}
+
+/// The side that sends.
+#[tactic(auto, using(crate::proofs::ModeLemmas::word_is_plain))]
+fn sender_of(alloc: Global, link: Option<LinkName>) -> Result<Side, NoMemory>
+    ensures { IfOk result (IsDrillSide (sender_of link) (codes "sender")) }
+{
+    match link {
+        None => side_of(alloc, b"drill-a", b"sender"),
+        Some(LinkName::Front) => side_of(alloc, b"drill-f", b"sender"),
+        Some(LinkName::Rear) => side_of(alloc, b"drill-h", b"sender"),
+    }
+}
+
+/// The side that receives.
+#[tactic(auto, using(crate::proofs::ModeLemmas::word_is_plain))]
+fn receiver_of(alloc: Global, link: Option<LinkName>) -> Result<Side, NoMemory>
+    ensures { IfOk result (IsDrillSide (receiver_of link) (codes "receiver")) }
+{
+    match link {
+        None => side_of(alloc, b"drill-b", b"receiver"),
+        Some(LinkName::Front) => side_of(alloc, b"drill-h", b"receiver"),
+        Some(LinkName::Rear) => side_of(alloc, b"drill-l", b"receiver"),
     }
 }
 

@@ -61,6 +61,9 @@ pub(crate) fn begun_line(alloc: Global, end: EndName) -> Result<Vec<u8>, NoMemor
     match end {
         EndName::A => line.extend_from_slice(b"a ")?,
         EndName::B => line.extend_from_slice(b"b ")?,
+        EndName::First => line.extend_from_slice(b"f ")?,
+        EndName::Hub => line.extend_from_slice(b"h ")?,
+        EndName::Last => line.extend_from_slice(b"l ")?,
     }
     Ok(line)
 }

@@ -1,4 +1,4 @@
-//! The lines that a drill writes: END is a or b, and each line ends with LF.
+//! The lines that a drill writes: END is a or b, or f, h or l of a chain, and each line ends with LF.
 //!
 //!     END submitted NUMBER ID
 //!     END no-mode, outbox-full or too-large
@@ -53,6 +53,13 @@ pub fn no_package_line(alloc: Global, end: EndName) -> Result<Octets, NoMemory>
     ensures { IfOk result (λ text. text ≡ said_line end (codes "no-package")) }
 {
     word_line(alloc, end, b"no-package")
+}
+
+/// The line for a mode that the endpoint doesn't have.
+pub fn no_mode_line(alloc: Global, end: EndName) -> Result<Octets, NoMemory>
+    ensures { IfOk result (λ text. text ≡ said_line end (codes "no-mode")) }
+{
+    word_line(alloc, end, b"no-mode")
 }
 
 /// The line for an endpoint whose disk was opened again.

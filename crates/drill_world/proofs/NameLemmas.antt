@@ -1,6 +1,6 @@
 -- The conversation of a drill is plain text, and a mode of a new name may join the others.
 use Rattle.std.proofs.Common.{◌≡◌, ◌≢◌, inl, inr, ℕ, zero, suc, ◌<◌, ◌≤◌, List, [], ◌∷◌, ◌++◌, true, false, length, length-append, refl, sym, ◌∙◌, subst, arith}
-use Rattle.std.specs.Prelude.{IsTrue, codes}
+use Rattle.std.specs.Prelude.{IsTrue, Option, codes}
 use Rattle.std.specs.List.{All, AllPairs, list_any}
 use Rattle.std.specs.Str.{bytes_eq}
 use Rattle.std.proofs.Math.Nat.{eq-or-lt_of_le}
@@ -12,6 +12,7 @@ use Rattle.std.proofs.lemmas.Slice.Eq.{bytes_eq-Decides}
 use Rattle.as4_values.specs.PlainTexts.{IsPlainText}
 use Rattle.mode_values.specs.declared.mode.Mode.{Mode}
 use Rattle.drill_script.specs.LineText.{is_name}
+use Rattle.drill_script.specs.declared.line.LinkName.{LinkName}
 use Rattle.drill_script.specs.declared.line.Way.{Way}
 use Rattle.drill_texts.specs.Modes.{AreDrillModes, IsDrillMode, IsSomeDrillMode}
 use Rattle.drill_texts.proofs.ModeLemmas.{name_is_plain}
@@ -54,13 +55,13 @@ more_named modes mode apart new i j d before short =
     ]
 
 -- modes, and one of a new name
-pub modes_more : (modes more : List Mode) (name : List ℕ) (way : Way) (retries period : ℕ) (mode : Mode) → AreDrillModes modes → length modes < 1024
-    → list_any (λ (m : Mode). bytes_eq m.name name) modes ≡ false → IsDrillMode name way retries period mode → more ≡ modes ++ mode ∷ []
+pub modes_more : (modes more : List Mode) (link : Option LinkName) (name : List ℕ) (way : Way) (retries period : ℕ) (mode : Mode) → AreDrillModes modes → length modes < 1024
+    → list_any (λ (m : Mode). bytes_eq m.name name) modes ≡ false → IsDrillMode link name way retries period mode → more ≡ modes ++ mode ∷ []
     → AreDrillModes more
-modes_more modes more name way retries period mode are few new is whole =
+modes_more modes more link name way retries period mode are few new is whole =
     subst AreDrillModes (sym whole) (record {
       counted = omega (arith, length-append modes (mode ∷ []));
-      made = All-append IsSomeDrillMode modes (mode ∷ []) are.made (one_made mode (name, way, retries, period, is));
+      made = All-append IsSomeDrillMode modes (mode ∷ []) are.made (one_made mode (link, name, way, retries, period, is));
       named = more_named modes mode are.named
           (λ k d within same. unnamed modes name new k d within (same ∙ is.named));
     })

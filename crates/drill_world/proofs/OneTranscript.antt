@@ -18,8 +18,9 @@ use Rattle.drill_world.specs.Transcript.{IsActOf, IsFoldAt, IsStopped, Makes, Pl
 use Rattle.drill_script.specs.declared.line.EndName.{EndName}
 use Rattle.drill_script.specs.declared.line.Line.{Line}
 use Rattle.drill_script.specs.declared.line.Line.TheVariants as line
+use Rattle.drill_script.specs.declared.line.LinkName.{LinkName}
 use Rattle.drill_script.specs.declared.line.Way.{Way}
-use Rattle.drill_texts.specs.Modes.{IsDrillMode, IsDrillSide}
+use Rattle.drill_texts.specs.Modes.{IsDrillMode, IsDrillSide, receiver_of, sender_of}
 use Rattle.drill_texts.specs.Texts.{said_line, reply_text}
 use Rattle.exchange_model.specs.Table.{Step}
 use Rattle.exchange_model.specs.World.{Act, Left, MayHappenAt, Right, Site, World, folded_at, speaker_after, speaker_at, world_at}
@@ -120,12 +121,12 @@ one_side : (id role : List ℕ) (a b : Side) → IsDrillSide id role a → IsDri
 one_side id role a b h k =
     side_told a b (let same : side_parts a ≡ side_parts b = λ i. ((h.party ∙ sym k.party) i, (h.plays ∙ sym k.plays) i) in same)
 
-one_mode : (name : List ℕ) (way : Way) (retries period : ℕ) (a b : Mode) → IsDrillMode name way retries period a
-    → IsDrillMode name way retries period b → a ≡ b
-one_mode name way retries period a b h k = mode_told a b (λ i. record {
+pub one_mode : (link : Option LinkName) (name : List ℕ) (way : Way) (retries period : ℕ) (a b : Mode) → IsDrillMode link name way retries period a
+    → IsDrillMode link name way retries period b → a ≡ b
+one_mode link name way retries period a b h k = mode_told a b (λ i. record {
   name = (h.named ∙ sym k.named) i;
-  from = one_side (codes "drill-a") (codes "sender") a.from b.from h.from k.from i;
-  to = one_side (codes "drill-b") (codes "receiver") a.to b.to h.to k.to i;
+  from = one_side (sender_of link) (codes "sender") a.from b.from h.from k.from i;
+  to = one_side (receiver_of link) (codes "receiver") a.to b.to h.to k.to i;
   service = (h.service ∙ sym k.service) i;
   action = (h.action ∙ sym k.action) i;
   agreement = (h.agreement ∙ sym k.agreement) i;
@@ -203,9 +204,9 @@ one_fold_at end old a b text words h k = (
 
 one_plays : (l : Line) (doing : Doing) (old a b : DrillState) (text words : List ℕ) → Plays l doing old text a → Plays l doing old words b
     → (text ≡ words) × (a ≡ b)
-one_plays (line.Mode name way retries period) doing old a b text words h k = (
+one_plays (line.Mode name link way retries period) doing old a b text words h k = (
   h.2 ∙ sym k.2,
-  h.3 ∙ ap (λ (m : Mode). record old { modes = old.modes ++ m ∷ [] }) (one_mode name way retries period h.0 k.0 h.1 k.1) ∙ sym k.3,
+  h.3 ∙ ap (λ (m : Mode). record old { modes = old.modes ++ m ∷ [] }) (one_mode link name way retries period h.0 k.0 h.1 k.1) ∙ sym k.3,
 )
 one_plays l (Does ask) old a b text words h k = one_makes ask old a b text words h k
 one_plays l (Stops call pick ask) old a b text words h k = one_stop call pick ask old a b text words h k

@@ -4,13 +4,13 @@ use Rattle.std.specs.Prelude.{◌<◌, ◌≤◌, nat_lt, Option, Ok, Err, IfOk,
 use Rattle.std.specs.List.{list_any}
 use Rattle.std.specs.Str.{bytes_eq}
 use Rattle.std.specs.Option.{unwrap_or}
-use Rattle.std.proofs.lemmas.Bool.{and_from, and_parts, le-leb, leb-true, lt-ltb}
+use Rattle.std.proofs.lemmas.Bool.{and_parts, le-leb, leb-true, lt-ltb}
 use Rattle.as4_disk.specs.declared.change.Pick.{Pick}
 use Rattle.mode_values.specs.declared.mode.Mode.{Mode}
 use Rattle.drill_world.specs.Events.{Asked, Doing, Sets, Does, Stops, Reopens, Folds, Says, site_of}
 use Rattle.drill_world.specs.Endpoints.{EndpointState, FoldsTo, IsStoppedAt, MatchFold, Meets}
 use Rattle.drill_world.specs.States.{IsAtEnd, Performs, endpoint_at, world_with}
-use Rattle.drill_world.specs.Transcript.{Acts, IsActOf, IsFoldAt, IsStopped, Makes, Plays, DrillState, doing_of, is_full_for, is_placed, is_right, is_too_many, stands}
+use Rattle.drill_world.specs.Transcript.{Acts, IsActOf, IsFoldAt, IsStopped, Makes, Plays, DrillState, doing_of, is_full_for, is_in_order, is_placed, is_right, is_too_many, may_be_named, stands}
 use Rattle.drill_world.specs.declared.refused.Refused.{Refused}
 use Rattle.drill_world.specs.declared.refused.Refused.TheVariants as refused
 use Rattle.drill_script.specs.LineText.{is_line, is_name, line_limit, line_text}
@@ -18,6 +18,8 @@ use Rattle.drill_script.specs.declared.line.EndName.{EndName}
 use Rattle.drill_script.specs.declared.line.EndName.TheVariants as name
 use Rattle.drill_script.specs.declared.line.Line.{Line}
 use Rattle.drill_script.specs.declared.line.Line.TheVariants as line
+use Rattle.drill_script.specs.Scripts.{is_pair_line}
+use Rattle.drill_script.specs.declared.line.LinkName.{LinkName}
 use Rattle.drill_script.specs.declared.line.Way.{Way}
 use Rattle.drill_texts.specs.Modes.{IsDrillMode}
 use Rattle.drill_texts.specs.Texts.{said_line}
@@ -42,11 +44,16 @@ pub left_put : (at : EndName) (left right new : EndpointState) (modes : List Mod
     → state_of new right modes events begun ≡ record state { world = world_with (site_of at) new.speaker state.world }
 left_put at left right new modes events begun state here seen = rw (here, ← seen) refl
 
-pub right_is : (at : EndName) (left right : EndpointState) (modes : List Mode) (events : ℕ) (begun : Bool) (state : DrillState) → at ≡ name.B
+-- each name but a is that of the right end
+pub right_site : (at : EndName) → (at ≡ name.A → ⊥) → site_of at ≡ Right
+right_site name.A other = absurd (other refl)
+right_site at other = refl
+
+pub right_is : (at : EndName) (left right : EndpointState) (modes : List Mode) (events : ℕ) (begun : Bool) (state : DrillState) → site_of at ≡ Right
     → state_of left right modes events begun ≡ state → right.modes ≡ modes → right ≡ endpoint_at (site_of at) state
 right_is at left right modes events begun state here seen shared = rw (here, ← seen) (λ i. record { speaker = right.speaker; modes = shared i })
 
-pub right_put : (at : EndName) (left right new : EndpointState) (modes : List Mode) (events : ℕ) (begun : Bool) (state : DrillState) → at ≡ name.B
+pub right_put : (at : EndName) (left right new : EndpointState) (modes : List Mode) (events : ℕ) (begun : Bool) (state : DrillState) → site_of at ≡ Right
     → state_of left right modes events begun ≡ state
     → state_of left new modes events begun ≡ record state { world = world_with (site_of at) new.speaker state.world }
 right_put at left right new modes events begun state here seen = rw (here, ← seen) refl
@@ -247,16 +254,36 @@ performs_from l old mid new result begun performs =
     begun_performs (doing_of old.world l) old new result
     (subst (λ (s : DrillState). Performs (doing_of s.world l) s result new) begun performs)
 
+-- a line of the grammar within the limit is right where it is in its place
+right_mode : (l : Line) (state : DrillState) (placed : Bool) → IsTrue (is_line l) → length (line_text l) ≤ line_limit → is_placed l state ≡ placed → is_right l state ≡ placed
+right_mode l state placed said short is =
+    let long : nat_le (length (line_text l)) line_limit ≡ true = le-leb (length (line_text l)) line_limit short in
+    rw (said, long, is) refl
+
+-- a line of a pair is in its place where it is in order
+pair_placed : (l : Line) (state : DrillState) (ordered : Bool) → is_pair_line l ≡ true → is_in_order l state.modes state.begun ≡ ordered → is_placed l state ≡ ordered
+pair_placed l state ordered pair is = rw (pair, is) refl
+
+-- and out of order elsewhere
+unordered : (l : Line) (state : DrillState) → is_pair_line l ≡ true → is_placed l state ≡ false → is_in_order l state.modes state.begun ≡ false
+unordered l state pair misplaced = subst (λ (b : Bool). (b && is_in_order l state.modes state.begun) ≡ false) pair misplaced
+
+-- a line of a pair that names no mode does something at an end
+pub at_end : (l : Line) → is_pair_line l ≡ true → ((name : List ℕ) (link : Option LinkName) (way : Way) (retries period : ℕ) → l ≡ line.Mode name link way retries period → ⊥) → IsAtEnd l
+unfolding is_pair_line
+at_end (line.Mode name link way retries period) pair other = other name link way retries period refl
+at_end (line.Relay end mode) pair other = absurd cc
+at_end l pair other = tt
+
 -- a line that does something at an end is played
 
-pub right_at_end : (l : Line) (state : DrillState) → IsAtEnd l → IsTrue (is_line l) → length (line_text l) ≤ line_limit → is_right l state ≡ true
-right_at_end l state at said short =
-    and_from (is_line l) (nat_le (length (line_text l)) line_limit && is_placed l state) said
-    (and_from (nat_le (length (line_text l)) line_limit) (is_placed l state) (le-leb (length (line_text l)) line_limit short) (placed l at))
-  where
-    placed : (k : Line) → IsAtEnd k → is_placed k state ≡ true
-    placed (line.Mode name way retries period) never = absurd never
-    placed k is = refl
+in_order : (l : Line) (modes : List Mode) (begun : Bool) → IsAtEnd l → is_in_order l modes begun ≡ true
+in_order (line.Mode name link way retries period) modes begun never = absurd never
+in_order l modes begun at = refl
+
+pub right_at_end : (l : Line) (state : DrillState) → IsAtEnd l → is_pair_line l ≡ true → IsTrue (is_line l) → length (line_text l) ≤ line_limit → is_right l state ≡ true
+right_at_end l state at pair said short =
+    right_mode l state true said short (pair_placed l state true pair (in_order l state.modes state.begun at))
 
 -- before the first event none is one too many
 not_full : (doing : Doing) (events : ℕ) → events ≡ 0 → is_full_for doing events ≡ false
@@ -291,6 +318,19 @@ pub record IsPlayed (l : Line) (old new : DrillState) (result : Result (List ℕ
   pub told : is_right l old ≡ false → result ≡ Err refused.Wrong
   pub full : is_right l old ≡ true → is_too_many l old ≡ true → result ≡ Err refused.TooMany
 
+-- a line of another script is refused
+pub wrong_script : (l : Line) (old new : DrillState) → is_pair_line l ≡ false → IsTrue (is_line l) → length (line_text l) ≤ line_limit → IsPlayed l old new (Err refused.Wrong)
+wrong_script l old new other said short =
+    let wrong : is_right l old ≡ false = right_mode l old false said short (ap (λ (b : Bool). b && is_in_order l old.modes old.begun) other) in
+    record {
+      right = tt;
+      plays = tt;
+      wrong = λ _. wrong;
+      too_many = λ never. absurd cc;
+      told = λ _. refl;
+      full = λ right _. absurd (cc (right, wrong));
+    }
+
 -- a line that names a mode
 
 -- what its words are
@@ -300,11 +340,11 @@ pub record IsModeLine (name : List ℕ) (retries period : ℕ) : Type 0 where
   pub some : 1 ≤ period
   pub timed : period ≤ 1000000000
 
-pub mode_line : (l : Line) (name : List ℕ) (way : Way) (retries period : ℕ) → l ≡ line.Mode name way retries period → IsTrue (is_line l)
+pub mode_line : (l : Line) (name : List ℕ) (link : Option LinkName) (way : Way) (retries period : ℕ) → l ≡ line.Mode name link way retries period → IsTrue (is_line l)
     → IsModeLine name retries period
 unfolding is_line
-mode_line l name way retries period is said =
-    let here : IsTrue (is_line (line.Mode name way retries period)) = subst (λ (k : Line). IsTrue (is_line k)) is said in
+mode_line l name link way retries period is said =
+    let here : IsTrue (is_line (line.Mode name link way retries period)) = subst (λ (k : Line). IsTrue (is_line k)) is said in
     let first = and_parts (is_name name) (nat_le retries 1000 && (nat_le 1 period && nat_le period 1000000000)) here in
     let second = and_parts (nat_le retries 1000) (nat_le 1 period && nat_le period 1000000000) first.1 in
     let third = and_parts (nat_le 1 period) (nat_le period 1000000000) second.1 in
@@ -316,18 +356,13 @@ mode_line l name way retries period is said =
     }
 
 -- a mode is added
-abbrev pub Adds : List ℕ → Way → ℕ → ℕ → DrillState → List ℕ → DrillState → Type 0
-Adds name way retries period old text new =
-    (text ≡ []) × ((mode : Mode) × IsDrillMode name way retries period mode × (new ≡ record old { modes = old.modes ++ mode ∷ [] }))
+abbrev pub Adds : Option LinkName → List ℕ → Way → ℕ → ℕ → DrillState → List ℕ → DrillState → Type 0
+Adds link name way retries period old text new =
+    (text ≡ []) × ((mode : Mode) × IsDrillMode link name way retries period mode × (new ≡ record old { modes = old.modes ++ mode ∷ [] }))
 
-no_event : (name : List ℕ) (way : Way) (retries period : ℕ) (state : DrillState) → is_too_many (line.Mode name way retries period) state ≡ false
+no_event : (name : List ℕ) (link : Option LinkName) (way : Way) (retries period : ℕ) (state : DrillState) → is_too_many (line.Mode name link way retries period) state ≡ false
 unfolding doing_of
-no_event name way retries period state = refl
-
-right_mode : (l : Line) (state : DrillState) (placed : Bool) → IsTrue (is_line l) → length (line_text l) ≤ line_limit → is_placed l state ≡ placed → is_right l state ≡ placed
-right_mode l state placed said short is =
-    let long : nat_le (length (line_text l)) line_limit ≡ true = le-leb (length (line_text l)) line_limit short in
-    rw (said, long, is) refl
+no_event name link way retries period state = refl
 
 -- a line of the grammar that isn't right isn't in its place
 misplaced : (l : Line) (state : DrillState) → IsTrue (is_line l) → length (line_text l) ≤ line_limit → is_right l state ≡ false → is_placed l state ≡ false
@@ -337,46 +372,53 @@ misplaced l state said short wrong = by_test (is_placed l state) refl
     by_test true is = let right = right_mode l state true said short is in absurd (cc (right, wrong))
     by_test false is = is
 
-added_played : (name : List ℕ) (way : Way) (retries period : ℕ) (old new : DrillState) (result : Result (List ℕ) Refused)
-    → IsTrue (is_line (line.Mode name way retries period)) → length (line_text (line.Mode name way retries period)) ≤ line_limit
-    → IfOk result (λ _. is_placed (line.Mode name way retries period) old ≡ true)
-    → IfOk result (λ text. Adds name way retries period old text new)
-    → (result ≡ Err refused.Wrong → is_placed (line.Mode name way retries period) old ≡ false)
-    → (is_placed (line.Mode name way retries period) old ≡ false → result ≡ Err refused.Wrong)
-    → result ≢ Err refused.TooMany → IsPlayed (line.Mode name way retries period) old new result
-added_played name way retries period old new (Ok text) said short placed adds wrong told few = record {
-  right = (right_mode (line.Mode name way retries period) old true said short placed, no_event name way retries period old);
-  plays = (adds.1.0, adds.1.1, adds.0, adds.1.2);
-  wrong = λ never. absurd cc;
-  too_many = λ never. absurd cc;
-  told = λ is. let never = right_mode (line.Mode name way retries period) old true said short placed in absurd (cc (is, never));
-  full = λ _ many. let never = no_event name way retries period old in absurd (cc (many, never));
-}
-added_played name way retries period old new (Err error) said short placed adds wrong told few = record {
-  right = tt;
-  plays = tt;
-  wrong = λ is. right_mode (line.Mode name way retries period) old false said short (wrong is);
-  too_many = λ many. absurd (few many);
-  told = λ is. told (misplaced (line.Mode name way retries period) old said short is);
-  full = λ _ many. let never = no_event name way retries period old in absurd (cc (many, never));
-}
+added_played : (link : Option LinkName) (name : List ℕ) (way : Way) (retries period : ℕ) (old new : DrillState) (result : Result (List ℕ) Refused)
+    → is_pair_line (line.Mode name link way retries period) ≡ true
+    → IsTrue (is_line (line.Mode name link way retries period)) → length (line_text (line.Mode name link way retries period)) ≤ line_limit
+    → IfOk result (λ _. may_be_named name old.modes old.begun ≡ true)
+    → IfOk result (λ text. Adds link name way retries period old text new)
+    → (result ≡ Err refused.Wrong → may_be_named name old.modes old.begun ≡ false)
+    → (may_be_named name old.modes old.begun ≡ false → result ≡ Err refused.Wrong)
+    → result ≢ Err refused.TooMany → IsPlayed (line.Mode name link way retries period) old new result
+added_played link name way retries period old new (Ok text) pair said short placed adds wrong told few =
+    let l : Line = line.Mode name link way retries period in
+    let right : is_right l old ≡ true = right_mode l old true said short (pair_placed l old true pair placed) in
+    record {
+      right = (right, no_event name link way retries period old);
+      plays = (adds.1.0, adds.1.1, adds.0, adds.1.2);
+      wrong = λ never. absurd cc;
+      too_many = λ never. absurd cc;
+      told = λ is. absurd (cc (is, right));
+      full = λ _ many. let never = no_event name link way retries period old in absurd (cc (many, never));
+    }
+added_played link name way retries period old new (Err error) pair said short placed adds wrong told few =
+    let l : Line = line.Mode name link way retries period in
+    record {
+      right = tt;
+      plays = tt;
+      wrong = λ is. right_mode l old false said short (pair_placed l old false pair (wrong is));
+      too_many = λ many. absurd (few many);
+      told = λ is. told (unordered l old pair (misplaced l old said short is));
+      full = λ _ many. let never = no_event name link way retries period old in absurd (cc (many, never));
+    }
 
 -- where a mode is in its place
-pub placed_here : (name : List ℕ) (way : Way) (retries period : ℕ) (state : DrillState) → state.begun ≡ false → length state.modes < 1024
-    → list_any (λ (mode : Mode). bytes_eq mode.name name) state.modes ≡ false → is_placed (line.Mode name way retries period) state ≡ true
-placed_here name way retries period state new few other =
-    let some : nat_lt (length state.modes) 1024 ≡ true = lt-ltb (length state.modes) 1024 few in
+pub placed_here : (name : List ℕ) (modes : List Mode) (begun : Bool) → begun ≡ false → length modes < 1024
+    → list_any (λ (mode : Mode). bytes_eq mode.name name) modes ≡ false → may_be_named name modes begun ≡ true
+placed_here name modes begun new few other =
+    let some : nat_lt (length modes) 1024 ≡ true = lt-ltb (length modes) 1024 few in
     rw (new, some, other) refl
 
-pub mode_played : (l : Line) (name : List ℕ) (way : Way) (retries period : ℕ) (old new : DrillState) (result : Result (List ℕ) Refused)
-    → l ≡ line.Mode name way retries period → IsTrue (is_line l) → length (line_text l) ≤ line_limit
-    → IfOk result (λ _. is_placed (line.Mode name way retries period) old ≡ true)
-    → IfOk result (λ text. Adds name way retries period old text new)
-    → (result ≡ Err refused.Wrong → is_placed (line.Mode name way retries period) old ≡ false)
-    → (is_placed (line.Mode name way retries period) old ≡ false → result ≡ Err refused.Wrong)
+pub mode_played : (l : Line) (link : Option LinkName) (name : List ℕ) (way : Way) (retries period : ℕ) (old new : DrillState) (result : Result (List ℕ) Refused)
+    → l ≡ line.Mode name link way retries period → is_pair_line l ≡ true → IsTrue (is_line l) → length (line_text l) ≤ line_limit
+    → IfOk result (λ _. may_be_named name old.modes old.begun ≡ true)
+    → IfOk result (λ text. Adds link name way retries period old text new)
+    → (result ≡ Err refused.Wrong → may_be_named name old.modes old.begun ≡ false)
+    → (may_be_named name old.modes old.begun ≡ false → result ≡ Err refused.Wrong)
     → result ≢ Err refused.TooMany → IsPlayed l old new result
-mode_played l name way retries period old new result is said short placed adds wrong told few =
+mode_played l link name way retries period old new result is pair said short placed adds wrong told few =
     subst (λ (k : Line). IsPlayed k old new result) (sym is)
-    (added_played name way retries period old new result
+    (added_played link name way retries period old new result
+    (subst (λ (k : Line). is_pair_line k ≡ true) is pair)
     (subst (λ (k : Line). IsTrue (is_line k)) is said) (subst (λ (k : Line). length (line_text k) ≤ line_limit) is short)
     placed adds wrong told few)

@@ -55,7 +55,7 @@ fold_leads site old new (inr least) = inl least.1
 -- a line leads nowhere or makes one thing happen
 line_leads : (l : Line) (doing : Doing) (old new : DrillState) (text : List ℕ) → Plays l doing old text new
     → (new.world ≡ old.world) ⊎ LeadsAtOnce old.world new.world
-line_leads (line.Mode name way retries period) doing old new text plays = inl (ap (λ (s : DrillState). s.world) plays.3)
+line_leads (line.Mode name link way retries period) doing old new text plays = inl (ap (λ (s : DrillState). s.world) plays.3)
 line_leads l (Does ask) old new text makes =
     inr (leads_at makes.act _ old.world new.world makes.is.at makes.is.may (ap (λ (s : DrillState). s.world) makes.leads))
 line_leads l (Stops call pick ask) old new text stops =

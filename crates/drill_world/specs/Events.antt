@@ -12,7 +12,7 @@ use Rattle.exchange_model.specs.declared.what.What.TheVariants as what
 
 abbrev pub site_of : EndName → Site
 site_of name.A = Left
-site_of name.B = Right
+site_of other = Right
 
 -- an event at the end's own moment, whose reply isn't lost
 abbrev pub asked : EndName → ℕ → What → Asked

@@ -2,5 +2,6 @@
 pub mod Disks
 pub mod Endpoints
 pub mod Events
+pub mod Relaying
 pub mod States
 pub mod Transcript

@@ -19,9 +19,10 @@ pub record IsSound (modes : List Mode) (left right : EndpointState) (events : �
   pub shared : begun ≡ true → (left.modes ≡ modes) × (right.modes ≡ modes)
   pub new : begun ≡ false → (left.speaker ≡ new_speaker) × (right.speaker ≡ new_speaker) × (events ≡ 0)
 
--- a line that does something at an end
+-- a line of a pair that does something at an end
 abbrev pub IsAtEnd : Line → Type 0
-IsAtEnd (line.Mode name way retries period) = ⊥
+IsAtEnd (line.Mode name link way retries period) = ⊥
+IsAtEnd (line.Relay end mode) = ⊥
 IsAtEnd other = Unit {0}
 
 -- what the end at a site is

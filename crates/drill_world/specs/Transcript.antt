@@ -10,6 +10,7 @@ use Rattle.as4_disk.specs.declared.change.Pick.TheVariants.{New}
 use Rattle.drill_world.specs.Endpoints.{MatchFold}
 use Rattle.drill_world.specs.Events.{Asked, Doing, Sets, Does, Stops, Reopens, Folds, Says, asked, comes, stopped, tells, package_for, id_at, site_of}
 use Rattle.drill_script.specs.LineText.{line_text, is_line, line_limit}
+use Rattle.drill_script.specs.Scripts.{is_pair_line}
 use Rattle.drill_script.specs.declared.line.EndName.{EndName}
 use Rattle.drill_script.specs.declared.line.EndName.TheVariants as name
 use Rattle.drill_script.specs.declared.line.Line.{Line}
@@ -39,16 +40,17 @@ running_of world (Submit end mode load) = Does (asked end 0 (what.Submit mode (S
 running_of world (Tick end moment) =
     Does (record { end = end; what = what.Tick; moment = Some moment; lost = false; number = 0 })
 running_of world (Take end) = Does (asked end 0 what.Take)
-running_of world (Came end number) = comes end false (package_for end number world)
+running_of world (Came end from number) = comes end false (package_for end number world)
 running_of world (Confirm end number) = Does (asked end number (what.Confirm number))
 
 -- what a line does
 unfoldable pub doing_of : World → Line → Doing
-doing_of world (line.Mode name way retries period) = Sets
+doing_of world (line.Mode name link way retries period) = Sets
 doing_of world (line.Run l) = running_of world l
 doing_of world (line.Ask end mode) = Does (asked end 0 (what.Ask mode))
 doing_of world (line.Pair end mode number) = Does (asked end number (what.AskWith mode number))
-doing_of world (line.Lost end number) = comes end true (package_for end number world)
+doing_of world (line.Relay end mode) = Sets
+doing_of world (line.Lost end from number) = comes end true (package_for end number world)
 doing_of world (line.Read end number) = Does (asked end number (what.Read number))
 doing_of world (line.Status end number) =
     tells end number (status_text number (codes "unknown")) (id_at end number world)
@@ -110,16 +112,23 @@ Acts (Says end words) old text new = (text ≡ said_line end words) × (new ≡ 
 
 -- what a line leads to, and what it writes
 abbrev pub Plays : Line → Doing → DrillState → List ℕ → DrillState → Type 0
-Plays (line.Mode name way retries period) doing old text new =
-    (mode : Mode) × IsDrillMode name way retries period mode × (text ≡ [])
+Plays (line.Mode name link way retries period) doing old text new =
+    (mode : Mode) × IsDrillMode link name way retries period mode × (text ≡ [])
     × (new ≡ record old { modes = old.modes ++ mode ∷ [] })
 Plays l doing old text new = Acts doing old text new
 
 -- modes come first, at most 1,024, each name once
+abbrev pub may_be_named : List ℕ → List Mode → Bool → Bool
+may_be_named name modes begun =
+    not begun && (nat_lt (length modes) 1024 && not (list_any (λ (mode : Mode). bytes_eq mode.name name) modes))
+
+abbrev pub is_in_order : Line → List Mode → Bool → Bool
+is_in_order (line.Mode name link way retries period) modes begun = may_be_named name modes begun
+is_in_order l modes begun = true
+
+-- it is a line of a pair, in its place
 abbrev pub is_placed : Line → DrillState → Bool
-is_placed (line.Mode name way retries period) state =
-    not state.begun && (nat_lt (length state.modes) 1024 && not (list_any (λ (mode : Mode). bytes_eq mode.name name) state.modes))
-is_placed l state = true
+is_placed l state = is_pair_line l && is_in_order l state.modes state.begun
 
 -- how many events a script may make
 abbrev pub events_limit : ℕ

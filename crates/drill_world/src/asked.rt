@@ -8,17 +8,17 @@ use exchange_model::What;
 /// What a line asks of an end: an event, the moment that it sets, whether the reply is lost, and the number that the line
 /// names.
 #[derive(Drop)]
-pub(crate) struct Asked {
-    pub(crate) end: EndName,
-    pub(crate) what: What,
-    pub(crate) moment: Option<u64>,
-    pub(crate) lost: bool,
-    pub(crate) number: u64,
+pub struct Asked {
+    pub end: EndName,
+    pub what: What,
+    pub moment: Option<u64>,
+    pub lost: bool,
+    pub number: u64,
 }
 
 impl Asked {
     /// An event at the end's own moment, whose reply isn't lost.
-    pub(crate) fn of(end: EndName, number: u64, what: What) -> Asked
+    pub fn of(end: EndName, number: u64, what: What) -> Asked
         ensures { result ≡ asked_at end number what }
     {
         Asked {

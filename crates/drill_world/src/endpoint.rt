@@ -4,6 +4,7 @@ ghost use Rattle.std.specs.List.{Contains};
 ghost use Rattle.as4_disk.specs.Memory.{picked};
 ghost use Rattle.drill_world.specs.Disks.{IsOf};
 ghost use Rattle.drill_world.specs.Endpoints.{CanAllCome, FoldsTo, IsStoppedAt, Meets};
+ghost use Rattle.drill_world.specs.Relaying.{RelaysAt, reply_of};
 ghost use Rattle.drill_world.specs.States.{IsCall};
 ghost use Rattle.drill_world.specs.Transcript.{stands};
 ghost use Rattle.drill_texts.specs.Texts.{end_line};
@@ -16,7 +17,8 @@ ghost use Rattle.exchange_model.specs.declared.what.What.TheVariants.{Came};
 use crate::disks::{disk_of, open_new, reopen, stopped_disk};
 use crate::handling::handle;
 use as4_disk::{MemoryDisk, Pick};
-use as4_values::{MAX_MOMENT, Message, MessageId, NoMemory, Octets};
+use as4_hub::{RelayEnd, relay};
+use as4_values::{MAX_MOMENT, Message, MessageId, NoMemory, Octets, Text};
 use drill_script::EndName;
 use drill_texts::{end_line, reply_line};
 use exchange_laws::what_is_sent_may_come;
@@ -29,14 +31,14 @@ use std::marker::Model;
 
 /// Where a line is stopped: the device call that is the last to act, and which image of the disk is opened then.
 #[derive(Clone, Copy, Debug, PartialEq, Eq)]
-pub(crate) struct StopAt {
-    pub(crate) call: u8,
-    pub(crate) pick: Pick,
+pub struct StopAt {
+    pub call: u8,
+    pub pick: Pick,
 }
 
 /// An end with its journal on a disk in memory, and the packages that it has sent, by number.
 #[derive(Drop)]
-pub(crate) struct Endpoint {
+pub struct Endpoint {
     office: Office<'static, MemoryDisk>,
     pass: Pass<'static, Call>,
     said: Vec<Message>,
@@ -55,7 +57,7 @@ impl Model for Endpoint {
 
 impl Endpoint {
     /// An end to which nothing happened yet.
-    pub(crate) fn new(alloc: Global, modes: Modes) -> Result<Endpoint, NoMemory>
+    pub fn new(alloc: Global, modes: Modes) -> Result<Endpoint, NoMemory>
         ensures { IfOk result (λ endpoint. endpoint ≡ record { speaker = new_speaker; modes = modes }) }
     {
         let (office, pass) = open_new(alloc, modes)?;
@@ -68,7 +70,7 @@ impl Endpoint {
 
     /// The end takes a step at an event, and the packages get what it replies, unless that is lost. It gives what is
     /// written of the reply at a line that names the number.
-    pub(crate) fn meet(
+    pub fn meet(
         &mut self,
         alloc: Global,
         end: EndName,
@@ -101,7 +103,7 @@ impl Endpoint {
     }
 
     /// The power of the end fails. Its disk, as it was last written, is opened again with these modes.
-    pub(crate) fn crash(self, alloc: Global, modes: Modes) -> Result<Endpoint, NoMemory>
+    pub fn crash(self, alloc: Global, modes: Modes) -> Result<Endpoint, NoMemory>
         requires { modes ≡ self.modes }
         ensures { IfOk result (λ endpoint. endpoint ≡ self) }
     {
@@ -119,7 +121,7 @@ impl Endpoint {
 
     /// The end takes a step at an event; the device call of this number acts and then fails, and all later ones fail. What
     /// it replies is lost, and the image of the pick is opened with these modes.
-    pub(crate) fn stop(
+    pub fn stop(
         self,
         alloc: Global,
         modes: Modes,
@@ -164,7 +166,7 @@ impl Endpoint {
     }
 
     /// The journal of the end is folded where that makes it shorter.
-    pub(crate) fn fold(&mut self) -> Result<(), NoMemory>
+    pub fn fold(&mut self) -> Result<(), NoMemory>
         ensures folds { OnOk result (FoldsTo self.old self.new) }
         ensures modes { self.new.modes ≡ self.old.modes }
     {
@@ -174,8 +176,30 @@ impl Endpoint {
         }
     }
 
+    /// The end relays the next message of its inbox by the mode of this name. Returns what is written of that.
+    pub fn relay(
+        &mut self,
+        alloc: Global,
+        end: EndName,
+        mode: &Text,
+        stamp: u64,
+        nonce: u128,
+    ) -> Result<Octets, NoMemory>
+        requires dated { stamp ≤ MAX_MOMENT }
+        ensures relays { IfOk result (λ text. RelaysAt end mode.now stamp nonce self.old text self.new) }
+        ensures modes { self.new.modes ≡ self.old.modes }
+    {
+        let ended = relay(alloc, &mut self.office, &mut self.pass, mode, stamp, nonce);
+        let Some(reply) = reply_of(ended) else {
+            return Err(NoMemory);
+        };
+        let text = reply_line(alloc, end, 0, false, 0, &reply);
+        drop(reply);
+        text
+    }
+
     /// The package of this number.
-    pub(crate) fn package(&self, number: u64) -> Option<&Message>
+    pub fn package(&self, number: u64) -> Option<&Message>
         ensures value { option_copied result ≡ slice_get self.now.speaker.said number }
         ensures comes { IfSome result (λ m. IsTrue (may_come (Came m.now))) }
         ensures sent { IfSome result (λ m. Contains self.now.speaker.said m.now) }
@@ -184,7 +208,7 @@ impl Endpoint {
     }
 
     /// The clock, in milliseconds since 1970-01-01T00:00:00Z.
-    pub(crate) fn moment(&self) -> u64
+    pub fn moment(&self) -> u64
         ensures value { result ≡ self.now.speaker.end.moment }
         ensures dated { result ≤ MAX_MOMENT }
     {
@@ -192,7 +216,7 @@ impl Endpoint {
     }
 
     /// The identifier of the submission of this number.
-    pub(crate) fn id(&self, number: u64) -> Option<&MessageId>
+    pub fn id(&self, number: u64) -> Option<&MessageId>
         ensures { option_copied result ≡ option_map (λ s. s.submission.header.id) (sent_at number self.now.speaker.end.sent) }
     {
         match self.office.core().submission(number) {
@@ -202,14 +226,14 @@ impl Endpoint {
     }
 
     /// How many packages it has sent.
-    pub(crate) fn said(&self) -> u64
+    pub fn said(&self) -> u64
         ensures { result ≡ length self.now.speaker.said }
     {
         self.said.as_slice().len() as u64
     }
 
     /// The numbers of the end.
-    pub(crate) fn end_line(&self, alloc: Global, name: EndName) -> Result<Octets, NoMemory>
+    pub fn end_line(&self, alloc: Global, name: EndName) -> Result<Octets, NoMemory>
         ensures { IfOk result (λ text. text ≡ end_line name self.now.speaker.end) }
     {
         end_line(alloc, name, self.office.totals())
@@ -230,5 +254,24 @@ fn keep(said: &mut Vec<Message>, lost: bool, reply: Reply)
         Reply::Request { message, .. } => said.push_reserved(message),
         Reply::Answer(message) => said.push_reserved(message),
         other => drop(other),
+    }
+}
+
+/// The reply that ended a relaying. A hub with nothing to relay replies that nothing is to be sent.
+fn reply_of(ended: RelayEnd) -> Option<Reply>
+    ensures { result ≡ reply_of ended }
+{
+    match ended {
+        RelayEnd::Relayed { number, id } => Some(Reply::Submitted { number, id }),
+        RelayEnd::Nothing => Some(Reply::Nothing),
+        RelayEnd::Gone => Some(Reply::Gone),
+        RelayEnd::NoMode => Some(Reply::NoMode),
+        RelayEnd::OutboxFull => Some(Reply::OutboxFull),
+        RelayEnd::TooLarge => Some(Reply::TooLarge),
+        RelayEnd::Full { size, need } => Some(Reply::Full { size, need }),
+        RelayEnd::DiskFault { .. }
+        | RelayEnd::Stopped { .. }
+        | RelayEnd::Worn
+        | RelayEnd::NoMemory => None,
     }
 }

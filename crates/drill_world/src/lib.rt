@@ -1,4 +1,4 @@
-//! Two ends of a drill: what each line of a script does.
+//! The ends of a drill, and a pair of them: what each line of a script of two ends does.
 #![tactic(auto)]
 
 mod asked;
@@ -11,7 +11,10 @@ mod playing;
 mod refused;
 mod state;
 
+pub use asked::Asked;
+pub use endpoint::{Endpoint, StopAt};
 pub use laws::{a_drill_delivers_once, a_script_has_one_transcript};
-pub use playing::{MAX_EVENTS, MAX_MODES};
+pub use naming::{name_mode, name_text, new_endpoint, own_modes};
+pub use playing::{MAX_EVENTS, MAX_MODES, submission};
 pub use refused::Refused;
 pub use state::DrillState;

@@ -4,8 +4,9 @@ ghost use Rattle.std.specs.Option.{unwrap_or};
 ghost use Rattle.mode_values.specs.declared.mode.Mode.{Mode as ModeValue};
 ghost use Rattle.drill_world.specs.Events.{Does, asked as asked_at, comes, id_at, package_for, site_of, tells};
 ghost use Rattle.drill_world.specs.States.{IsAtEnd, IsCall, Performs, until};
-ghost use Rattle.drill_world.specs.Transcript.{Plays, doing_of, events_limit, is_placed, is_right, is_too_many, running_of};
+ghost use Rattle.drill_world.specs.Transcript.{Plays, doing_of, events_limit, is_right, is_too_many, may_be_named, running_of};
 ghost use Rattle.drill_script.specs.LineText.{is_line, is_load, is_name, is_stoppable, line_limit, line_text};
+ghost use Rattle.drill_script.specs.Scripts.{is_pair_line};
 ghost use Rattle.drill_texts.specs.Loads.{loads_of};
 ghost use Rattle.drill_texts.specs.Modes.{IsDrillMode};
 ghost use Rattle.drill_texts.specs.Texts.{status_text};
@@ -15,11 +16,11 @@ ghost use Rattle.exchange_model.specs.declared.what.What.TheVariants as what;
 
 use crate::asked::Asked;
 use crate::endpoint::StopAt;
-use crate::naming::{add_mode, is_named, name_text};
+use crate::naming::{name_mode, name_text};
 use crate::refused::Refused;
 use crate::state::DrillState;
 use as4_values::{MAX_MOMENT, NoMemory, Octets, PlainData, Text};
-use drill_script::{EndName, Line, ScriptLoad, Stoppable, Way};
+use drill_script::{EndName, Line, LinkName, ScriptLoad, Stoppable, Way, is_pair_line};
 use drill_texts::{loads_of, no_package_line, unknown_line};
 use exchange_model::{Event, What};
 use std::alloc::Global;
@@ -50,13 +51,17 @@ impl DrillState {
         ensures full { is_right line.now self.old ≡ true → is_too_many line.now self.old ≡ true
             → result ≡ Err Refused.TooMany }
     {
+        if !is_pair_line(line) {
+            return Err(Refused::Wrong);
+        }
         match line {
             Line::Mode {
                 name,
+                link,
                 way,
                 retries,
                 period,
-            } => self.name_mode(name, *way, *retries, *period),
+            } => self.name_mode(*link, name, *way, *retries, *period),
             other => self.play_at_end(other),
         }
     }
@@ -64,6 +69,7 @@ impl DrillState {
     /// Both ends get a mode, where the script has only named modes so far.
     fn name_mode(
         &mut self,
+        link: Option<LinkName>,
         name: &Octets,
         way: Way,
         retries: u32,
@@ -73,17 +79,23 @@ impl DrillState {
         requires retries { retries ≤ 1000 }
         requires begun { 1 ≤ period }
         requires period { period ≤ 1000000000 }
-        ensures placed { IfOk result (λ _. is_placed (Line.Mode name.now way retries period) self.old ≡ true) }
-        ensures adds { IfOk result (λ text. (text ≡ []) × ((mode : ModeValue) × IsDrillMode name.now way retries period mode
+        ensures placed { IfOk result (λ _. may_be_named name.now self.old.modes self.old.begun ≡ true) }
+        ensures adds { IfOk result (λ text. (text ≡ []) × ((mode : ModeValue) × IsDrillMode link name.now way retries period mode
             × (self.new ≡ record self.old { modes = self.old.modes ++ mode ∷ [] }))) }
-        ensures wrong { result ≡ Err Refused.Wrong → is_placed (Line.Mode name.now way retries period) self.old ≡ false }
-        ensures told { is_placed (Line.Mode name.now way retries period) self.old ≡ false → result ≡ Err Refused.Wrong }
+        ensures wrong { result ≡ Err Refused.Wrong → may_be_named name.now self.old.modes self.old.begun ≡ false }
+        ensures told { may_be_named name.now self.old.modes self.old.begun ≡ false → result ≡ Err Refused.Wrong }
         ensures few { result ≢ Err Refused.TooMany }
     {
-        if self.begun || self.modes.len() >= MAX_MODES || is_named(self.modes.as_slice(), name) {
-            return Err(Refused::Wrong);
-        }
-        add_mode(self.alloc, &mut self.modes, name, way, retries, period)?;
+        name_mode(
+            self.alloc,
+            &mut self.modes,
+            self.begun,
+            link,
+            name,
+            way,
+            retries,
+            period,
+        )?;
         Ok(Octets::of(Vec::new(self.alloc)))
     }
 
@@ -111,7 +123,8 @@ impl DrillState {
             Line::Run(line) => self.run(line, None),
             Line::Ask { end, mode } => self.ask(*end, mode),
             Line::Pair { end, mode, number } => self.ask_with(*end, mode, *number),
-            Line::Lost { end, package } => self.receive(*end, *package, true, None),
+            Line::Relay { .. } => unreachable!(),
+            Line::Lost { end, package, .. } => self.receive(*end, *package, true, None),
             Line::Read { end, number } => {
                 self.make(Asked::of(*end, *number, What::Read { n: *number }), None)
             }
@@ -149,7 +162,7 @@ impl DrillState {
                 at,
             ),
             Stoppable::Take { end } => self.make(Asked::of(*end, 0, What::Take), at),
-            Stoppable::Came { end, package } => self.receive(*end, *package, false, at),
+            Stoppable::Came { end, package, .. } => self.receive(*end, *package, false, at),
             Stoppable::Confirm { end, number } => self.make(
                 Asked::of(*end, *number, What::Confirm { upto: *number }),
                 at,
@@ -315,9 +328,9 @@ impl DrillState {
     }
 }
 
-/// The event of a message that is handed in, in the conversation `c`.
+/// The event of a message that is submitted, in the conversation `c`.
 #[tactic(auto, using(crate::proofs::NameLemmas::c_is_plain))]
-fn submission(alloc: Global, mode: &Octets, load: &ScriptLoad) -> Result<What, NoMemory>
+pub fn submission(alloc: Global, mode: &Octets, load: &ScriptLoad) -> Result<What, NoMemory>
     requires named { IsTrue (is_name mode.now) }
     requires loaded { IsTrue (is_load load.now) }
     ensures { IfOk result (λ w. w ≡ what.Submit mode.now (Some (codes "c")) (loads_of load.now)) }

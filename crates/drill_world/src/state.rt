@@ -6,17 +6,16 @@ ghost use Rattle.drill_world.specs.Endpoints.{MatchFold};
 ghost use Rattle.drill_world.specs.Events.{id_at, package_for, site_of};
 ghost use Rattle.drill_world.specs.States.{IsCall, endpoint_at, world_with};
 ghost use Rattle.drill_world.specs.Transcript.{IsFoldAt, IsStopped, Makes, end_lines, events_limit, new_state};
-ghost use Rattle.drill_texts.specs.Modes.{AreDrillModes};
 ghost use Rattle.drill_texts.specs.Texts.{said_line};
 ghost use Rattle.exchange_model.specs.Coming.{may_come};
-ghost use Rattle.exchange_model.specs.World.{IsHeard, across, folded_at, new_speaker, speaker_at};
+ghost use Rattle.exchange_model.specs.World.{IsHeard, across, folded_at, speaker_at};
 ghost use Rattle.exchange_model.specs.declared.what.What.TheVariants.{Came};
 
 use crate::endpoint::{Endpoint, StopAt};
-use crate::naming::copies_of;
-use as4_values::{MAX_MOMENT, Message, MessageId, NoMemory, Octets, Seq};
+use crate::naming::{new_endpoint, own_modes};
+use as4_values::{MAX_MOMENT, Message, MessageId, NoMemory, Octets};
 use drill_script::EndName;
-use drill_texts::{folded_line, modes_of, reopened_line};
+use drill_texts::{folded_line, reopened_line};
 use exchange_model::Event;
 use mode_values::Mode;
 use pmodes::Modes;
@@ -130,7 +129,7 @@ impl DrillState {
         self.count();
         match end {
             EndName::A => self.left.meet(self.alloc, end, event, number, lost),
-            EndName::B => self.right.meet(self.alloc, end, event, number, lost),
+            _ => self.right.meet(self.alloc, end, event, number, lost),
         }
     }
 
@@ -199,7 +198,7 @@ impl DrillState {
     {
         match end {
             EndName::A => mem::replace(&mut self.left, endpoint),
-            EndName::B => mem::replace(&mut self.right, endpoint),
+            _ => mem::replace(&mut self.right, endpoint),
         }
     }
 
@@ -220,7 +219,7 @@ impl DrillState {
     {
         match end {
             EndName::A => self.left.fold(),
-            EndName::B => self.right.fold(),
+            _ => self.right.fold(),
         }
     }
 
@@ -230,7 +229,7 @@ impl DrillState {
     {
         match end {
             EndName::A => &self.left,
-            EndName::B => &self.right,
+            _ => &self.right,
         }
     }
 
@@ -277,27 +276,11 @@ impl DrillState {
     }
 }
 
-/// A copy of modes of a script.
-fn own_modes(alloc: Global, modes: &[Mode]) -> Result<Modes, NoMemory>
-    requires { AreDrillModes modes.now }
-    ensures { IfOk result (λ own. own ≡ modes.now) }
-{
-    modes_of(alloc, copies_of(alloc, modes)?)
-}
-
-/// An end to which nothing happened yet, with these modes.
-fn new_endpoint(alloc: Global, modes: &[Mode]) -> Result<Endpoint, NoMemory>
-    requires { AreDrillModes modes.now }
-    ensures { IfOk result (λ endpoint. endpoint ≡ record { speaker = new_speaker; modes = modes.now }) }
-{
-    Endpoint::new(alloc, own_modes(alloc, modes)?)
-}
-
 fn other_end(end: EndName) -> EndName
     ensures { site_of result ≡ across (site_of end) }
 {
     match end {
         EndName::A => EndName::B,
-        EndName::B => EndName::A,
+        _ => EndName::A,
     }
 }

@@ -20,4 +20,4 @@ mod version;
 pub use fault::{JournalFault, LeafRefusal};
 pub use frame::Frame;
 pub use journal::Journal;
-pub use leaf::{leaf_records, no_listed_leaf_is_broken};
+pub use leaf::{leaf_records, lend_records, no_listed_leaf_is_broken};

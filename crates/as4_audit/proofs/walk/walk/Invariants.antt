@@ -1,11 +1,12 @@
-use Rattle.std.specs.Vec.Iter.{into_iter_items}
-use Rattle.std.proofs.Common.{◌≡◌}
-use Rattle.as4_audit.proofs.WalkLemmas.{IsWalked}
+use Rattle.std.proofs.Common.{◌≡◌, take}
+use Rattle.as4_audit.proofs.ListLemmas.{bytes_of}
+use Rattle.as4_audit.proofs.WalkLemmas.{IsWalkedTo}
 use Rattle.as4_audit.proofs.walk.walk.Given as goal
 
 -- the records so far are right
-abbrev pub invariant-loop-item : goal.invariant-loop-item
-invariant-loop-item l = record {
+abbrev pub invariant-loop-body : goal.invariant-loop-body
+invariant-loop-body g l = record {
   same : l.core.modes ≡ l.modes;
-  walked : IsWalked l.modes l.start l.initial.core.end l.fn.records l.index (into_iter_items l.item-iterator) l.core.end l.events.items;
+  placed : l.index ≡ l.body-index;
+  walked : IsWalkedTo l.modes l.initial.core.end (bytes_of (take l.body-index l.bodies)) l.index l.stage l.start l.core.end (g.E.Collects.holds l.events);
 }

@@ -1,4 +1,4 @@
-use Rattle.std.proofs.Common.{[], ◌∷◌, arith}
+use Rattle.std.proofs.Common.{[], ◌∷◌, None, arith}
 use Rattle.drill_script.specs.declared.line.Line.TheVariants as line
 use Rattle.drill_script.specs.declared.line.Stoppable.TheVariants as run
 use Rattle.drill.proofs.GeneratedLemmas.{came_right, came_said, came_short, carried_twice, lost_right, lost_said, lost_short}
@@ -12,7 +12,7 @@ pub play_one-requires-clause-short : goal.play_one-requires-clause-short
 play_one-requires-clause-short c = came_short c.args.end c.args.place (omega arith)
 
 pub play_one-requires-clause-right : goal.play_one-requires-clause-right
-play_one-requires-clause-right c = came_right c.args.end c.args.place c.args.state.now (omega arith)
+play_one-requires-clause-right c = came_right c.args.end c.args.place c.args.state.now c.requires.pair (omega arith)
 
 pub play_one-requires-then-counter-eq4-clause-spelled : goal.play_one-requires-then-counter-eq4-clause-spelled
 play_one-requires-then-counter-eq4-clause-spelled c = lost_said c.args.end c.args.place (omega arith)
@@ -21,11 +21,11 @@ pub play_one-requires-then-counter-eq4-clause-short : goal.play_one-requires-the
 play_one-requires-then-counter-eq4-clause-short c = lost_short c.args.end c.args.place (omega arith)
 
 pub play_one-requires-then-counter-eq4-clause-right : goal.play_one-requires-then-counter-eq4-clause-right
-play_one-requires-then-counter-eq4-clause-right c = lost_right c.args.end c.args.place c.play_one.new.state (omega arith)
+play_one-requires-then-counter-eq4-clause-right c = lost_right c.args.end c.args.place c.play_one.new.state c.requires.pair (omega arith)
 
 pub play_one-requires-then-counter-eq4-clause-few : goal.play_one-requires-then-counter-eq4-clause-few
 play_one-requires-then-counter-eq4-clause-few c =
-    let more = leads_events (line.Run (run.Came c.args.end c.args.place) ∷ []) c.args.state.now c.play_one.new.state c.in_ok-play_one.ensures in
+    let more = leads_events (line.Run (run.Came c.args.end None c.args.place) ∷ []) c.args.state.now c.play_one.new.state c.in_ok-play_one.ensures in
     omega (arith, more)
 
 pub returns-then-counter-eq4 : goal.returns-then-counter-eq4

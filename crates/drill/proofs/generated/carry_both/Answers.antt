@@ -5,8 +5,8 @@ use Rattle.drill.proofs.GeneratedLemmas.{both_carried}
 use Rattle.drill.proofs.SpendLemmas.{carried_few, leads_events}
 use Rattle.drill.proofs.generated.carry_both.Goals as goal
 
-pub carry-requires-2 : goal.carry-requires-2
-carry-requires-2 c =
+pub carry-requires-2-clause-few : goal.carry-requires-2-clause-few
+carry-requires-2-clause-few c =
     let more = leads_events (carried c.args.counter name.B c.args.place) c.args.state.now c.carry.new.state c.in_ok-carry.ensures in
     omega (arith, more, carried_few c.args.counter name.B c.args.place)
 

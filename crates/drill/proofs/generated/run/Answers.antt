@@ -1,4 +1,4 @@
-use Rattle.std.proofs.Common.{◌∷◌, subst}
+use Rattle.std.proofs.Common.{◌∷◌, subst, None}
 use Rattle.drill.specs.Generated.{IsGenerated, Leads, Rounds, invoice, submissions, ticks_a}
 use Rattle.drill_world.specs.Transcript.{DrillState, new_state}
 use Rattle.drill_script.specs.declared.line.Line.TheVariants as line
@@ -9,8 +9,8 @@ use Rattle.drill.proofs.generated.run.Goals as goal
 pub returns : goal.returns
 unfolding IsGenerated
 returns c =
-    let begun : Leads (line.Mode invoice Push 10 3000 ∷ submissions c.args.seed c.args.seed c.args.count) new_state c.prepare.new.state =
-    subst (λ (s : DrillState). Leads (line.Mode invoice Push 10 3000 ∷ submissions c.args.seed c.args.seed c.args.count) s c.prepare.new.state)
+    let begun : Leads (line.Mode invoice None Push 10 3000 ∷ submissions c.args.seed c.args.seed c.args.count) new_state c.prepare.new.state =
+    subst (λ (s : DrillState). Leads (line.Mode invoice None Push 10 3000 ∷ submissions c.args.seed c.args.seed c.args.count) s c.prepare.new.state)
     c.requires.new c.in_ok-prepare.ensures.leads in
     on_ok c.run_on.result
     ((done : DrillState) × Rounds 11 0 0 c.prepare.new.state done × Leads (ticks_a 33000) done c.run_on.new.state)

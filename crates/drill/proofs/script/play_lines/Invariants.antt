@@ -8,8 +8,8 @@ abbrev pub invariant-lines : goal.invariant-lines
 invariant-lines g l = record {
   within : l.played ≤ lines_limit;
   so_far : (start : Flow)
-      → SoFar l.fn.state l.fn.reader 0 start (flow (g.S.Source.left l.fn.source) (g.K.Sink.taken l.fn.sink) (g.S.Source.faults l.fn.source) (g.K.Sink.faults l.fn.sink))
-      → SoFar l.state l.reader l.played start (flow (g.S.Source.left l.source) (g.K.Sink.taken l.sink) (g.S.Source.faults l.source) (g.K.Sink.faults l.sink));
+      → SoFar g.P.Play l.fn.state l.fn.reader 0 start (flow (g.S.Source.left l.fn.source) (g.K.Sink.taken l.fn.sink) (g.S.Source.faults l.fn.source) (g.K.Sink.faults l.fn.sink))
+      → SoFar g.P.Play l.state l.reader l.played start (flow (g.S.Source.left l.source) (g.K.Sink.taken l.sink) (g.S.Source.faults l.source) (g.K.Sink.faults l.sink));
   counted : (g.S.Source.faults l.fn.source ≤ g.S.Source.faults l.source) × (g.K.Sink.faults l.fn.sink ≤ g.K.Sink.faults l.sink);
 }
 

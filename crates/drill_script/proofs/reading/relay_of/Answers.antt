@@ -1,0 +1,12 @@
+use Rattle.drill_script.proofs.SpellLemmas.{relay_spells, relay_spelled}
+use Rattle.drill_script.proofs.reading.relay_of.Goals as goal
+
+pub returns-in_default-clause-only : goal.returns-in_default-clause-only
+returns-in_default-clause-only c line spells =
+    let s = relay_spelled c.args.tail.now line spells in
+    cc (c.in_ok-end.ensures.only s.0 s.1 s.2.named s.2.tail_is, c.in_default.is)
+
+pub returns-clause-found : goal.returns-clause-found
+returns-clause-found c =
+    let read = rw c.in-Some.is at c.in_ok-end.ensures.found in
+    relay_spells c.args.tail.now c.in-Some.end c.in-Some.mode read.0 read.1

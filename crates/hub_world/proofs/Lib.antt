@@ -1,0 +1,5 @@
+pub mod ChainLemmas
+pub mod OneTranscript
+pub mod ScriptLemmas
+pub mod StateLemmas
+pub mod TrioLemmas

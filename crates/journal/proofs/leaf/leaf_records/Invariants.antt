@@ -1,9 +1,0 @@
-use Rattle.std.proofs.Common.{length, ◌-◌}
-use Rattle.journal.proofs.LoopLemmas.{IsReadTo}
-use Rattle.journal.proofs.leaf.leaf_records.Given as goal
-
-abbrev pub invariant-records : goal.invariant-records
-invariant-records l = IsReadTo l.version l.bodies.items l.gate l.leaf
-
-abbrev pub decreases-records : goal.decreases-records
-decreases-records l = length l.leaf - l.gate
