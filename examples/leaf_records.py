@@ -1,6 +1,14 @@
 #!/usr/bin/env python3
-"""Lists the records of a journal's leaf: the place of each gate, and its body in hexadecimal."""
+"""Lists the records of a journal's leaf: the place of each gate, and its body in hexadecimal.
+
+    examples/leaf_records.py FILE
+
+FILE is JOURNAL, or JOURNAL.1 if the first byte of JOURNAL.s is odd.
+"""
 import sys
+
+if len(sys.argv) != 2:
+    sys.exit("usage: examples/leaf_records.py FILE")
 
 leaf = open(sys.argv[1], "rb").read()
 if len(leaf) <= 9:

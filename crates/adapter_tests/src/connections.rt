@@ -73,7 +73,7 @@ pub fn address<R: Machine>(rt: &R, door: &TcpDoor<R>) -> Option<String> {
 }
 
 /// Whether exactly these bytes come next, in any number of pieces.
-fn reads<S: Source>(source: &mut S, bytes: &[u8]) -> bool {
+pub fn reads<S: Source>(source: &mut S, bytes: &[u8]) -> bool {
     let mut room = [0; 1];
     for byte in bytes {
         if source.read(&mut room) != Got::Gave(1) || room[0] != *byte {

@@ -7,12 +7,15 @@ use as4_host::{FileGot, Host, HostRefusal, Link};
 use host_adapters::SystemHost;
 use std::alloc::Global;
 use std::fs;
+use std::net::{Ipv4Addr, SocketAddr};
 use std::test::Fail;
 use std::time::Duration;
 
 const FOLDER: &str = "adapter_tests_files";
 
 const FILE: &str = "adapter_tests_files/f";
+
+const BELOW_A_FILE: &str = "adapter_tests_files/f/below";
 
 const STORE: &str = "adapter_tests_store";
 
@@ -53,7 +56,7 @@ fn look<H: Host>(host: &mut H, path: &str, limit: u64, bytes: &[u8]) -> Read {
 }
 
 /// Which of these calls answer as told.
-fn files<H: Host>(host: &mut H) -> ([bool; 8], u64) {
+fn files<H: Host>(host: &mut H) -> ([bool; 9], u64) {
     let answers = [
         look(host, FILE, 9, b"") == Read::Missing,
         host.write_file(FILE, b"first").is_ok(),
@@ -62,6 +65,7 @@ fn files<H: Host>(host: &mut H) -> ([bool; 8], u64) {
         look(host, FILE, 6, b"second") == Read::These,
         look(host, FILE, 5, b"second") == Read::TooLong,
         look(host, FOLDER, 9, b"") == Read::Failed,
+        look(host, BELOW_A_FILE, 9, b"") == Read::Failed,
         host.write_file(FOLDER, b"x") == Err(HostRefusal::HostFailed),
     ];
     (answers, host.faults())
@@ -81,7 +85,7 @@ fn a_file_is_written_whole_and_read_within_its_limit(rt: HostRuntime) -> Result<
     drop(host);
     let entries = entries(&rt);
     fs::remove_dir_all(&rt, FOLDER)?;
-    assert_eq!(rt; (answers, entries), (([true; 8], 2), Some(1)));
+    assert_eq!(rt; (answers, entries), (([true; 9], 3), Some(1)));
     Ok(())
 }
 
@@ -141,6 +145,29 @@ fn doors<R: Machine>(host: &mut SystemHost<R>, alloc: Global) -> Option<(bool, b
     let after = opens(host, &address);
     drop(address);
     Some((beside, after))
+}
+
+/// Whether a door at loopback listens there alone.
+fn is_local<R: Machine>(host: &mut SystemHost<R>) -> bool {
+    match host.open_door("http://127.0.0.1:0/") {
+        Ok(door) => {
+            let is_so = match door.local_addr() {
+                Ok(address) => address == SocketAddr::from((Ipv4Addr::LOCALHOST, address.port())),
+                Err(_) => false,
+            };
+            host.settle_door("http://127.0.0.1:0/", door);
+            is_so
+        }
+        Err(_) => false,
+    }
+}
+
+#[test]
+fn a_door_at_loopback_listens_there_alone(rt: HostRuntime) {
+    let mut host = host(&rt);
+    let is_local = is_local(&mut host);
+    drop(host);
+    assert!(rt; is_local);
 }
 
 /// Whether a door can be opened at the address.

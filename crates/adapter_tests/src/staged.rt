@@ -1,7 +1,7 @@
 //! The system with a resolver and a clock that a test sets.
-use crate::connections::{Machine, NONE, address, answers, asks, door};
+use crate::connections::{Machine, NONE, address, answers, asks, door, reads};
 use as4_flow::{Got, Source, send_all};
-use as4_host::{Link, LinkRefusal};
+use as4_host::{Arrival, Door, Link, LinkRefusal};
 use host_adapters::{HostCounts, TcpDoor, TcpLink};
 use std::alloc::AllocError;
 use std::io::ErrorKind;
@@ -149,5 +149,52 @@ fn a_source_fails_when_its_time_is_spent(rt: HostRuntime) -> Result<(), Fail> {
     let one = HostCounts { reads: 1, ..NONE };
     let reads = [Got::Gave(1), Got::Gave(1), Got::Failed];
     assert_eq!(rt; late(&rt, &rt, door), Some((true, Some(reads), one)));
+    Ok(())
+}
+
+/// Answers with one byte, and then says nothing until the peer has closed the connection. Whether all went well.
+fn falls_silent<D: Door>(door: &mut D) -> bool {
+    match door.next() {
+        Arrival::Open(source, sink) => {
+            let (mut source, mut sink) = (source, sink);
+            let is_so = reads(&mut source, b"q")
+                && send_all(&mut sink, b"a").is_ok()
+                && source.read(&mut [0; 1]) == Got::End;
+            door.settle(source, sink);
+            is_so
+        }
+        Arrival::Closed | Arrival::Failed | Arrival::NoMemory => false,
+    }
+}
+
+/// A peer that falls silent while a source has a second left.
+fn silent<R: Machine>(
+    rt: &R,
+    threads: &impl Threads,
+    door: TcpDoor<R>,
+) -> Option<(bool, Option<[Got; 3]>, HostCounts)> {
+    let system = staging(rt, 59);
+    let mut door = door;
+    let address = address(rt, &door)?;
+    let mut link = TcpLink::of(rt.alloc(), &system);
+    let (answered, read) = thread::join(
+        threads,
+        || falls_silent(&mut door),
+        || three_reads(&mut link, &address),
+    );
+    let counts = link.counts();
+    drop(link);
+    drop(door);
+    drop(address);
+    drop(system);
+    Some((answered, read, counts))
+}
+
+#[test]
+fn a_silent_peer_is_a_fault_and_no_end(rt: HostRuntime) -> Result<(), Fail> {
+    let door = door(&rt).ok_or(AllocError)?;
+    let one = HostCounts { reads: 1, ..NONE };
+    let reads = [Got::Gave(1), Got::Failed, Got::Failed];
+    assert_eq!(rt; silent(&rt, &rt, door), Some((true, Some(reads), one)));
     Ok(())
 }

@@ -13,7 +13,7 @@ use std::{fs, io};
 
 /// The names of the files, their extensions, and the commands that read them. `NAME.txt` is the expected output for
 /// `NAME.EXTENSION`. The messages are in the form that other handlers write.
-const EXAMPLES: [(&str, &str, &str); 11] = [
+const EXAMPLES: [(&str, &str, &str); 12] = [
     ("both-ends-crash", "drill", "drill"),
     ("bundled-pulls", "drill", "drill"),
     ("clean-push", "drill", "drill"),
@@ -22,6 +22,7 @@ const EXAMPLES: [(&str, &str, &str); 11] = [
     ("power-cuts", "drill", "drill"),
     ("pulls", "drill", "drill"),
     ("retries-until-spent", "drill", "drill"),
+    ("through-a-hub", "drill", "drill --hub"),
     ("as-domibus-writes", "as4", "check"),
     ("as-holodeck-writes", "as4", "check"),
     ("as-phase4-writes", "as4", "check"),
@@ -57,8 +58,7 @@ fn writes<R: AllocGlobal>(
     file: Vec<u8>,
     text: &[u8],
 ) -> Result<bool, AllocError> {
-    let word = Octets::of(Vec::from_slice(rt.alloc(), command.as_bytes())?);
-    let words = Seq::of(vec![in rt.alloc(); word]?);
+    let words = words_of(rt.alloc(), command)?;
     let mut input = MemorySource::of(file, Vec::new(rt.alloc()), Vec::new(rt.alloc()));
     let mut output = MemorySink::of(rt.alloc(), Vec::new(rt.alloc()), Vec::new(rt.alloc()));
     let mut errors = MemorySink::of(rt.alloc(), Vec::new(rt.alloc()), Vec::new(rt.alloc()));
@@ -72,6 +72,15 @@ fn writes<R: AllocGlobal>(
         &mut host,
     );
     Ok(status == 0 && output.bytes() == text && errors.bytes().is_empty())
+}
+
+// The words of a command.
+fn words_of(alloc: Global, command: &str) -> Result<Seq<Octets>, AllocError> {
+    let mut words = Vec::new(alloc);
+    for word in command.split(' ') {
+        words.push(Octets::of(Vec::from_slice(alloc, word.as_bytes())?))?;
+    }
+    Ok(Seq::of(words))
 }
 
 // A host with nothing in it: no example asks it for anything.

@@ -5,7 +5,7 @@
 //!     share   gives a second door on the same entrance
 ghost use Rattle.std.specs.Prelude.{◌≡◌, ◌≢◌, ℕ, Option, List, [], ◌≤◌, IfOk};
 ghost use Rattle.as4_flow.specs.Flow.{Told, flow};
-ghost use Rattle.as4_host.specs.Lists.{Opens, none_of};
+ghost use Rattle.as4_host.specs.Lists.{Opens, and_one, none_of};
 ghost use Rattle.as4_host.specs.Counts.{raised};
 
 use as4_flow::{Sink, Source};
@@ -34,6 +34,9 @@ pub trait Door {
     /// Its guests: the bytes that each of its next sources will give, where the door is observable.
     ghost guests: { Self → Option (List (List ℕ)) };
 
+    /// The bytes that each settled sink took, where the door is observable.
+    ghost answered: { Self → Option (List (List ℕ)) };
+
     /// How many calls of `next` failed, up to the last value of a `u64`.
     ghost faults: { Self → ℕ };
 
@@ -51,10 +54,12 @@ pub trait Door {
         ensures refused { OnRefused result (guests self.new ≡ guests self.old) }
         ensures closed { OnClosed result (Told (guests self.old) (λ all. all ≡ [])) }
         ensures cause { HasDoorCause (faults self.old) (faults self.new) result }
-        ensures others { (reads self.new ≡ reads self.old) × (writes self.new ≡ writes self.old) };
+        ensures others { (reads self.new ≡ reads self.old) × (writes self.new ≡ writes self.old)
+            × (answered self.new ≡ answered self.old) };
 
     /// Takes a pair back. It takes no memory.
     fn settle(&mut self, source: Self::In, sink: Self::Out)
+        ensures answered { answered self.new ≡ and_one (answered self.old) (Self.Out.taken sink) }
         ensures reads { reads self.new ≡ raised (Self.In.faults source) (reads self.old) }
         ensures writes { writes self.new ≡ raised (Self.Out.faults sink) (writes self.old) }
         ensures counted { (reads self.old ≤ reads self.new) × (writes self.old ≤ writes self.new) }
@@ -65,5 +70,6 @@ pub trait Door {
     where
         Self: Sized,
         ensures guests { IfOk result (λ door. guests door ≡ none_of (guests self.now)) }
+        ensures answered { IfOk result (λ door. answered door ≡ none_of (answered self.now)) }
         ensures counts { IfOk result (λ door. (faults door ≡ 0) × (reads door ≡ 0) × (writes door ≡ 0)) };
 }

@@ -1,21 +1,23 @@
 //! A door in memory, which is observable.
-ghost use Rattle.std.specs.Prelude.{◌≡◌, [], Some, IfOk};
+ghost use Rattle.std.specs.Prelude.{◌≡◌, [], ◌∷◌, ◌++◌, reverse, Some, IfOk};
 ghost use Rattle.as4_flow.specs.Flow.{one_more};
 ghost use Rattle.as4_host.specs.InMemory.{new_door};
 
 use crate::counts::raised;
 use crate::stack::Stack;
-use crate::{Arrival, Door, StreamPlan};
-use as4_flow::{MemorySink, MemorySource};
-use as4_values::NoMemory;
+use crate::{Arrival, Door, KeptSink, StreamPlan};
+use as4_flow::MemorySource;
+use as4_values::{NoMemory, Octets};
 use std::alloc::Global;
 use std::marker::Model;
 
-/// Gives the guests of a list.
+/// Gives the guests of a list, and keeps the bytes that its settled sinks took.
 #[derive(Drop)]
 pub struct MemoryDoor {
     alloc: Global,
     guests: Stack,
+    // The last settled sink's on top.
+    answered: Stack,
     plan: StreamPlan,
     failing: Vec<u64>,
     calls: u64,
@@ -25,12 +27,14 @@ pub struct MemoryDoor {
 }
 
 impl Model for MemoryDoor {
+    ghost use Rattle.std.specs.Prelude.{reverse};
     ghost use Rattle.as4_host.specs.InMemory.{DoorState};
 
     ghost Value = { DoorState };
 
     ghost view = { λ d. record {
       guests = d.guests;
+      answered = reverse d.answered;
       failing = d.failing.items;
       calls = d.calls;
       faults = d.faults;
@@ -48,6 +52,7 @@ impl MemoryDoor {
         MemoryDoor {
             alloc,
             guests,
+            answered: Stack::new(),
             plan,
             failing,
             calls: 0,
@@ -68,9 +73,29 @@ impl MemoryDoor {
     pub fn into_guests(self) -> Stack
         ensures { result ≡ self.guests }
     {
+        let (guests, answered) = self.into_parts();
+        drop(answered);
+        guests
+    }
+
+    /// The bytes that its settled sinks took, the last one's on top.
+    pub fn into_answered(self) -> Stack
+        ensures { reverse result ≡ self.answered }
+    {
+        let (guests, answered) = self.into_parts();
+        drop(guests);
+        answered
+    }
+
+    // The guests that haven't come, and the bytes that its settled sinks took, the last one's on top.
+    fn into_parts(self) -> (Stack, Stack)
+        ensures guests { result.0 ≡ self.guests }
+        ensures answered { reverse result.1 ≡ self.answered }
+    {
         let MemoryDoor {
             alloc: _,
             guests,
+            answered,
             plan: _,
             failing: _,
             calls: _,
@@ -78,7 +103,7 @@ impl MemoryDoor {
             reads: _,
             writes: _,
         } = self;
-        guests
+        (guests, answered)
     }
 
     // Counts a call of `next`, and whether it fails.
@@ -93,9 +118,11 @@ impl MemoryDoor {
 impl Door for MemoryDoor {
     type In = MemorySource;
 
-    type Out = MemorySink;
+    type Out = KeptSink;
 
     ghost guests = { λ d. Some d.guests };
+
+    ghost answered = { λ d. Some d.answered };
 
     ghost faults = { λ d. d.faults };
 
@@ -103,28 +130,36 @@ impl Door for MemoryDoor {
 
     ghost writes = { λ d. d.writes };
 
-    fn next(&mut self) -> Arrival<MemorySource, MemorySink> {
-        let Ok(plan) = self.plan.try_copy(self.alloc) else {
-            return Arrival::NoMemory;
+    fn next(&mut self) -> Arrival<MemorySource, KeptSink> {
+        let (plan, room) = match (self.plan.try_copy(self.alloc), Stack::room(self.alloc)) {
+            (Ok(plan), Ok(room)) => (plan, room),
+            (plan, room) => {
+                drop(plan);
+                drop(room);
+                return Arrival::NoMemory;
+            }
         };
         if self.is_failing() {
             drop(plan);
+            drop(room);
             self.faults = self.faults.saturating_add(1);
             return Arrival::Failed;
         }
         let Some(guest) = self.guests.pop() else {
             drop(plan);
+            drop(room);
             return Arrival::Closed;
         };
         let (source, sink) = plan.pair(self.alloc, guest);
-        Arrival::Open(source, sink)
+        Arrival::Open(source, KeptSink { sink, room })
     }
 
-    fn settle(&mut self, source: MemorySource, sink: MemorySink) {
+    fn settle(&mut self, source: MemorySource, sink: KeptSink) {
+        let KeptSink { sink, room } = sink;
         self.reads = raised(source.faults(), self.reads);
         self.writes = raised(sink.faults(), self.writes);
         drop(source);
-        drop(sink);
+        self.answered.push(Octets::of(sink.into_bytes()), room);
     }
 
     fn share(&self) -> Result<MemoryDoor, NoMemory> {

@@ -5,28 +5,11 @@ ghost use Rattle.as4_host.specs.InMemory.{new_link};
 
 use crate::counts::raised;
 use crate::stack::Stack;
-use crate::{Link, LinkRefusal, StreamPlan};
-use as4_flow::{MemorySink, MemorySource, Put, Sink};
+use crate::{KeptSink, Link, LinkRefusal, StreamPlan};
+use as4_flow::MemorySource;
 use as4_values::{NoMemory, Octets, Seq};
 use std::alloc::Global;
 use std::marker::Model;
-
-/// A sink that a link in memory opened, with the room that its bytes need once it is settled.
-#[derive(Drop)]
-pub struct LinkSink {
-    sink: MemorySink,
-    room: Box<Stack>,
-}
-
-impl Sink for LinkSink {
-    ghost taken = { λ s. Some s.sink.bytes };
-
-    ghost faults = { λ s. s.sink.faults };
-
-    fn write(&mut self, piece: &[u8]) -> Put {
-        self.sink.write(piece)
-    }
-}
 
 /// Gives the answers of a list, and keeps the bytes that its settled sinks took.
 #[derive(Drop)]
@@ -167,7 +150,7 @@ impl MemoryLink {
 impl Link for MemoryLink {
     type In = MemorySource;
 
-    type Out = LinkSink;
+    type Out = KeptSink;
 
     ghost answers = { λ l. Some l.answers };
 
@@ -181,7 +164,7 @@ impl Link for MemoryLink {
 
     ghost writes = { λ l. l.writes };
 
-    fn open(&mut self, address: &str) -> Result<(MemorySource, LinkSink), LinkRefusal> {
+    fn open(&mut self, address: &str) -> Result<(MemorySource, KeptSink), LinkRefusal> {
         let Ok((plan, room)) = self.ask(address) else {
             return Err(LinkRefusal::NoMemory);
         };
@@ -196,11 +179,11 @@ impl Link for MemoryLink {
             None => Octets::of(Vec::new(self.alloc)),
         };
         let (source, sink) = plan.pair(self.alloc, answer);
-        Ok((source, LinkSink { sink, room }))
+        Ok((source, KeptSink { sink, room }))
     }
 
-    fn settle(&mut self, source: MemorySource, sink: LinkSink) {
-        let LinkSink { sink, room } = sink;
+    fn settle(&mut self, source: MemorySource, sink: KeptSink) {
+        let KeptSink { sink, room } = sink;
         self.reads = raised(source.faults(), self.reads);
         self.writes = raised(sink.faults(), self.writes);
         drop(source);

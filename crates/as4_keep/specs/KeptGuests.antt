@@ -7,7 +7,7 @@ use Rattle.as4_flow.specs.declared.clock.Clock.{Ghosts as ClockMeaning}
 use Rattle.as4_flow.specs.declared.nonces.Nonces.{Ghosts as NoncesMeaning}
 use Rattle.as4_flow.specs.Flow.{Flow, Told}
 use Rattle.as4_host.specs.Counts.{raised}
-use Rattle.as4_host.specs.Lists.{first_of, none_of, without_first}
+use Rattle.as4_host.specs.Lists.{and_one, first_of, none_of, without_first}
 use Rattle.as4_host.specs.declared.door.Door.{Ghosts as DoorMeaning}
 use Rattle.sessions.specs.declared.naming.Opening.{Ghosts as OpeningMeaning}
 use Rattle.workers.specs.Endings.{after_session}
@@ -40,6 +40,7 @@ module _ {D J W In Out C N : Type 0} (M : DiskMeaning D) (O : OpeningMeaning J) 
     pub tells : is_some finish.left ≡ is_some start.left
     pub keeps : Keeps M O T R kind limit (connection old start) (connection new finish) end
     pub guests : G.guests later ≡ without_first (G.guests door)
+    pub answered : G.answered later ≡ and_one (G.answered door) finish.taken
     pub faults : G.faults later ≡ G.faults door
     pub reads : G.reads later ≡ raised finish.reads (G.reads door)
     pub writes : G.writes later ≡ raised finish.writes (G.writes door)

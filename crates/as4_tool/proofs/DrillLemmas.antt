@@ -1,5 +1,5 @@
 -- The status at a drill's end, and its cause.
-use Rattle.std.proofs.Common.{◌≡◌, ◌≢◌, ◌≤◌, ℕ, List, Option, None, false, refl, arith}
+use Rattle.std.proofs.Common.{◌≡◌, ◌≢◌, ◌≤◌, ℕ, List, Option, None, refl, arith}
 use Rattle.as4_flow.specs.Flow.{Streams}
 use Rattle.drill.specs.Ends.{CountsAt}
 use Rattle.drill.specs.Generated.{GeneratedAt}
@@ -7,12 +7,14 @@ use Rattle.drill.specs.declared.script.DrillEnd.{DrillEnd}
 use Rattle.drill.specs.declared.script.DrillEnd.TheVariants as ends
 use Rattle.drill.specs.Ends.{Ends as DrillEnds}
 use Rattle.drill.specs.Generated.{GeneratedEnds}
-use Rattle.drill.specs.Playing.{pair_meaning}
+use Rattle.drill.specs.Playing.{chain_meaning, pair_meaning}
 use Rattle.as4_flow.specs.Flow.{between, flow}
 use Rattle.as4_tool.specs.Command.{drill, generate}
-use Rattle.as4_tool.specs.Ends.{TellsFaults}
-use Rattle.as4_tool.specs.Runs.{RunsOver}
+use Rattle.as4_tool.specs.Ends.{Ends, TellsFaults}
+use Rattle.as4_tool.specs.Runs.{ReadsFile, RunsOver, WritesLinewise}
 use Rattle.as4_tool.specs.Status.{code_of, status_of}
+use Rattle.as4_tool.specs.declared.command.DrillKind.{DrillKind}
+use Rattle.as4_tool.specs.declared.command.DrillKind.TheVariants as kind
 use Rattle.as4_tool.specs.declared.status.Status.TheVariants.{Done, ReadFault, WriteFault, TooLong, NotUser, BadWords}
 
 -- the status is never one of these
@@ -65,23 +67,34 @@ generated_silent seed count ends.ReadFault streams drilled done fault = absurd d
 generated_silent seed count ends.WriteFault streams drilled done fault = absurd (fault refl)
 generated_silent seed count ends.NoMemory streams drilled done fault = drilled
 
--- a run of a script
-pub played : (end : DrillEnd) (streams : Streams) → DrillEnds pair_meaning end streams
+-- a run of a script that isn't drawn
+played : (kind : DrillKind) (end : DrillEnd) (streams : Streams) → Ends (drill kind) (status_of end) streams
+    → (ReadsFile (drill kind) → ⊥) → WritesLinewise (drill kind) → CountsAt end streams
     → (streams.read_faults ≤ streams.later_read_faults) × (streams.write_faults ≤ streams.later_write_faults)
-    → RunsOver (drill false) (status_of end) streams
-played end streams drilled counted = record {
-  ends = (end, refl, drilled);
-  read_faults = reads end streams drilled.5;
-  write_faults = writes end streams drilled.5;
+    → RunsOver (drill kind) (status_of end) streams
+played kind end streams drilled reads_none linewise counts counted = record {
+  ends = drilled;
+  read_faults = reads end streams counts;
+  write_faults = writes end streams counts;
   streamed = record {
     too_long = λ is. absurd ((no_other end).0 is);
     not_user = λ is. absurd ((no_other end).1 is);
-    reads = λ never. absurd never;
-    silent = λ never done refused fault. absurd (never tt);
+    reads = λ file. absurd (reads_none file);
+    silent = λ never done refused fault. absurd (never linewise);
     right = (no_other end).2;
     counted = counted;
   };
 }
+
+pub pair_played : (end : DrillEnd) (streams : Streams) → DrillEnds pair_meaning end streams
+    → (streams.read_faults ≤ streams.later_read_faults) × (streams.write_faults ≤ streams.later_write_faults)
+    → RunsOver (drill kind.Pair) (status_of end) streams
+pair_played end streams drilled = played kind.Pair end streams (end, refl, drilled) (λ file. absurd file) tt drilled.5
+
+pub chain_played : (end : DrillEnd) (streams : Streams) → DrillEnds chain_meaning end streams
+    → (streams.read_faults ≤ streams.later_read_faults) × (streams.write_faults ≤ streams.later_write_faults)
+    → RunsOver (drill kind.Hub) (status_of end) streams
+chain_played end streams drilled = played kind.Hub end streams (end, refl, drilled) (λ file. absurd file) tt drilled.5
 
 -- a run of a generated script, whatever is left of the input
 pub generated : (seed count : ℕ) (end : DrillEnd) (left : Option (List ℕ)) (reads : ℕ) (taken later : Option (List ℕ)) (faults later_faults : ℕ)

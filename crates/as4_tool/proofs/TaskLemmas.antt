@@ -20,8 +20,10 @@ use Rattle.as4_tool.proofs.ClapLemmas.{alone, as4_is_simple, as4_is_simple_and_f
 use Rattle.as4_tool.specs.Words.{Names, as4}
 use Rattle.as4_tool.specs.declared.command.WordsRefusal.{WordsRefusal}
 use Rattle.as4_tool.specs.declared.command.WordsRefusal.TheVariants as refusal
-use Rattle.as4_tool.specs.Command.{Asks, Gives, IsFlag, IsKeep, IsTurns, IsWithin, IsWorkers, Spells, Task, answer, audit, check, collect, drill, generate, handler, help, lists, name_of, relay, submit, suite, task_of, verifies, version}
+use Rattle.as4_tool.specs.Command.{Asks, Gives, IsFlag, IsKeep, IsTurns, IsWithin, IsWorkers, Spells, Task, answer, audit, check, collect, drill, generate, handler, has_hub, help, is_drawn, lists, name_of, relay, submit, suite, task_of, verifies, version}
 use Rattle.as4_tool.specs.declared.command.Command.{Command}
+use Rattle.as4_tool.specs.declared.command.DrillKind.{DrillKind}
+use Rattle.as4_tool.specs.declared.command.DrillKind.TheVariants as script
 use Rattle.as4_tool.specs.declared.command.Suite.{Suite}
 use Rattle.as4_tool.specs.declared.command.Suite.TheVariants as what
 
@@ -46,10 +48,10 @@ only_check rows P one check named gives = one gives
 only_check rows P one other named gives = absurd (differ (name_of other) (codes "check") (λ same. omega (arith, same)) named)
 
 pub only_drill : (rows : List Row) (P : Task → Type 0)
-    → ((draws : Bool) → Gives rows (drill draws) → P (drill draws))
+    → ((script : DrillKind) → Gives rows (drill script) → P (drill script))
     → ((seed count : ℕ) → Gives rows (generate seed count) → P (generate seed count))
     → (task : Task) → name_of task ≡ codes "drill" → Gives rows task → P task
-only_drill rows P one two (drill draws) named gives = one draws gives
+only_drill rows P one two (drill script) named gives = one script gives
 only_drill rows P one two (generate seed count) named gives = two seed count gives
 only_drill rows P one two other named gives = absurd (differ (name_of other) (codes "drill") (λ same. omega (arith, same)) named)
 
@@ -254,6 +256,17 @@ flag_once rows name false false first second = refl
 flag_once rows name true false first second = cc (first, second)
 flag_once rows name false true first second = cc (first, second)
 
+kind_once : (one other : DrillKind) → is_drawn one ≡ is_drawn other → has_hub one ≡ has_hub other → one ≡ other
+kind_once script.Pair script.Pair drawn hub = refl
+kind_once script.Drawing script.Drawing drawn hub = refl
+kind_once script.Hub script.Hub drawn hub = refl
+kind_once script.Pair script.Drawing drawn hub = cc drawn
+kind_once script.Pair script.Hub drawn hub = cc hub
+kind_once script.Drawing script.Pair drawn hub = cc drawn
+kind_once script.Drawing script.Hub drawn hub = cc drawn
+kind_once script.Hub script.Pair drawn hub = cc hub
+kind_once script.Hub script.Drawing drawn hub = cc drawn
+
 suite_once : (one other : Suite) → verifies one ≡ verifies other → lists one ≡ lists other → one ≡ other
 suite_once what.Check what.Check verify list = refl
 suite_once what.Verify what.Verify verify list = refl
@@ -288,18 +301,20 @@ spells_once words check other first second =
     only_check first.0 (λ t. check ≡ t)
     (λ gives. refl)
     other same.0 (subst (λ (rows : List Row). Gives rows other) same.1 reads.2)
-spells_once words (drill draws) other first second =
+spells_once words (drill script) other first second =
     let reads = reads_of words other first.1.right second in
     let same = same_name words (codes "drill") (name_of other) first.0 reads.0 first.1 reads.1 in
-    only_drill first.0 (λ t. drill draws ≡ t)
-    (λ draws2 gives. ap drill (flag_once first.0 (codes "draw") draws draws2 first.2.1 gives.1))
+    only_drill first.0 (λ t. drill script ≡ t)
+    (λ script2 gives. ap drill (kind_once script script2
+    (flag_once first.0 (codes "draw") (is_drawn script) (is_drawn script2) first.2.1 gives.1)
+    (flag_once first.0 (codes "hub") (has_hub script) (has_hub script2) first.2.2 gives.2)))
     (λ seed2 count2 gives. cc (first.2.0, gives.0.0))
     other same.0 (subst (λ (rows : List Row). Gives rows other) same.1 reads.2)
 spells_once words (generate seed count) other first second =
     let reads = reads_of words other first.1.right second in
     let same = same_name words (codes "drill") (name_of other) first.0 reads.0 first.1 reads.1 in
     only_drill first.0 (λ t. generate seed count ≡ t)
-    (λ draws2 gives. cc (first.2.0.0, gives.0))
+    (λ script2 gives. cc (first.2.0.0, gives.0))
     (λ seed2 count2 gives.
     let both = two_once (all_of (codes "generate") first.0) (decimal seed) (decimal count) (decimal seed2) (decimal count2) first.2.0.0 gives.0.0 in
     let seeds : seed ≡ seed2 = decimal_once seed seed2 (omega (arith, first.2.1)) (omega (arith, gives.1)) both.0 in

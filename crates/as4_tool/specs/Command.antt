@@ -12,6 +12,8 @@ use Rattle.as4_http.specs.Written.{target}
 use Rattle.as4_tool.specs.Words.{Names, as4}
 use Rattle.as4_tool.specs.declared.command.Command.{Command}
 use Rattle.as4_tool.specs.declared.command.Command.TheVariants as command
+use Rattle.as4_tool.specs.declared.command.DrillKind.{DrillKind}
+use Rattle.as4_tool.specs.declared.command.DrillKind.TheVariants as kind
 use Rattle.as4_tool.specs.declared.command.Suite.{Suite}
 use Rattle.as4_tool.specs.declared.command.Suite.TheVariants as what
 
@@ -21,7 +23,7 @@ pub data Task : Type 0 where
   version : Task
   answer : ℕ → ℕ → Task
   check : Task
-  drill : Bool → Task
+  drill : DrillKind → Task
   generate : ℕ → ℕ → Task
   handler : List ℕ → List ℕ → List ℕ → List ℕ → ℕ → ℕ → ℕ → Task
   submit : List ℕ → List ℕ → List ℕ → List ℕ → Task
@@ -36,7 +38,7 @@ task_of command.Help = help
 task_of command.Version = version
 task_of (command.Answer stamp nonce) = answer stamp nonce
 task_of command.Check = check
-task_of (command.Drill draws) = drill draws
+task_of (command.Drill script) = drill script
 task_of (command.Generate seed count) = generate seed count
 task_of (command.Handler s) = handler s.modes.now s.journal.now s.peer.now s.local.now s.workers s.turns s.keep
 task_of (command.Submit s) = submit s.local.now s.mode.now s.conversation.now s.media.now
@@ -80,6 +82,15 @@ Has rows name text = first_of name rows ≡ Some text
 abbrev pub IsFlag : List Row → List ℕ → Bool → Type 0
 IsFlag rows name given = Has rows name (if given then codes "true" else codes "false")
 
+-- the flags of a drill of a script
+abbrev pub is_drawn : DrillKind → Bool
+is_drawn kind.Drawing = true
+is_drawn other = false
+
+abbrev pub has_hub : DrillKind → Bool
+has_hub kind.Hub = true
+has_hub other = false
+
 -- the flags of a suite
 abbrev pub verifies : Suite → Bool
 verifies what.Verify = true
@@ -96,9 +107,11 @@ Gives rows version = ⊥
 Gives rows (answer stamp nonce) =
     Has rows (codes "STAMP") (decimal stamp) × Has rows (codes "NONCE") (decimal nonce) × (stamp ≤ MAX_MOMENT) × (nonce < 2 ^ 128)
 Gives rows check = Unit {0}
-Gives rows (drill draws) = (all_of (codes "generate") rows ≡ None) × IsFlag rows (codes "draw") draws
+Gives rows (drill script) =
+    (all_of (codes "generate") rows ≡ None) × IsFlag rows (codes "draw") (is_drawn script) × IsFlag rows (codes "hub") (has_hub script)
 Gives rows (generate seed count) =
-    ((all_of (codes "generate") rows ≡ Some (decimal seed ∷ decimal count ∷ [])) × IsFlag rows (codes "draw") false)
+    ((all_of (codes "generate") rows ≡ Some (decimal seed ∷ decimal count ∷ [])) × IsFlag rows (codes "draw") false
+    × IsFlag rows (codes "hub") false)
     × (seed < 2 ^ 64) × (count ≤ 1000)
 Gives rows (handler modes journal peer local workers turns keep) =
     (Has rows (codes "MODES") modes × Has rows (codes "JOURNAL") journal)
@@ -131,7 +144,7 @@ name_of help = codes "--help"
 name_of version = codes "--version"
 name_of (answer stamp nonce) = codes "answer"
 name_of check = codes "check"
-name_of (drill draws) = codes "drill"
+name_of (drill script) = codes "drill"
 name_of (generate seed count) = codes "drill"
 name_of (handler modes journal peer local workers turns keep) = codes "handler"
 name_of (submit local mode conversation media) = codes "submit"

@@ -3,12 +3,13 @@ use Rattle.std.specs.Prelude.{◌≡◌, ◌≢◌, ℕ, ◌≤◌, ◌⊎◌, L
 use Rattle.as4_flow.specs.Flow.{Streams, Told, Rose, appended, TakesFront}
 use Rattle.drill.specs.Ends.{Ends as DrillEnds}
 use Rattle.drill.specs.Generated.{GeneratedEnds}
-use Rattle.drill.specs.Playing.{pair_meaning}
+use Rattle.drill.specs.Playing.{chain_meaning, pair_meaning}
 use Rattle.drill.specs.declared.script.DrillEnd.{DrillEnd}
 use Rattle.drill.specs.declared.script.DrillEnd.TheVariants as drill_end
 use Rattle.as4_tool.specs.Answer.{IsAnswer, IsFileLine}
 use Rattle.as4_tool.specs.Status.{IsOneOf, code_of, status_of}
 use Rattle.as4_tool.specs.Suites.{RunsSuite, output}
+use Rattle.as4_tool.specs.declared.command.DrillKind.TheVariants as kind
 use Rattle.as4_tool.specs.declared.texts.TheConstants.{HELP, VERSION}
 use Rattle.as4_tool.specs.declared.limit.TheConstants.{LIMIT}
 use Rattle.as4_tool.specs.Command.{Task, answer, check, drill, generate, help, suite, version}
@@ -78,8 +79,9 @@ Ends (answer stamp nonce) status streams =
     Answers stamp nonce status streams
     ⊎ IsOneOf (ReadFault ∷ NoMemory ∷ NotUser ∷ TooLong ∷ []) status
 Ends check status streams = Checks status streams ⊎ IsOneOf (ReadFault ∷ NoMemory ∷ TooLong ∷ []) status
-Ends (drill false) status streams = (end : DrillEnd) × (status ≡ status_of end) × DrillEnds pair_meaning end streams
-Ends (drill true) status streams =
+Ends (drill kind.Pair) status streams = (end : DrillEnd) × (status ≡ status_of end) × DrillEnds pair_meaning end streams
+Ends (drill kind.Hub) status streams = (end : DrillEnd) × (status ≡ status_of end) × DrillEnds chain_meaning end streams
+Ends (drill kind.Drawing) status streams =
     Draws status streams ⊎ DrawsNone status streams ⊎ IsOneOf (ReadFault ∷ NoMemory ∷ TooLong ∷ []) status
 Ends (generate seed count) status streams =
     (end : DrillEnd) × (status ≡ status_of end) × GeneratedEnds seed count end (no_input streams)

@@ -1,6 +1,8 @@
 -- What a run does to its input, its output and its host: its status, and the cause of each status.
 use Rattle.std.specs.Prelude.{◌≡◌, ◌≢◌, ℕ, ◌+◌, ◌≤◌, ◌<◌, ◌⊎◌, List, [], ◌∷◌, All, Bool, false, true, if◌then◌else◌, Option, length}
 use Rattle.as4_flow.specs.Flow.{LosesFront, Rose, Streams, Told, between, flow}
+use Rattle.as4_flow.specs.declared.clock.Clock.{Ghosts as ClockMeaning}
+use Rattle.as4_flow.specs.declared.nonces.Nonces.{Ghosts as NoncesMeaning}
 use Rattle.as4_flow.specs.declared.source.Source.{Ghosts as SourceMeaning}
 use Rattle.as4_flow.specs.declared.sink.Sink.{Ghosts as SinkMeaning}
 use Rattle.as4_disk.specs.declared.disk.Disk.{Ghosts as DiskMeaning}
@@ -27,6 +29,7 @@ use Rattle.as4_tool.specs.Answer.{IsSignalFile}
 use Rattle.as4_tool.specs.Command.{IsAlone, Spells, Task, answer, check, audit, collect, drill, generate, handler, help, relay, submit, suite, version}
 use Rattle.as4_tool.specs.Ends.{Ends, TellsFaults, WritesAs}
 use Rattle.as4_tool.specs.Status.{IsOneOf, code_of, status_of_audit, status_of_collection, status_of_relaying, status_of_submission}
+use Rattle.as4_tool.specs.declared.command.DrillKind.TheVariants as kind
 use Rattle.as4_tool.specs.declared.limit.TheConstants.{LIMIT}
 use Rattle.as4_tool.specs.declared.status.Status.{Status}
 use Rattle.as4_tool.specs.declared.status.Status.TheVariants.{BadWords, Done, HostFault, NoMemory, NotUser, ReadFault, Refused, TooLong, WriteFault}
@@ -45,13 +48,14 @@ wrote K left reads output later = between (flow left (K.taken output) reads (K.f
 abbrev pub ReadsFile : Task → Type 0
 ReadsFile (answer stamp nonce) = Unit {0}
 ReadsFile check = Unit {0}
-ReadsFile (drill true) = Unit {0}
+ReadsFile (drill kind.Drawing) = Unit {0}
 ReadsFile (submit local mode conversation media) = Unit {0}
 ReadsFile other = ⊥
 
 -- the tasks that write line by line
 abbrev pub WritesLinewise : Task → Type 0
-WritesLinewise (drill false) = Unit {0}
+WritesLinewise (drill kind.Pair) = Unit {0}
+WritesLinewise (drill kind.Hub) = Unit {0}
 WritesLinewise (collect local first count folder) = Unit {0}
 WritesLinewise (suite what) = Unit {0}
 WritesLinewise other = ⊥
@@ -140,10 +144,10 @@ module _ {H Store Door Dialer Time Dice DoorIn DoorOut DialerIn DialerOut : Type
     pub write_faults : TellsFaults WriteFault (code_of status) (S.faults before) (S.faults after)
     pub host_faults : TellsFaults HostFault (code_of status) (M.fault_count old) (M.fault_count new)
 
-  pub record RunsRelay (D : DiskMeaning Store) (modes journal mode : List ℕ) (count : ℕ) (status : Status) (old new : H) (before after : O) : Type 0 where
+  pub record RunsRelay (D : DiskMeaning Store) (T : ClockMeaning Time) (R : NoncesMeaning Dice) (modes journal mode : List ℕ) (count : ℕ) (status : Status) (old new : H) (before after : O) : Type 0 where
     pub end : RelayerEnd
     pub status_is : status ≡ status_of_relaying end
-    pub relays : (found : RelayerEnd) × RelaysBy M D modes journal mode count old new (S.taken before) (S.taken after) found
+    pub relays : (found : RelayerEnd) × RelaysBy M D T R modes journal mode count old new (S.taken before) (S.taken after) found
         × IsJudged found (M.fault_count old) (M.fault_count new) end
     pub touches : Touches M (modes ∷ files_of journal) journal old new
     pub store : LeavesStore M (AreModesOf (M.file old modes)) journal old new
@@ -163,7 +167,7 @@ LeavesInput other input later = Unit {0}
 
 module _ {I O : Type 0} (S : SourceMeaning I) (W : SinkMeaning O)
     {H Store Door Dialer Time Dice DoorIn DoorOut DialerIn DialerOut : Type 0} (M : HostMeaning H Store Door Dialer Time Dice DoorIn DoorOut DialerIn DialerOut)
-    {L In Out : Type 0} (K : LinkMeaning L In Out) (D : DiskMeaning Store) where
+    {L In Out : Type 0} (K : LinkMeaning L In Out) (D : DiskMeaning Store) (T : ClockMeaning Time) (R : NoncesMeaning Dice) where
   -- what a run of each task does
   abbrev pub Does : Task → Status → I → I → O → O → H → H → Type 0
   Does (submit local mode conversation media) status input later output after old new =
@@ -172,7 +176,7 @@ module _ {I O : Type 0} (S : SourceMeaning I) (W : SinkMeaning O)
       RunsCollect M K W local first count folder status old new output after
   Does (audit modes journal draws) status input later output after old new = RunsAudit M W modes journal draws status old new output after
   Does (relay modes journal mode count) status input later output after old new =
-      RunsRelay M W D modes journal mode count status old new output after
+      RunsRelay M W D T R modes journal mode count status old new output after
   Does (handler modes journal peer local workers turns keep) status input later output after old new =
       (status ≡ BadWords) × (after ≡ output) × (new ≡ old)
   Does task status input later output after old new = RunsOver task status (ran S W input later output after) × (new ≡ old)

@@ -75,10 +75,10 @@ module _ {H Store Door Dialer Time Dice DoorIn DoorOut DialerIn DialerOut : Type
         RunsHandler modes journal peer local workers turns keep status (X.taken errors) (X.taken told) old new
         × (X.faults errors ≤ X.faults told) × (later ≡ input) × (after ≡ output)
     RunsAny task status input later output after errors told old new =
-        Runs S W M K D task status input later output after old new × (told ≡ errors)
+        Runs S W M K D T R task status input later output after old new × (told ≡ errors)
 
     -- the words were read and their task was done; or they spell none, or there was no memory to read them
     abbrev pub ObeysAny : List (List ℕ) → Status → I → I → O → O → E → E → H → H → Type 0
     ObeysAny words status input later output after errors told old new =
         ((task : Task) × Spells words task × RunsAny task status input later output after errors told old new)
-        ⊎ (IsOneOf (NoMemory ∷ BadWords ∷ []) status × IsIdle S W M K D input later output after old new × (told ≡ errors))
+        ⊎ (IsOneOf (NoMemory ∷ BadWords ∷ []) status × IsIdle S W M K D T R input later output after old new × (told ≡ errors))

@@ -32,7 +32,7 @@ abbrev pub check_command : Shape
 check_command = command (codes "check") []
 
 abbrev pub drill_command : Shape
-drill_command = command (codes "drill") (option_of_two (codes "generate") ∷ flag (codes "draw") ∷ [])
+drill_command = command (codes "drill") (option_of_two (codes "generate") ∷ flag (codes "draw") ∷ flag (codes "hub") ∷ [])
 
 abbrev pub handler_command : Shape
 handler_command = command (codes "handler") (value (codes "MODES") ∷ value (codes "JOURNAL") ∷ value (codes "PEER")

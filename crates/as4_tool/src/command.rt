@@ -4,8 +4,8 @@
 //!     --version                                   shows the version
 //!     answer STAMP NONCE                          reads a request and writes the answer
 //!     check                                       reads a message and writes a line that says what it is
-//!     drill [--draw]                              runs a script of two endpoints, and writes a line for each reply, or
-//!                                                 a drawing
+//!     drill [--draw | --hub]                      runs a script of two endpoints, and writes a line for each reply, or
+//!                                                 a drawing; or runs a script of a chain
 //!     drill --generate SEED COUNT                 runs a generated script, and writes the totals of both endpoints
 //!     handler MODES JOURNAL PEER LOCAL            serves two addresses over a journal
 //!         [--workers N] [--turns T] [--keep L]
@@ -49,10 +49,7 @@ pub enum Command<'a> {
         nonce: u128,
     },
     Check,
-    Drill {
-        /// Whether the drill is drawn.
-        draws: bool,
-    },
+    Drill(DrillKind),
     Generate {
         /// Determines the sizes of the messages.
         seed: u64,
@@ -133,6 +130,17 @@ pub struct Relaying<'a> {
     pub mode: &'a str,
     /// The most messages to relay, at most 1,048,576.
     pub count: u64,
+}
+
+/// What is done with a script.
+#[derive(Clone, Copy, Debug, PartialEq, Eq)]
+pub enum DrillKind {
+    /// It is run on a pair of endpoints, and a line is written for each reply.
+    Pair,
+    /// The same, and what it leads to is drawn.
+    Drawing,
+    /// It is run on a chain of three endpoints, the second of which relays.
+    Hub,
 }
 
 /// What is done with the conformance suite.

@@ -1,9 +1,10 @@
 //! The command `drill --draw`.
-ghost use Rattle.std.specs.Prelude.{IfErr, IfOk, true};
+ghost use Rattle.std.specs.Prelude.{IfErr, IfOk};
 ghost use Rattle.as4_tool.specs.Command.{Task};
 ghost use Rattle.as4_tool.specs.Ends.{IsDrillOf, IsUndrawn};
 ghost use Rattle.as4_tool.specs.Runs.{RunsOver, ran};
 
+use crate::command::DrillKind;
 use crate::limit::LIMIT;
 use crate::status::Status;
 use crate::writing::write;
@@ -15,7 +16,7 @@ use std::alloc::Global;
 
 /// Runs the script from the input, and draws it.
 pub(crate) fn draw<I: Source, O: Sink>(alloc: Global, input: &mut I, output: &mut O) -> Status
-    ensures { RunsOver (Task.drill true) result (ran I.Source O.Sink input.old input.new output.old output.new) }
+    ensures { RunsOver (Task.drill DrillKind.Drawing) result (ran I.Source O.Sink input.old input.new output.old output.new) }
 {
     match read_all(alloc, input, LIMIT) {
         Ok(script) => match drawing_of(alloc, &script) {

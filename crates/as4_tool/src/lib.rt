@@ -25,8 +25,8 @@ mod values;
 mod writing;
 
 pub use command::{
-    Collection, Command, Journal, MAX_COUNT, Relaying, Service, Submission, Suite, WordsRefusal,
-    command_of, one_spelling, texts_of,
+    Collection, Command, DrillKind, Journal, MAX_COUNT, Relaying, Service, Submission, Suite,
+    WordsRefusal, command_of, one_spelling, texts_of,
 };
 pub use laws::{a_signal_has_no_answer, one_answer, one_line};
 pub use limit::LIMIT;

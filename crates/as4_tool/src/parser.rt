@@ -28,7 +28,7 @@ fn program<'a>(alloc: Global) -> Command<'a>
     ensures { IsApp (alone program) result }
 {
     Command::new(alloc, "as4")
-        .version("0.1.0")
+        .version("1.0.0")
         .no_binary_name(true)
         .subcommand_required(true)
         .disable_help_subcommand(true)
@@ -45,7 +45,8 @@ fn drill<'a>(alloc: Global) -> Result<Command<'a>, AllocError>
     ensures { IfOk result (IsApp (alone drill_command)) }
 {
     let drill = Command::new(alloc, "drill").arg(generate(alloc))?;
-    with_flag(alloc, drill, "draw")
+    let drill = with_flag(alloc, drill, "draw")?;
+    with_flag(alloc, drill, "hub")
 }
 
 fn generate<'a>(alloc: Global) -> Arg<'a>

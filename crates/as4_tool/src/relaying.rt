@@ -15,7 +15,7 @@ pub(crate) fn relay<O: Sink, H: Host>(
     output: &mut O,
     host: &mut H,
 ) -> Status
-    ensures { RunsRelay H.Host O.Sink H.Store.Disk by.entry.from.modes.now by.entry.from.journal.now by.entry.mode.now by.entry.count result
+    ensures { RunsRelay H.Host O.Sink H.Store.Disk H.Time.Clock H.Dice.Nonces by.entry.from.modes.now by.entry.from.journal.now by.entry.mode.now by.entry.count result
         host.old host.new output.old output.new }
 {
     let end = relay_journal(

@@ -3,7 +3,7 @@
 //!     --help, --version                       a text                                       0, 4
 //!     answer STAMP NONCE                      the answer to the input                      0, 3, 4, 5, 7, 11
 //!     check                                   the check line of the input                  0, 1, 3, 4, 5, 11
-//!     drill                                   the lines for the script's replies           0, 2, 3, 4, 5, 6
+//!     drill, drill --hub                      the lines for the script's replies           0, 2, 3, 4, 5, 6
 //!     drill --draw                            a drawing of the script's drill              0, 2, 3, 4, 5, 6, 11
 //!     drill --generate SEED COUNT             the totals of a generated script             0, 4, 5
 //!     submit LOCAL MODE CONVERSATION MEDIA    the handler's response to the input          0, 1, 3, 4, 5, 9, 11, 12
@@ -24,7 +24,6 @@ use crate::auditing::audit;
 use crate::checking::check;
 use crate::collecting::collect;
 use crate::command::{Command, WordsRefusal, command_of, texts_of};
-use crate::drawing::draw;
 use crate::drilling::{generate, play};
 use crate::relaying::relay;
 use crate::status::Status;
@@ -56,7 +55,7 @@ pub fn run_alone<I: Source, O: Sink, E: Sink, H: Host>(
     // The exit status is that of some end, the errors get the line of that end, and the run of the words has that end.
     ensures ends { (status : Status) × (result ≡ code_of status)
         × Tells (line_of status) (E.taken errors.old) (E.taken errors.new) (E.faults errors.old) (E.faults errors.new)
-        × Obeys I.Source O.Sink H.Host H.Dialer.Link H.Store.Disk words.now status input.old input.new output.old output.new host.old host.new }
+        × Obeys I.Source O.Sink H.Host H.Dialer.Link H.Store.Disk H.Time.Clock H.Dice.Nonces words.now status input.old input.new output.old output.new host.old host.new }
     ensures counted { E.faults errors.old ≤ E.faults errors.new }
 {
     let status = read_and_obey(alloc, words, input, output, host);
@@ -75,7 +74,7 @@ fn read_and_obey<I: Source, O: Sink, H: Host>(
     ensures bad_words { code_of result ≡ code_of Status.BadWords → ¬ SpellAlone words.now }
     ensures command { code_of result ≢ code_of Status.BadWords → SpellAlone words.now ⊎ (code_of result ≡ code_of Status.NoMemory) }
     ensures shows { AsksForText words.now → code_of result ≢ code_of Status.NoMemory }
-    ensures obeys { Obeys I.Source O.Sink H.Host H.Dialer.Link H.Store.Disk words.now result input.old input.new output.old output.new host.old host.new }
+    ensures obeys { Obeys I.Source O.Sink H.Host H.Dialer.Link H.Store.Disk H.Time.Clock H.Dice.Nonces words.now result input.old input.new output.old output.new host.old host.new }
 {
     if let Some(command) = text_asked(words) {
         return obey(alloc, command, input, output, host);
@@ -127,7 +126,7 @@ pub(crate) fn obey<I: Source, O: Sink, H: Host>(
     host: &mut H,
 ) -> Status
     requires { IsWithin (task_of command) }
-    ensures runs { Runs I.Source O.Sink H.Host H.Dialer.Link H.Store.Disk (task_of command.entry) result input.old input.new output.old output.new host.old host.new }
+    ensures runs { Runs I.Source O.Sink H.Host H.Dialer.Link H.Store.Disk H.Time.Clock H.Dice.Nonces (task_of command.entry) result input.old input.new output.old output.new host.old host.new }
     ensures alone { code_of result ≡ code_of Status.BadWords → ¬ IsAlone (task_of command.entry) }
     ensures right { code_of result ≢ code_of Status.BadWords → IsAlone (task_of command.entry) }
 {
@@ -136,8 +135,7 @@ pub(crate) fn obey<I: Source, O: Sink, H: Host>(
         Command::Version => version(output),
         Command::Answer { stamp, nonce } => answer(alloc, stamp, nonce, input, output),
         Command::Check => check(alloc, input, output),
-        Command::Drill { draws: false } => play(alloc, input, output),
-        Command::Drill { draws: true } => draw(alloc, input, output),
+        Command::Drill(kind) => play(alloc, kind, input, output),
         Command::Generate { seed, count } => generate(alloc, seed, count, output),
         Command::Handler(_) => Status::BadWords,
         Command::Submit(to) => submit(alloc, to, input, output, host),

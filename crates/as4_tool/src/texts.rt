@@ -13,7 +13,7 @@ usage:
   as4 relay MODES JOURNAL MODE COUNT        submits the documents that a journal has received onwards by MODE
   as4 answer STAMP NONCE                    reads a message file from the input, writes the answer to it
   as4 check                                 reads a message file from the input, writes a line that says what it is
-  as4 drill [--draw]                        runs the script in the input, writes what each line leads to
+  as4 drill [--draw | --hub]                runs the script in the input, writes what each line leads to
   as4 drill --generate SEED COUNT           runs a generated script, writes the numbers of both endpoints
   as4 suite [--verify | --list]             writes the conformance suite, or runs this program on it
   as4 --help, as4 COMMAND --help            writes this text
@@ -67,7 +67,7 @@ end by CR LF. A message file has at most 67174400 bytes. The line of check is on
   user ID                a user message of this identifier
   pull CHANNEL           a pull request for this channel
   receipt ID             a receipt of this message
-  errors COUNT           so many errors
+  errors COUNT           COUNT errors
   pair ID CHANNEL        a receipt of this message with a pull request for this channel
   refused EBMS:CODE ID   no message: by the error of this code, with the identifier if its header was read
 CHANNEL is written as the message has it. So a line may hold a line end of the channel's name.
@@ -95,11 +95,22 @@ z and 0 to 9; PACKAGE and NUMBER count from 0:
 A script has at most 1000000 lines of at most 1048576 bytes each, names at most 1024 modes and makes at most 100000
 events: each line but mode, crash and fold makes one, if the package or the submission that it names exists.
 
+With --hub the script is of a chain of three: f submits to the hub h, which relays to l. END is f, h or l. Its lines are
+those above but pair and fold, and these are different:
+  mode NAME LINK WAY RETRIES PERIOD
+                                  LINK is fh, whose WAY is push, or hl
+  relay h MODE                    the hub submits the next message of its inbox onwards
+  came END FROM PACKAGE, lost END FROM PACKAGE
+                                  what FROM sent under this number comes in, if it was sent to END
+submit is for f, ask for l, take and status for f and h, read and confirm for h and l. A submit or relay line whose mode
+has another link makes no event.
+
 exit statuses, each but 0 and 1 with one line on the errors, as it is here up to the colon:
    0  done
    1  check: the message is refused, as the output says; submit, collect: the handler refused the request; audit: no;
       suite --verify: a row differs
-   2  line N: this line of the script, the first being 1, isn't one of a script, or not in its place
+   2  line N: this line of the script, the first being 1, isn't one of a script, or not in its place; a script of a
+      chain needs --hub
    3  read fault: the input or a response can't be read to its end
    4  write fault: the output, or a request, has only a prefix of what was to be written
    5  no memory: what was to be done next needs more
@@ -112,10 +123,10 @@ exit statuses, each but 0 and 1 with one line on the errors, as it is here up to
   12  bad response: the handler's response is cut off, too long or none
   14  relay: the next document isn't relayed, for one of these reasons. no mode: no mode has that name; gone: it was
       confirmed before; outbox full: no number is left; too large: it can't be submitted; journal full
-  64  bad words: none of the usages above, or a number out of range
+  64  bad words: none of the usages above, or a number out of range; words after --help and --version are ignored
 If several apply, 3, 4, 5, 9 and 11 come first, in this order. On all but 0, 1 and 4 nothing is written to the output,
 except by a drill of a script that isn't drawn, by collect, by relay and by suite: they write the lines before.
 ";
 
 /// The output of `--version`.
-pub const VERSION: &[u8] = b"as4 0.1.0\n";
+pub const VERSION: &[u8] = b"as4 1.0.0\n";

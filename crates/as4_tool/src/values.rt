@@ -4,10 +4,10 @@ ghost use Rattle.std.specs.Fmt.{decimal};
 ghost use Rattle.clap.specs.Matches.{found_of};
 ghost use Rattle.clap.specs.Walk.{all_of, first_of, rows_of};
 ghost use Rattle.as4_values.specs.Payload.{is_media_text};
-ghost use Rattle.as4_tool.specs.Command.{Gives, IsCount, IsFlag, IsMode, IsKeep, IsService, IsWorkers, IsTurns, Task, name_of, task_of};
+ghost use Rattle.as4_tool.specs.Command.{Gives, IsCount, IsFlag, IsMode, IsKeep, IsService, IsWorkers, IsTurns, Task, is_drawn, has_hub, name_of, task_of};
 
 use crate::command::{
-    Collection, Command, Journal, MAX_COUNT, Relaying, Service, Submission, Suite,
+    Collection, Command, DrillKind, Journal, MAX_COUNT, Relaying, Service, Submission, Suite,
 };
 use crate::numbers::{number_within, wide_number};
 use crate::services::is_service;
@@ -43,21 +43,35 @@ pub(crate) fn answer_of<'a>(found: &ArgMatches<'a>) -> Option<Command<'a>>
 /// Reads the values of `drill`.
 pub(crate) fn drill_of<'a>(found: &ArgMatches<'a>) -> Option<Command<'a>>
     ensures found { IfSome result (λ c. (name_of (task_of c) ≡ codes "drill") × Gives (rows_of (found_of found.now)) (task_of c)) }
-    ensures script { (draws : Bool) → Gives (rows_of (found_of found.now)) (Task.drill draws)
-        → option_map task_of result ≡ Some (Task.drill draws) }
+    ensures script { (kind : DrillKind) → Gives (rows_of (found_of found.now)) (Task.drill kind)
+        → option_map task_of result ≡ Some (Task.drill kind) }
     ensures only { (seed count : ℕ) → Gives (rows_of (found_of found.now)) (Task.generate seed count)
         → option_map task_of result ≡ Some (Task.generate seed count) }
 {
-    let draws = flag_in(found, "draw")?;
+    let drawn = flag_in(found, "draw")?;
+    let hub = flag_in(found, "hub")?;
     match texts_in(found, "generate") {
-        None => Some(Command::Drill { draws }),
-        Some(_) if draws => None,
+        None => Some(Command::Drill(kind_of(drawn, hub)?)),
+        Some(_) if drawn || hub => None,
         Some(values) => {
             let (seed, count) = two_of(values)?;
             let seed = number_within(seed, u64::MAX)?;
             let count = number_within(count, MAX_COUNT)?;
             Some(Command::Generate { seed, count })
         }
+    }
+}
+
+// What is done with a script that has these flags.
+fn kind_of(drawn: bool, hub: bool) -> Option<DrillKind>
+    ensures found { IfSome result (λ k. (is_drawn k ≡ drawn) × (has_hub k ≡ hub)) }
+    ensures only { (kind : DrillKind) → is_drawn kind ≡ drawn → has_hub kind ≡ hub → result ≡ Some kind }
+{
+    match (drawn, hub) {
+        (false, false) => Some(DrillKind::Pair),
+        (true, false) => Some(DrillKind::Drawing),
+        (false, true) => Some(DrillKind::Hub),
+        (true, true) => None,
     }
 }
 

@@ -29,7 +29,7 @@ struct Row {
     counts: (u64, u64, u64),
 }
 
-const ROWS: [Row; 9] = [
+const ROWS: [Row; 10] = [
     Row {
         answers: &[Sample::Submitted],
         failing: NOTHING,
@@ -75,6 +75,15 @@ const ROWS: [Row; 9] = [
         failing: NOTHING,
         end: EndKind::BadResponse,
         text: b"",
+        sent: &[Sample::Submit],
+        counts: (0, 0, 0),
+    },
+    // The response came whole by the first read, so no second one is made.
+    Row {
+        answers: &[Sample::Submitted],
+        failing: Failing { read: 2, ..NOTHING },
+        end: EndKind::Accepted,
+        text: b"0 0.00000000-0000-0000-0000-000000000001@as4\n",
         sent: &[Sample::Submit],
         counts: (0, 0, 0),
     },

@@ -10,14 +10,14 @@ use Rattle.as4_host.specs.declared.host.HostRefusal.{HostRefusal}
 use Rattle.as4_host.specs.declared.host.HostRefusal.TheVariants as refusal
 use Rattle.as4_host.specs.declared.link.Link.{Ghosts as LinkMeaning}
 use Rattle.as4_http.specs.declared.message.Response.{Response}
-use Rattle.clients.specs.Exchanges.{Exchanges}
+use Rattle.link_exchange.specs.Exchanges.{Exchanges}
 use Rattle.clients.specs.Requests.{confirm_request, fetch_request}
 use Rattle.clients.specs.Runs.{Collects, CollectsOver, ConfirmsIf, KeepsIf, Run, Submits, Takes, TakesAll, run}
 use Rattle.clients.specs.declared.ending.CollectEnd.{CollectEnd}
 use Rattle.clients.specs.declared.ending.SubmitEnd.{SubmitEnd}
 use Rattle.clients.specs.declared.ending.Visit.{Visit}
-use Rattle.clients.specs.declared.exchange.Lost.{Lost}
-use Rattle.clients.specs.declared.exchange.Lost.TheVariants as lost
+use Rattle.link_exchange.specs.declared.exchanging.Lost.{Lost}
+use Rattle.link_exchange.specs.declared.exchanging.Lost.TheVariants as lost
 use Rattle.clients.proofs.SentLemmas.{and_one_told}
 
 -- only this address was asked for

@@ -16,7 +16,7 @@ use Rattle.as4_http.specs.declared.message.Response.{Response}
 use Rattle.as4_http.specs.declared.refusal.HttpRefusal.TheVariants as http
 use Rattle.clients.specs.Answered.{IsAnswerTo, IsLastAnswer}
 use Rattle.clients.specs.Endings.{collect_lost, submit_end, visit_by, visit_end}
-use Rattle.clients.specs.Exchanges.{Exchanges}
+use Rattle.link_exchange.specs.Exchanges.{Exchanges}
 use Rattle.clients.specs.Lines.{answer_of}
 use Rattle.clients.specs.Requests.{confirm_request, fetch_request}
 use Rattle.clients.specs.Runs.{Collects, CollectsOver, ConfirmsIf, FileCame, KeepsIf, Submits, Tells, run}
@@ -26,8 +26,8 @@ use Rattle.clients.specs.declared.ending.SubmitEnd.{SubmitEnd}
 use Rattle.clients.specs.declared.ending.SubmitEnd.TheVariants as submit
 use Rattle.clients.specs.declared.ending.Visit.{Visit}
 use Rattle.clients.specs.declared.ending.Visit.TheVariants as visit
-use Rattle.clients.specs.declared.exchange.Lost.{Lost}
-use Rattle.clients.specs.declared.exchange.Lost.TheVariants as lost
+use Rattle.link_exchange.specs.declared.exchanging.Lost.{Lost}
+use Rattle.link_exchange.specs.declared.exchanging.Lost.TheVariants as lost
 use Rattle.clients.proofs.KeptLemmas.{IsLater, exchange_later, response_came}
 use Rattle.clients.proofs.LineLemmas.{all_lines}
 

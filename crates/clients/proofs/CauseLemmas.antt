@@ -10,15 +10,15 @@ use Rattle.as4_http.specs.declared.message.Response.{Response}
 use Rattle.as4_http.specs.declared.refusal.HttpRefusal.TheVariants as http
 use Rattle.clients.specs.Causes.{collect_reads, collect_writes}
 use Rattle.clients.specs.Endings.{collect_lost, visit_by, visit_end}
-use Rattle.clients.specs.Exchanges.{Exchanges}
+use Rattle.link_exchange.specs.Exchanges.{Exchanges}
 use Rattle.clients.specs.Requests.{confirm_request, fetch_request}
 use Rattle.clients.specs.Runs.{CollectsOver, ConfirmsIf, FileCame, KeepsIf, Prints, Run, Takes, TakesAll, Tells, Visits}
 use Rattle.clients.specs.declared.ending.CollectEnd.{CollectEnd}
 use Rattle.clients.specs.declared.ending.CollectEnd.TheVariants as collect
 use Rattle.clients.specs.declared.ending.Visit.{Visit}
 use Rattle.clients.specs.declared.ending.Visit.TheVariants as visit
-use Rattle.clients.specs.declared.exchange.Lost.{Lost}
-use Rattle.clients.specs.declared.exchange.Lost.TheVariants as lost
+use Rattle.link_exchange.specs.declared.exchanging.Lost.{Lost}
+use Rattle.link_exchange.specs.declared.exchanging.Lost.TheVariants as lost
 use Rattle.clients.proofs.CountLemmas.{Counted, faults_counted, lost_faults, lost_reads, lost_writes, reads_counted, told_at, writes_counted}
 
 -- a count of the link that rises with some ends: it rises in an exchange without a response alone, and by the same reason

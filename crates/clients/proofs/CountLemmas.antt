@@ -6,9 +6,9 @@ use Rattle.as4_host.specs.declared.link.Link.{Ghosts as LinkMeaning}
 use Rattle.as4_http.specs.declared.message.Response.{Response}
 use Rattle.as4_http.specs.declared.refusal.HttpRefusal.TheVariants as http
 use Rattle.clients.specs.Causes.{RisesIf}
-use Rattle.clients.specs.Exchanges.{Exchanges}
-use Rattle.clients.specs.declared.exchange.Lost.{Lost}
-use Rattle.clients.specs.declared.exchange.Lost.TheVariants as lost
+use Rattle.link_exchange.specs.Exchanges.{Exchanges}
+use Rattle.link_exchange.specs.declared.exchanging.Lost.{Lost}
+use Rattle.link_exchange.specs.declared.exchanging.Lost.TheVariants as lost
 
 -- a count of a link, which is 0 unless something failed
 abbrev pub Counted : Bool → ℕ → Type 0

@@ -12,8 +12,8 @@ use Rattle.clients.specs.Runs.{Collects, Submits, run}
 use Rattle.clients.specs.declared.ending.CollectEnd.{CollectEnd}
 use Rattle.clients.specs.declared.ending.SubmitEnd.{SubmitEnd}
 use Rattle.clients.specs.declared.ending.SubmitEnd.TheVariants as submit
-use Rattle.clients.specs.declared.exchange.Lost.{Lost}
-use Rattle.clients.specs.declared.exchange.Lost.TheVariants as lost
+use Rattle.link_exchange.specs.declared.exchanging.Lost.{Lost}
+use Rattle.link_exchange.specs.declared.exchanging.Lost.TheVariants as lost
 use Rattle.clients.proofs.CauseLemmas.{collects_counted, link_faults, watches_faults, watches_reads, watches_writes}
 use Rattle.clients.proofs.CountLemmas.{Counted, faults_counted, lost_faults, lost_reads, lost_writes, reads_counted, settled_if, told_at, writes_counted}
 use Rattle.clients.proofs.HostLemmas.{LeavesBoth, collect_faults_are, collects_leave, either_if, file_fault}

@@ -16,8 +16,8 @@ use Rattle.clients.specs.declared.ending.CollectEnd.{CollectEnd}
 use Rattle.clients.specs.declared.ending.CollectEnd.TheVariants as collect
 use Rattle.clients.specs.declared.ending.Visit.{Visit}
 use Rattle.clients.specs.declared.ending.Visit.TheVariants as visit
-use Rattle.clients.specs.declared.exchange.Lost.{Lost}
-use Rattle.clients.specs.declared.exchange.Lost.TheVariants as lost
+use Rattle.link_exchange.specs.declared.exchanging.Lost.{Lost}
+use Rattle.link_exchange.specs.declared.exchanging.Lost.TheVariants as lost
 use Rattle.clients.proofs.CauseLemmas.{link_faults, result_at, status_quiet, visit_at}
 use Rattle.clients.proofs.CountLemmas.{Counted, settled_if}
 

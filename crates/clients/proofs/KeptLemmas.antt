@@ -12,15 +12,15 @@ use Rattle.as4_host.specs.declared.link.Link.{Ghosts as LinkMeaning}
 use Rattle.as4_http.specs.Responses.{BeginsResponse}
 use Rattle.as4_http.specs.declared.message.Response.{Response}
 use Rattle.clients.specs.Endings.{collect_lost}
-use Rattle.clients.specs.Exchanges.{Exchanges}
+use Rattle.link_exchange.specs.Exchanges.{Exchanges}
 use Rattle.clients.specs.Lines.{IsKept, skip}
 use Rattle.clients.specs.Requests.{confirm_request, fetch_request}
 use Rattle.clients.specs.Runs.{ConfirmsIf, FileCame, KeepsIf, Visits, file_of, file_path}
 use Rattle.clients.specs.declared.ending.CollectEnd.TheVariants as collect
 use Rattle.clients.specs.declared.ending.Visit.{Visit}
 use Rattle.clients.specs.declared.ending.Visit.TheVariants as visit
-use Rattle.clients.specs.declared.exchange.Lost.{Lost}
-use Rattle.clients.specs.declared.exchange.Lost.TheVariants as lost
+use Rattle.link_exchange.specs.declared.exchanging.Lost.{Lost}
+use Rattle.link_exchange.specs.declared.exchanging.Lost.TheVariants as lost
 
 -- a link whose answers are those of the beginning, after some of them
 abbrev pub IsLater : Option (List (List ℕ)) → Option (List (List ℕ)) → Type 0

@@ -5,7 +5,6 @@ mod CauseLemmas
 mod CountLemmas
 mod EndLemmas
 mod EscapeLemmas
-mod ExchangeLemmas
 mod HostLemmas
 mod KeptLemmas
 mod LineLemmas

@@ -12,7 +12,7 @@ use Rattle.as4_http.specs.declared.message.Response.{Response}
 use Rattle.as4_http.specs.declared.refusal.HttpRefusal.TheVariants as http
 use Rattle.clients.specs.Causes.{collect_writes, submit_writes}
 use Rattle.clients.specs.Endings.{collect_lost, submit_end}
-use Rattle.clients.specs.Exchanges.{Exchanges}
+use Rattle.link_exchange.specs.Exchanges.{Exchanges}
 use Rattle.clients.specs.Lines.{IsKept}
 use Rattle.clients.specs.Requests.{confirm_request, fetch_request}
 use Rattle.clients.specs.Runs.{Collects, CollectsOver, ConfirmsIf, FileCame, KeepsIf, Run, Submits, Takes, TakesAll, Tells, Writes, file_of, file_path, run}
@@ -22,8 +22,8 @@ use Rattle.clients.specs.declared.ending.CollectEnd.TheVariants as collect
 use Rattle.clients.specs.declared.ending.SubmitEnd.{SubmitEnd}
 use Rattle.clients.specs.declared.ending.Visit.{Visit}
 use Rattle.clients.specs.declared.ending.Visit.TheVariants as visit
-use Rattle.clients.specs.declared.exchange.Lost.{Lost}
-use Rattle.clients.specs.declared.exchange.Lost.TheVariants as lost
+use Rattle.link_exchange.specs.declared.exchanging.Lost.{Lost}
+use Rattle.link_exchange.specs.declared.exchanging.Lost.TheVariants as lost
 use Rattle.clients.proofs.CauseLemmas.{no_file_came, result_at, visit_at, visit_end_at, watches_writes}
 use Rattle.clients.proofs.CountLemmas.{lost_writes, told_at}
 use Rattle.clients.proofs.EndLemmas.{submit_told, writes_lost}

@@ -2,7 +2,6 @@
 pub mod Answered
 pub mod Causes
 pub mod Endings
-pub mod Exchanges
 pub mod Lines
 pub mod Requests
 pub mod Runs

@@ -13,14 +13,14 @@ use Rattle.as4_host.specs.declared.link.Link.{Ghosts as LinkMeaning}
 use Rattle.as4_http.specs.declared.message.Response.{Response}
 use Rattle.message_model.specs.Wire.{message_file}
 use Rattle.clients.specs.Endings.{collect_lost, submit_end, visit_by, visit_end}
-use Rattle.clients.specs.Exchanges.{Exchanges}
+use Rattle.link_exchange.specs.Exchanges.{Exchanges}
 use Rattle.clients.specs.Requests.{confirm_request, fetch_request}
 use Rattle.clients.specs.declared.ending.CollectEnd.{CollectEnd}
 use Rattle.clients.specs.declared.ending.CollectEnd.TheVariants as collect
 use Rattle.clients.specs.declared.ending.SubmitEnd.{SubmitEnd}
 use Rattle.clients.specs.declared.ending.Visit.{Visit}
 use Rattle.clients.specs.declared.ending.Visit.TheVariants as visit
-use Rattle.clients.specs.declared.exchange.Lost.{Lost}
+use Rattle.link_exchange.specs.declared.exchanging.Lost.{Lost}
 
 -- the path of the file of entry n
 abbrev pub file_path : List ℕ → ℕ → List ℕ

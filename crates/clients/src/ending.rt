@@ -2,9 +2,9 @@
 ghost use Rattle.std.specs.Prelude.{◌≡◌};
 ghost use Rattle.clients.specs.Endings.{collect_lost, submit_lost, visit_by};
 
-use crate::exchange::Lost;
 use as4_http::HttpRefusal;
 use as4_values::Octets;
+use link_exchange::Lost;
 
 /// How a submission ended.
 #[derive(Drop)]

@@ -6,11 +6,12 @@ ghost use Rattle.clients.specs.Endings.{visit_end};
 ghost use Rattle.clients.specs.Runs.{Confirms, Fetches, FileCame, GivesFile, Visits, Writes, file_path, media_or_none};
 
 use crate::ending::{CollectEnd, Visit, collect_lost, visit_by};
-use crate::exchange::{Lost, exchange_made};
+use crate::exchange::exchange_made;
 use crate::requests::{confirm_request, fetch_request};
 use as4_host::{Host, HostRefusal, Link};
 use as4_http::Response;
 use as4_values::{NoMemory, Octets};
+use link_exchange::Lost;
 use std::alloc::Global;
 
 /// Room for the field and the empty line of a message file, in bytes.

@@ -10,11 +10,12 @@ ghost use Rattle.clients.specs.Runs.{Submits};
 ghost use Rattle.clients.specs.Sent.{SendsOnce};
 
 use crate::ending::{SubmitEnd, submit_lost};
-use crate::exchange::{Lost, exchange_made};
+use crate::exchange::exchange_made;
 use crate::requests::submit_request;
 use as4_host::Host;
 use as4_http::Response;
 use as4_values::{NoMemory, Octets};
+use link_exchange::Lost;
 use std::alloc::Global;
 
 /// Submits a document to the service at an address, by a mode. An empty conversation is none, and an empty media text

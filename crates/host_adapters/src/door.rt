@@ -91,6 +91,8 @@ impl<R: Clock + Wait + Copy + Drop> Door for TcpDoor<R> {
 
     ghost guests = { λ _. None };
 
+    ghost answered = { λ _. None };
+
     ghost faults = { λ d. d.counts.faults };
 
     ghost reads = { λ d. d.counts.reads };

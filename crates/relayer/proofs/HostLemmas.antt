@@ -6,6 +6,8 @@ use Rattle.as4_disk.specs.declared.disk.Disk.{Ghosts as DiskMeaning}
 use Rattle.as4_disk.specs.declared.part.Part.{Part}
 use Rattle.as4_disk.specs.declared.part.Part.TheVariants.{Leaf1, Selector}
 use Rattle.as4_flow.specs.Flow.{Told}
+use Rattle.as4_flow.specs.declared.clock.Clock.{Ghosts as ClockMeaning}
+use Rattle.as4_flow.specs.declared.nonces.Nonces.{Ghosts as NoncesMeaning}
 use Rattle.as4_host.specs.Calls.{HasHostCause, asked}
 use Rattle.as4_host.specs.Files.{bytes_in}
 use Rattle.as4_host.specs.declared.host.Host.{Ghosts as HostMeaning}
@@ -43,10 +45,10 @@ refused_cause T Stored before after host.NoMemory end is same = subst (IsOpening
 
 module _ {H Store Door Dialer Time Dice DoorIn DoorOut DialerIn DialerOut : Type 0} (M : HostMeaning H Store Door Dialer Time Dice DoorIn DoorOut DialerIn DialerOut) (journal : List ℕ) where
   -- with a name that is read
-  pub with_name : (S : DiskMeaning Store) (mode name : List ℕ) (count : ℕ) (modes : List Mode) (old new : H) (taken later : Option (List ℕ)) (end : RelayerEnd) → Spells mode name
-      → LacksMemory old new taken later end ⊎ OpensAndRelays M S journal name count modes old new taken later end → RelaysWith M S journal mode count modes old new taken later end
-  with_name S mode name count modes old new taken later end spells (inl lacks) = inl lacks
-  with_name S mode name count modes old new taken later end spells (inr opens) = inr (inr (name, spells, opens))
+  pub with_name : (S : DiskMeaning Store) (T : ClockMeaning Time) (R : NoncesMeaning Dice) (mode name : List ℕ) (count : ℕ) (modes : List Mode) (old new : H) (taken later : Option (List ℕ)) (end : RelayerEnd) → Spells mode name
+      → LacksMemory old new taken later end ⊎ OpensAndRelays M S T R journal name count modes old new taken later end → RelaysWith M S T R journal mode count modes old new taken later end
+  with_name S T R mode name count modes old new taken later end spells (inl lacks) = inl lacks
+  with_name S T R mode name count modes old new taken later end spells (inr opens) = inr (inr (name, spells, opens))
 
   touches_then : (words : List (List ℕ)) (old middle new : H) → Touches M words journal old middle → Touches M words journal middle new → Touches M words journal old new
   touches_then words old middle new first last = record {
@@ -148,57 +150,58 @@ module _ {H Store Door Dialer Time Dice DoorIn DoorOut DialerIn DialerOut : Type
         subst (IsOpeningCause (Stores M journal old) (M.fault_count old) (M.fault_count new)) (sym is) tt
     unopened_cause old middle new disk later (fault.Full size need) end is may opens settles cause no_journal = absurd may
 
-    touches_relaying : (mode : List ℕ) (count : ℕ) (modes : List Mode) (old new : H) (taken later : Option (List ℕ)) (end : RelayerEnd)
-        → RelaysOn M S journal mode count modes old new taken later end → Touches M (files_of journal) journal old new
-    touches_relaying mode count modes old new taken later end on =
-        touches_then (files_of journal) old on.ready new
-        (touches_then (files_of journal) old on.opened on.ready (touches_opening old on.opened on.disk on.store) (touches_still (files_of journal) on.opened on.ready on.still))
-        (touches_settling on.ready new on.left on.settles)
+    module _ (T : ClockMeaning Time) (R : NoncesMeaning Dice) where
+      touches_relaying : (mode : List ℕ) (count : ℕ) (modes : List Mode) (old new : H) (taken later : Option (List ℕ)) (end : RelayerEnd)
+          → RelaysOn M S T R journal mode count modes old new taken later end → Touches M (files_of journal) journal old new
+      touches_relaying mode count modes old new taken later end on =
+          touches_then (files_of journal) old on.ready new
+          (touches_then (files_of journal) old on.opened on.ready (touches_opening old on.opened on.disk on.store) (touches_still (files_of journal) on.opened on.ready on.still))
+          (touches_settling on.ready new on.left on.settles)
 
-    touches_with : (mode : List ℕ) (count : ℕ) (modes : List Mode) (old new : H) (taken later : Option (List ℕ)) (end : RelayerEnd)
-        → RelaysWith M S journal mode count modes old new taken later end → Touches M (files_of journal) journal old new
-    touches_with mode count modes old new taken later end (inl (is, same, quiet)) = subst (Touches M (files_of journal) journal old) (sym same) (touches_none (files_of journal) old)
-    touches_with mode count modes old new taken later end (inr (inl (is, none, same, quiet))) = subst (Touches M (files_of journal) journal old) (sym same) (touches_none (files_of journal) old)
-    touches_with mode count modes old new taken later end (inr (inr (name, spells, inl (fails, quiet)))) = fails.touches
-    touches_with mode count modes old new taken later end (inr (inr (name, spells, inr on))) = touches_relaying name count modes old new taken later end on
+      touches_with : (mode : List ℕ) (count : ℕ) (modes : List Mode) (old new : H) (taken later : Option (List ℕ)) (end : RelayerEnd)
+          → RelaysWith M S T R journal mode count modes old new taken later end → Touches M (files_of journal) journal old new
+      touches_with mode count modes old new taken later end (inl (is, same, quiet)) = subst (Touches M (files_of journal) journal old) (sym same) (touches_none (files_of journal) old)
+      touches_with mode count modes old new taken later end (inr (inl (is, none, same, quiet))) = subst (Touches M (files_of journal) journal old) (sym same) (touches_none (files_of journal) old)
+      touches_with mode count modes old new taken later end (inr (inr (name, spells, inl (fails, quiet)))) = fails.touches
+      touches_with mode count modes old new taken later end (inr (inr (name, spells, inr on))) = touches_relaying name count modes old new taken later end on
 
-    among_all : (modes : List ℕ) (n : List ℕ) → Contains (files_of journal) n → Contains (modes ∷ files_of journal) n
-    among_all modes n (k, within, is) = (suc k, omega (arith, within), is)
+      among_all : (modes : List ℕ) (n : List ℕ) → Contains (files_of journal) n → Contains (modes ∷ files_of journal) n
+      among_all modes n (k, within, is) = (suc k, omega (arith, within), is)
 
-    touches_reads : (modes : List ℕ) (old new : H) → Reads M modes old new → Touches M (modes ∷ files_of journal) journal old new
-    touches_reads modes old new reads =
-        let words : List (List ℕ) = modes ∷ files_of journal in
-        let here : Contains words modes = (0, omega arith, refl) in record {
-          asks = asks_within M (modes ∷ []) words old new (λ n has. All-contains (Contains words) (modes ∷ []) n (All-cons (Contains words) modes [] here (All-nil (Contains words))) has) reads.asks;
-          counts = reads.counts;
-          files = λ p away. reads.files p;
-          guests = reads.guests;
-        }
+      touches_reads : (modes : List ℕ) (old new : H) → Reads M modes old new → Touches M (modes ∷ files_of journal) journal old new
+      touches_reads modes old new reads =
+          let words : List (List ℕ) = modes ∷ files_of journal in
+          let here : Contains words modes = (0, omega arith, refl) in record {
+            asks = asks_within M (modes ∷ []) words old new (λ n has. All-contains (Contains words) (modes ∷ []) n (All-cons (Contains words) modes [] here (All-nil (Contains words))) has) reads.asks;
+            counts = reads.counts;
+            files = λ p away. reads.files p;
+            guests = reads.guests;
+          }
 
-    pub touches_all : (modes mode : List ℕ) (count : ℕ) (old new : H) (taken later : Option (List ℕ)) (end : RelayerEnd)
-        → RelaysBy M S modes journal mode count old new taken later end → Touches M (modes ∷ files_of journal) journal old new
-    touches_all modes mode count old new taken later end (inl (ended, cause, reads, is, quiet)) = touches_reads modes old new reads
-    touches_all modes mode count old new taken later end (inr (list, read, are, reads, with)) =
-        touches_then (modes ∷ files_of journal) old read new (touches_reads modes old read reads)
-        (touches_within (files_of journal) (modes ∷ files_of journal) read new (among_all modes) (touches_with mode count list read new taken later end with))
+      pub touches_all : (modes mode : List ℕ) (count : ℕ) (old new : H) (taken later : Option (List ℕ)) (end : RelayerEnd)
+          → RelaysBy M S T R modes journal mode count old new taken later end → Touches M (modes ∷ files_of journal) journal old new
+      touches_all modes mode count old new taken later end (inl (ended, cause, reads, is, quiet)) = touches_reads modes old new reads
+      touches_all modes mode count old new taken later end (inr (list, read, are, reads, with)) =
+          touches_then (modes ∷ files_of journal) old read new (touches_reads modes old read reads)
+          (touches_within (files_of journal) (modes ∷ files_of journal) read new (among_all modes) (touches_with mode count list read new taken later end with))
 
-    -- what becomes of the store
-    leaves_with : ((d : Store) → Told (S.seen d) (S.may_leave d)) → (may_be : List Mode → Type 0) (mode : List ℕ) (count : ℕ) (modes : List Mode) (old new : H) (taken later : Option (List ℕ)) (end : RelayerEnd)
-        → may_be modes → RelaysWith M S journal mode count modes old new taken later end → LeavesStore M may_be journal old new
-    leaves_with reads_now may_be mode count modes old new taken later end may (inl (is, same, quiet)) =
-        leaves_same M may_be journal old new (λ q. ap (λ (h : H). bytes_in (M.file h (file_of journal q))) same)
-    leaves_with reads_now may_be mode count modes old new taken later end may (inr (inl (is, none, same, quiet))) =
-        leaves_same M may_be journal old new (λ q. ap (λ (h : H). bytes_in (M.file h (file_of journal q))) same)
-    leaves_with reads_now may_be mode count modes old new taken later end may (inr (inr (name, spells, inl (fails, quiet)))) =
-        leaves_by M (λ m. ⊥) may_be journal old new (λ m wrong. absurd wrong) fails.store
-    leaves_with reads_now may_be mode count modes old new taken later end may (inr (inr (name, spells, inr on))) =
-        leaves_worked M S reads_now may_be modes journal old on.opened on.ready new on.disk on.left on.start.office on.start.pass
-        on.works.last.office.list on.works.last.office.end may on.store on.opens on.works.closed on.settles
+      -- what becomes of the store
+      leaves_with : ((d : Store) → Told (S.seen d) (S.may_leave d)) → (may_be : List Mode → Type 0) (mode : List ℕ) (count : ℕ) (modes : List Mode) (old new : H) (taken later : Option (List ℕ)) (end : RelayerEnd)
+          → may_be modes → RelaysWith M S T R journal mode count modes old new taken later end → LeavesStore M may_be journal old new
+      leaves_with reads_now may_be mode count modes old new taken later end may (inl (is, same, quiet)) =
+          leaves_same M may_be journal old new (λ q. ap (λ (h : H). bytes_in (M.file h (file_of journal q))) same)
+      leaves_with reads_now may_be mode count modes old new taken later end may (inr (inl (is, none, same, quiet))) =
+          leaves_same M may_be journal old new (λ q. ap (λ (h : H). bytes_in (M.file h (file_of journal q))) same)
+      leaves_with reads_now may_be mode count modes old new taken later end may (inr (inr (name, spells, inl (fails, quiet)))) =
+          leaves_by M (λ m. ⊥) may_be journal old new (λ m wrong. absurd wrong) fails.store
+      leaves_with reads_now may_be mode count modes old new taken later end may (inr (inr (name, spells, inr on))) =
+          leaves_worked M S reads_now may_be modes journal old on.opened on.ready new on.disk on.left on.start.office on.start.pass
+          on.works.last.office.list on.works.last.office.end may on.store on.opens on.works.closed on.settles
 
-    pub leaves_all : ((d : Store) → Told (S.seen d) (S.may_leave d)) → (modes mode : List ℕ) (count : ℕ) (old new : H) (taken later : Option (List ℕ)) (end : RelayerEnd)
-        → RelaysBy M S modes journal mode count old new taken later end → LeavesStore M (AreModesOf (M.file old modes)) journal old new
-    leaves_all reads_now modes mode count old new taken later end (inl (ended, cause, reads, is, quiet)) =
-        leaves_same M (AreModesOf (M.file old modes)) journal old new (λ q. ap bytes_in (reads.files (file_of journal q)))
-    leaves_all reads_now modes mode count old new taken later end (inr (list, read, are, reads, with)) =
-        leaves_from M (AreModesOf (M.file old modes)) journal old read new (λ q. ap bytes_in (reads.files (file_of journal q)))
-        (leaves_with reads_now (AreModesOf (M.file old modes)) mode count list read new taken later end are with)
+      pub leaves_all : ((d : Store) → Told (S.seen d) (S.may_leave d)) → (modes mode : List ℕ) (count : ℕ) (old new : H) (taken later : Option (List ℕ)) (end : RelayerEnd)
+          → RelaysBy M S T R modes journal mode count old new taken later end → LeavesStore M (AreModesOf (M.file old modes)) journal old new
+      leaves_all reads_now modes mode count old new taken later end (inl (ended, cause, reads, is, quiet)) =
+          leaves_same M (AreModesOf (M.file old modes)) journal old new (λ q. ap bytes_in (reads.files (file_of journal q)))
+      leaves_all reads_now modes mode count old new taken later end (inr (list, read, are, reads, with)) =
+          leaves_from M (AreModesOf (M.file old modes)) journal old read new (λ q. ap bytes_in (reads.files (file_of journal q)))
+          (leaves_with reads_now (AreModesOf (M.file old modes)) mode count list read new taken later end are with)

@@ -3,6 +3,8 @@ use Rattle.std.proofs.Common.{◌≡◌, ◌≢◌, ◌<◌, ◌+◌, ℕ, suc, 
 use Rattle.std.specs.Result.{is_err}
 use Rattle.as4_disk.specs.declared.disk.Disk.{Ghosts as DiskMeaning}
 use Rattle.as4_flow.specs.Flow.{TakesFront, Told, appended}
+use Rattle.as4_flow.specs.declared.clock.Clock.{Ghosts as ClockMeaning}
+use Rattle.as4_flow.specs.declared.nonces.Nonces.{Ghosts as NoncesMeaning}
 use Rattle.as4_flow.proofs.FlowLemmas.{appended_append, appended_nil, takes_more}
 use Rattle.as4_hub.specs.declared.ended.RelayEnd.{RelayEnd}
 use Rattle.as4_hub.specs.declared.ended.RelayEnd.TheVariants.{Relayed, Nothing, Gone, NoMode, OutboxFull, TooLarge, Full, DiskFault, Stopped, Worn, NoMemory}
@@ -16,11 +18,17 @@ use Rattle.relayer.specs.Relaying.{KeepsAll, Moment, Relays, RelaysAll, RelaysMa
 use Rattle.relayer.specs.declared.ending.RelayerEnd.{RelayerEnd}
 use Rattle.relayer.specs.declared.ending.RelayerEnd.TheVariants.{Done, WriteFault}
 
-module _ {D : Type 0} (M : DiskMeaning D) where
-  pub keeps_none : (now : Moment D) → KeepsAll M now now
+told_on : {X : Type 0} (first last : Option X) → is_some last ≡ is_some first → (P : Type 0) → Told last (λ _. P) → Told first (λ _. P)
+told_on None None same P told = λ v is. absurd cc
+told_on None (Some x) same P told = λ v is. absurd cc
+told_on (Some x) None same P told = absurd cc
+told_on (Some x) (Some y) same P told = λ v is. told y refl
+
+module _ {D C N : Type 0} (M : DiskMeaning D) where
+  pub keeps_none : (now : Moment D C N) → KeepsAll M now now
   keeps_none now = record { modes = refl; book = refl; pass_book = refl; tells = refl; legal = λ start leads. leads }
 
-  pub keeps_more : (old middle new : Moment D) → KeepsAll M old middle → Keeps M middle.office new.office middle.pass new.pass → KeepsAll M old new
+  pub keeps_more : (old middle new : Moment D C N) → KeepsAll M old middle → Keeps M middle.office new.office middle.pass new.pass → KeepsAll M old new
   keeps_more old middle new first last = record {
     modes = last.modes ∙ first.modes;
     book = last.book ∙ first.book;
@@ -34,28 +42,22 @@ module _ {D : Type 0} (M : DiskMeaning D) where
         (subst (λ (b : Bool). LeadsWhere b old.office.modes start middle.office.list middle.office.end) (sym first.tells) (first.legal start leads)))));
   }
 
-  told_on : {X : Type 0} (first last : Option X) → is_some last ≡ is_some first → (P : Type 0) → Told last (λ _. P) → Told first (λ _. P)
-  told_on None None same P told = λ v is. absurd cc
-  told_on None (Some x) same P told = λ v is. absurd cc
-  told_on (Some x) None same P told = absurd cc
-  told_on (Some x) (Some y) same P told = λ v is. told y refl
-
-  pub goes_more : (old middle new : Moment D) → KeepsAll M old middle → Told (M.seen old.office.disk) (λ _. GoesOn old.office.end middle.office.end)
+  pub goes_more : (old middle new : Moment D C N) → KeepsAll M old middle → Told (M.seen old.office.disk) (λ _. GoesOn old.office.end middle.office.end)
       → Told (M.seen middle.office.disk) (λ _. GoesOn middle.office.end new.office.end) → Told (M.seen old.office.disk) (λ _. GoesOn old.office.end new.office.end)
   goes_more old middle new keeps first last v is =
       goes_on_joined old.office.end middle.office.end new.office.end (first v is)
       (told_on (M.seen old.office.disk) (M.seen middle.office.disk) keeps.tells (GoesOn middle.office.end new.office.end) last v is)
 
-  module _ (mode : List ℕ) where
+  module _ (T : ClockMeaning C) (R : NoncesMeaning N) (mode : List ℕ) where
     -- this number of messages was relayed, and their lines written
-    pub record SoFar (n : ℕ) (old new : Moment D) (taken later : Option (List ℕ)) : Type 0 where
+    pub record SoFar (n : ℕ) (old new : Moment D C N) (taken later : Option (List ℕ)) : Type 0 where
       pub keeps : KeepsAll M old new
       pub goes : Told (M.seen old.office.disk) (λ _. GoesOn old.office.end new.office.end)
       pub text : List ℕ
-      pub many : RelaysMany M mode n old new text
+      pub many : RelaysMany M T R mode n old new text
       pub sent : later ≡ appended taken text
 
-    pub so_far_none : (now : Moment D) (taken : Option (List ℕ)) → SoFar 0 now now taken taken
+    pub so_far_none : (now : Moment D C N) (taken : Option (List ℕ)) → SoFar 0 now now taken taken
     so_far_none now taken = record {
       keeps = keeps_none now;
       goes = λ v is. goes_on_resting now.office.end;
@@ -64,8 +66,8 @@ module _ {D : Type 0} (M : DiskMeaning D) where
       sent = sym (appended_nil taken);
     }
 
-    pub so_far_more : (n number : ℕ) (id : List ℕ) (old middle new : Moment D) (taken mid later : Option (List ℕ)) → SoFar n old middle taken mid
-        → Relays M mode middle new (Relayed number id) → Keeps M middle.office new.office middle.pass new.pass
+    pub so_far_more : (n number : ℕ) (id : List ℕ) (old middle new : Moment D C N) (taken mid later : Option (List ℕ)) → SoFar n old middle taken mid
+        → Relays M T R mode middle new (Relayed number id) → Keeps M middle.office new.office middle.pass new.pass
         → Told (M.seen middle.office.disk) (λ _. GoesOn middle.office.end new.office.end) → later ≡ appended mid (line_of number id)
         → SoFar (suc n) old new taken later
     so_far_more n number id old middle new taken mid later so_far relays keeps goes line = record {
@@ -76,15 +78,15 @@ module _ {D : Type 0} (M : DiskMeaning D) where
       sent = line ∙ ap (λ t. appended t (line_of number id)) so_far.sent ∙ appended_append taken so_far.text (line_of number id);
     }
 
-    pub so_far_next : (n number : ℕ) (id : List ℕ) (old middle new : Moment D) (taken mid later : Option (List ℕ)) → SoFar n old middle taken mid
-        → Relays M mode middle new (Relayed number id) → Keeps M middle.office new.office middle.pass new.pass
+    pub so_far_next : (n number : ℕ) (id : List ℕ) (old middle new : Moment D C N) (taken mid later : Option (List ℕ)) → SoFar n old middle taken mid
+        → Relays M T R mode middle new (Relayed number id) → Keeps M middle.office new.office middle.pass new.pass
         → Told (M.seen middle.office.disk) (λ _. GoesOn middle.office.end new.office.end) → later ≡ appended mid (line_of number id)
         → SoFar (n + 1) old new taken later
     so_far_next n number id old middle new taken mid later so_far relays keeps goes line =
         subst (λ k. SoFar k old new taken later) (let more : suc n ≡ n + 1 = omega arith in more)
         (so_far_more n number id old middle new taken mid later so_far relays keeps goes line)
 
-    pub ends_done : (n count : ℕ) (old new : Moment D) (taken later : Option (List ℕ)) → SoFar n old new taken later → n ≡ count → RelaysAll M mode count old new taken later Done
+    pub ends_done : (n count : ℕ) (old new : Moment D C N) (taken later : Option (List ℕ)) → SoFar n old new taken later → n ≡ count → RelaysAll M T R mode count old new taken later Done
     ends_done n count old new taken later so_far all = record {
       n = n;
       few = omega (arith, all);
@@ -94,8 +96,8 @@ module _ {D : Type 0} (M : DiskMeaning D) where
       ends = inl (inl (all, refl, refl), so_far.sent);
     }
 
-    pub ends_unwritten : (n count number : ℕ) (id : List ℕ) (old middle new : Moment D) (taken mid later : Option (List ℕ)) → n < count → SoFar n old middle taken mid
-        → Relays M mode middle new (Relayed number id) → TakesFront (line_of number id) mid later → RelaysAll M mode count old new taken later WriteFault
+    pub ends_unwritten : (n count number : ℕ) (id : List ℕ) (old middle new : Moment D C N) (taken mid later : Option (List ℕ)) → n < count → SoFar n old middle taken mid
+        → Relays M T R mode middle new (Relayed number id) → TakesFront (line_of number id) mid later → RelaysAll M T R mode count old new taken later WriteFault
     ends_unwritten n count number id old middle new taken mid later within so_far relays front = record {
       n = suc n;
       few = omega (arith, within);
@@ -105,8 +107,8 @@ module _ {D : Type 0} (M : DiskMeaning D) where
       ends = inr (refl, refl, takes_more so_far.text (line_of number id) taken mid later so_far.sent front);
     }
 
-    pub ends_by : (n count : ℕ) (old middle new : Moment D) (taken later : Option (List ℕ)) (last : RelayEnd) (end : RelayerEnd) → n < count → SoFar n old middle taken later
-        → Relays M mode middle new last → ((number : ℕ) (id : List ℕ) → last ≢ Relayed number id) → end ≡ end_of last → RelaysAll M mode count old new taken later end
+    pub ends_by : (n count : ℕ) (old middle new : Moment D C N) (taken later : Option (List ℕ)) (last : RelayEnd) (end : RelayerEnd) → n < count → SoFar n old middle taken later
+        → Relays M T R mode middle new last → ((number : ℕ) (id : List ℕ) → last ≢ Relayed number id) → end ≡ end_of last → RelaysAll M T R mode count old new taken later end
     ends_by n count old middle new taken later last end within so_far relays other is = record {
       n = n;
       few = omega (arith, within);

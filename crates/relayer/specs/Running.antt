@@ -4,6 +4,8 @@ use Rattle.as4_disk.specs.Image.{Image}
 use Rattle.as4_disk.specs.declared.disk.Disk.{Ghosts as DiskMeaning}
 use Rattle.as4_disk.specs.declared.part.Part.{Part}
 use Rattle.as4_flow.specs.Flow.{Rose, Told}
+use Rattle.as4_flow.specs.declared.clock.Clock.{Ghosts as ClockMeaning}
+use Rattle.as4_flow.specs.declared.nonces.Nonces.{Ghosts as NoncesMeaning}
 use Rattle.as4_host.specs.declared.host.Host.{Ghosts as HostMeaning}
 use Rattle.as4_values.specs.Texts.{Spells}
 use Rattle.handler.specs.Endings.{IsReadingCause}
@@ -36,9 +38,9 @@ LacksMemory old new taken later end = (end ≡ NoMemory) × (new ≡ old) × (la
 
 -- Messages were relayed from this moment on, and the office was closed: its disk, and each chain whose hub is the endpoint
 -- at the start goes on to the one that is left, and delivers each message once.
-pub record Works {D : Type 0} (S : DiskMeaning D) (mode : List ℕ) (count : ℕ) (start : Moment D) (disk : D) (taken later : Option (List ℕ)) (end : RelayerEnd) : Type 0 where
-  pub last : Moment D
-  pub relays : RelaysAll S mode count start last taken later end
+pub record Works {D C N : Type 0} (S : DiskMeaning D) (T : ClockMeaning C) (R : NoncesMeaning N) (mode : List ℕ) (count : ℕ) (start : Moment D C N) (disk : D) (taken later : Option (List ℕ)) (end : RelayerEnd) : Type 0 where
+  pub last : Moment D C N
+  pub relays : RelaysAll S T R mode count start last taken later end
   pub goes : Told (S.seen start.office.disk) (λ _. GoesOn start.office.end last.office.end)
   pub closed : IsClosed S start.office last.office.list last.office.end disk
 
@@ -56,18 +58,18 @@ module _ {H Store Door Dialer Time Dice DoorIn DoorOut DialerIn DialerOut : Type
     pub store : LeavesStore M (λ modes. ⊥) journal old new
     pub cause : IsOpeningCause (Stores M journal old) (M.fault_count old) (M.fault_count new) end
 
-  module _ (S : DiskMeaning Store) where
+  module _ (S : DiskMeaning Store) (T : ClockMeaning Time) (R : NoncesMeaning Dice) where
     -- the journal was opened by these modes, messages were relayed, and its store was given back
     pub record RelaysOn (journal mode : List ℕ) (count : ℕ) (modes : List Mode) (old new : H) (taken later : Option (List ℕ)) (end : RelayerEnd) : Type 0 where
       pub opened : H
       pub disk : Store
       pub store : OpensStore M S journal old opened disk
-      pub start : Moment Store
+      pub start : Moment Store Time Dice
       pub opens : OpensOffice S disk modes start.office start.pass
       pub ready : H
       pub still : IsStill M opened ready
       pub left : Store
-      pub works : Works S mode count start left taken later end
+      pub works : Works S T R mode count start left taken later end
       pub settles : SettlesStore M S journal ready new left
 
     -- what happens when the journal is opened

@@ -27,9 +27,10 @@ pub(crate) fn relay_all<D: Disk, C: Clock, N: Nonces, O: Sink>(
     output: &mut O,
 ) -> RelayerEnd
     requires book { pass.old.book ≡ office.old.book }
-    ensures relays { RelaysAll D.Disk mode.now count (moment office.old pass.old) (moment office.new pass.new)
+    ensures relays { RelaysAll D.Disk C.Clock N.Nonces mode.now count (moment office.old pass.old clock.old nonces.old)
+        (moment office.new pass.new clock.new nonces.new)
         (O.taken output.old) (O.taken output.new) result }
-    ensures keeps { KeepsAll D.Disk (moment office.old pass.old) (moment office.new pass.new) }
+    ensures keeps { KeepsAll D.Disk (moment office.old pass.old clock.old nonces.old) (moment office.new pass.new clock.new nonces.new) }
     ensures goes { Told (D.seen office.old.disk) (λ _. GoesOn office.old.end office.new.end) }
     ensures faults { TellsFaults result (O.faults output.old) (O.faults output.new) }
 {

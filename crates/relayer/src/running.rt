@@ -30,7 +30,7 @@ pub fn relay_journal<H: Host, O: Sink>(
     count: u64,
     output: &mut O,
 ) -> RelayerEnd
-    ensures relays { (end : RelayerEnd) × RelaysBy H.Host H.Store.Disk modes.now journal.now mode.now count host.old host.new
+    ensures relays { (end : RelayerEnd) × RelaysBy H.Host H.Store.Disk H.Time.Clock H.Dice.Nonces modes.now journal.now mode.now count host.old host.new
         (O.taken output.old) (O.taken output.new) end × IsJudged end (H.fault_count host.old) (H.fault_count host.new) result }
     ensures touches { Touches H.Host (modes.now ∷ files_of journal.now) journal.now host.old host.new }
     ensures store { LeavesStore H.Host (AreModesOf (H.file host.old modes.now)) journal.now host.old host.new }
@@ -54,7 +54,7 @@ fn prepare<H: Host, O: Sink>(
     count: u64,
     output: &mut O,
 ) -> RelayerEnd
-    ensures relays { RelaysWith H.Host H.Store.Disk journal.now mode.now count modes host.old host.new (O.taken output.old) (O.taken output.new) result }
+    ensures relays { RelaysWith H.Host H.Store.Disk H.Time.Clock H.Dice.Nonces journal.now mode.now count modes host.old host.new (O.taken output.old) (O.taken output.new) result }
     ensures faults { TellsFaults result (O.faults output.old) (O.faults output.new) }
 {
     match Text::read(alloc, mode.as_bytes()) {
@@ -85,7 +85,7 @@ fn relay_by<H: Host, O: Sink>(
     output: &mut O,
 ) -> RelayerEnd
     ensures relays { LacksMemory host.old host.new (O.taken output.old) (O.taken output.new) result
-        ⊎ OpensAndRelays H.Host H.Store.Disk journal.now mode.now count modes host.old host.new (O.taken output.old) (O.taken output.new) result }
+        ⊎ OpensAndRelays H.Host H.Store.Disk H.Time.Clock H.Dice.Nonces journal.now mode.now count modes host.old host.new (O.taken output.old) (O.taken output.new) result }
     ensures faults { TellsFaults result (O.faults output.old) (O.faults output.new) }
 {
     match (
@@ -124,7 +124,7 @@ fn open_and_relay<H: Host, O: Sink>(
     output: &mut O,
 ) -> RelayerEnd
     requires paths { AreOf journal.now paths }
-    ensures relays { OpensAndRelays H.Host H.Store.Disk journal.now mode.now count modes host.old host.new (O.taken output.old) (O.taken output.new) result }
+    ensures relays { OpensAndRelays H.Host H.Store.Disk H.Time.Clock H.Dice.Nonces journal.now mode.now count modes host.old host.new (O.taken output.old) (O.taken output.new) result }
     ensures faults { TellsFaults result (O.faults output.old) (O.faults output.new) }
 {
     let disk = match host.open_disk(paths) {
@@ -173,7 +173,7 @@ fn work<'a, D: Disk, C: Clock, N: Nonces, O: Sink>(
 ) -> (D, RelayerEnd)
     requires book { pass.book ≡ office.book }
     requires list { office.list ≡ [] }
-    ensures works { Works D.Disk mode.now count (moment office.entry pass.entry) result.0 (O.taken output.old) (O.taken output.new) result.1 }
+    ensures works { Works D.Disk C.Clock N.Nonces mode.now count (moment office.entry pass.entry clock.old nonces.old) result.0 (O.taken output.old) (O.taken output.new) result.1 }
     ensures faults { TellsFaults result.1 (O.faults output.old) (O.faults output.new) }
 {
     let (mut office, mut pass) = (office, pass);

@@ -19,7 +19,7 @@ type Row = (
     [u64; 5],
 );
 
-const ROWS: [Row; 15] = [
+const ROWS: [Row; 16] = [
     (0, "", &[], [0, 0, 0], EndKind::Nothing, [0, 1, 0, 0, 0]),
     (
         1,
@@ -46,6 +46,8 @@ const ROWS: [Row; 15] = [
         [1, 2, 0, 0, 1],
     ),
     (1, "", &[RECEIPT], [0, 0, 0], EndKind::Done, [1, 3, 0, 1, 0]),
+    // The response came whole by the first read, so no second one is made.
+    (1, "", &[RECEIPT], [0, 2, 0], EndKind::Done, [1, 3, 0, 1, 0]),
     (
         1,
         "",

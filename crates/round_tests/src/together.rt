@@ -102,6 +102,8 @@ impl<'a, R: Wait> Door for OneGuest<'a, R> {
 
     ghost guests = { λ _. None };
 
+    ghost answered = { λ _. None };
+
     ghost faults = { λ _. 0 };
 
     ghost reads = { λ d. d.reads };

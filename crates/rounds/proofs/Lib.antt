@@ -1,3 +1,2 @@
 -- The lemmas of rounds.
-mod ExchangeLemmas
 mod RoundLemmas

@@ -4,8 +4,8 @@ use Rattle.exchange_model.specs.declared.reply.Reply.{Reply}
 use Rattle.exchange_model.specs.declared.reply.Reply.TheVariants as reply
 use Rattle.office.specs.declared.fault.OfficeFault.{OfficeFault}
 use Rattle.office.specs.declared.fault.OfficeFault.TheVariants as fault
-use Rattle.rounds.specs.declared.exchange.Lost.{Lost}
-use Rattle.rounds.specs.declared.exchange.Lost.TheVariants as lost
+use Rattle.link_exchange.specs.declared.exchanging.Lost.{Lost}
+use Rattle.link_exchange.specs.declared.exchanging.Lost.TheVariants as lost
 use Rattle.sessions.specs.declared.rounds.RoundEnd.{RoundEnd}
 use Rattle.sessions.specs.declared.rounds.RoundEnd.TheVariants as round
 

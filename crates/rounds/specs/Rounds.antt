@@ -20,9 +20,9 @@ use Rattle.sessions.specs.declared.rounds.RoundEnd.{RoundEnd}
 use Rattle.sessions.specs.declared.rounds.RoundEnd.TheVariants as round
 use Rattle.sessions.specs.declared.sending.Sending.{Sending}
 use Rattle.rounds.specs.Endings.{end_by, end_halted, end_lost}
-use Rattle.rounds.specs.Exchanges.{Exchanges}
+use Rattle.link_exchange.specs.Exchanges.{Exchanges}
 use Rattle.rounds.specs.Receiving.{Brings}
-use Rattle.rounds.specs.declared.exchange.Lost.{Lost}
+use Rattle.link_exchange.specs.declared.exchanging.Lost.{Lost}
 use Rattle.rounds.specs.declared.pulling.Pulled.{Pulled}
 
 -- what a round uses, at one moment: the caller's pass, the link, the clock and the source of nonces

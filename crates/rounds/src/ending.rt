@@ -2,9 +2,9 @@
 ghost use Rattle.std.specs.Prelude.{◌≡◌};
 ghost use Rattle.rounds.specs.Endings.{end_by, end_halted, end_lost};
 
-use crate::exchange::Lost;
 use as4_http::HttpRefusal;
 use exchange_model::Reply;
+use link_exchange::Lost;
 use office::OfficeFault;
 use sessions::RoundEnd;
 

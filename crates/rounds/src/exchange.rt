@@ -1,26 +1,12 @@
-//! One exchange over a link: a request goes out, and its response comes back.
-ghost use Rattle.std.specs.Prelude.{◌≡◌, ◌≤◌, Option, List, ℕ};
-ghost use Rattle.as4_flow.specs.Flow.{between, flow};
-ghost use Rattle.rounds.specs.Exchanges.{Exchanges, Talks};
+//! An exchange with the address of a message.
+ghost use Rattle.std.specs.Prelude.{◌≡◌};
+ghost use Rattle.link_exchange.specs.Exchanges.{Exchanges};
 
-use as4_flow::{Sink, Source, send_all};
-use as4_host::{Link, LinkRefusal};
-use as4_http::{HttpRefusal, Intake, Response};
+use as4_host::Link;
+use as4_http::Response;
 use as4_values::Text;
+use link_exchange::Lost;
 use std::alloc::Global;
-
-/// Why no response came.
-#[derive(Clone, Copy, Debug, PartialEq, Eq)]
-pub enum Lost {
-    /// No connection was opened.
-    Unreached,
-    /// The request wasn't sent whole.
-    Unsent,
-    /// No response was read.
-    Unread(HttpRefusal),
-    /// Memory ran out, and nobody was asked.
-    NoMemory,
-}
 
 /// Sends the request over a connection to the address, and reads the response. Then the connection closes.
 pub(crate) fn exchange<L: Link>(
@@ -34,36 +20,5 @@ pub(crate) fn exchange<L: Link>(
     let Ok(place) = str::from_utf8(address.bytes()) else {
         return Err(Lost::NoMemory);
     };
-    match link.open(place) {
-        Ok((source, sink)) => {
-            let (mut source, mut sink) = (source, sink);
-            let response = talk(alloc, &mut source, &mut sink, request);
-            link.settle(source, sink);
-            response
-        }
-        Err(LinkRefusal::LinkFailed) => Err(Lost::Unreached),
-        Err(LinkRefusal::NoMemory) => Err(Lost::NoMemory),
-    }
-}
-
-// Writes the request, and reads the response.
-fn talk<S: Source, K: Sink>(
-    alloc: Global,
-    source: &mut S,
-    sink: &mut K,
-    request: &[u8],
-) -> Result<Response, Lost>
-    ensures { Talks request.now result (between (flow (S.left source.old) (K.taken sink.old) (S.faults source.old) (K.faults sink.old))
-        (flow (S.left source.new) (K.taken sink.new) (S.faults source.new) (K.faults sink.new))) }
-{
-    match send_all(sink, request) {
-        Ok(()) => match Intake::new(alloc).read_response(source) {
-            Ok((response, intake)) => {
-                drop(intake);
-                Ok(response)
-            }
-            Err(refusal) => Err(Lost::Unread(refusal)),
-        },
-        Err(_) => Err(Lost::Unsent),
-    }
+    link_exchange::exchange(alloc, link, place, request)
 }

@@ -103,3 +103,59 @@ fn ends_behind_the_last_event(alloc: Global) -> Result<bool, AllocError> {
 fn event_100_001_is_one_too_many(rt: HostRuntime) {
     assert!(rt; ends_behind_the_last_event(rt.alloc()).unwrap_or(false));
 }
+
+#[test]
+fn a_script_of_a_chain_is_run(rt: HostRuntime) {
+    let script = b"mode m fh push 3 1000
+mode n hl push 3 1000
+submit f m hex=6869
+take f
+came h f 0
+relay h n
+take h
+came l h 1
+";
+    let written = b"f submitted 0 0.00000000-0000-0000-0000-000000000000@as4
+f sent 0 user 0.00000000-0000-0000-0000-000000000000@as4
+h sent 0 receipt 0.00000000-0000-0000-0000-000000000000@as4
+h submitted 0 0.00000000-0000-0000-0000-000000000003@as4
+h sent 1 user 0.00000000-0000-0000-0000-000000000003@as4
+l sent 0 receipt 0.00000000-0000-0000-0000-000000000003@as4
+f end 1 0 0 0 0
+h end 1 0 0 0 1
+l end 0 0 0 0 1
+";
+    assert!(rt;
+        ends(
+            rt.alloc(),
+            "drill --hub",
+            script,
+            NOTHING_FAILS,
+            (0, written, b"")
+        )
+    );
+}
+
+#[test]
+fn a_line_of_a_pair_is_none_of_a_chain(rt: HostRuntime) {
+    let wanted = (2, b"f nothing\n".as_slice(), b"line 2\n".as_slice());
+    assert!(rt;
+        ends(
+            rt.alloc(),
+            "drill --hub",
+            b"take f\ntake a\n",
+            NOTHING_FAILS,
+            wanted
+        )
+    );
+    let wanted = (2, b"a nothing\n".as_slice(), b"line 2\n".as_slice());
+    assert!(rt;
+        ends(
+            rt.alloc(),
+            "drill",
+            b"take a\ntake f\n",
+            NOTHING_FAILS,
+            wanted
+        )
+    );
+}

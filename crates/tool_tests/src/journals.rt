@@ -23,6 +23,10 @@ const TICKED: &[u8] = b"AS4JNL2\n\x01\0\0\0\0\0\0\0\x0b\0\x01\x02\0\0\0\0\0\0\x0
 /// A leaf of a try of the first submission, of which there is none.
 const TRIED: &[u8] = b"AS4JNL2\n\x01\0\0\0\0\0\0\0\x0b\0\x01\x03\0\0\0\0\0\0\0\0\0";
 
+/// A leaf of a handler by these modes: it has received two messages, of one payload each.
+const RECEIVED: &[u8] =
+    b"AS4JNL2\n\x01\0\0\0\0\0\0\0\x0b\0\x01\x02\0\0\x01\xa25\x80\x95\xf1\x01\0\0\0\0\0\0\0\x0b\0\x01\x02\0\0\x01\xa25\x80\x99\xdc\x01\0\0\0\0\0\0\x01!\0\x01\x04\0\0\0\0\x182026-12-02T06:45:50.146Z\0\0\0*0.c684fddb-80fe-da48-505b-571c7382df5c@as4\0\0\0\0\x01\0\0\0\x04acme\0\0\0\0\x06seller\0\0\0\x01\0\0\0\x04bolt\0\0\0\0\x05buyer\0\0\0\0\x06orders\0\0\0\0\x07invoice\x01\0\0\0\x01c\0\0\0\0\0\0\0\x01\x01\0\0\00cid:1.0.c684fddb-80fe-da48-505b-571c7382df5c@as4\0\0\0\0\0\0\0\x01\0\0\0,1.0.c684fddb-80fe-da48-505b-571c7382df5c@as4\0\0\0\ntext/plain\0\0\0\x01x\x01\0\0\0\0\0\0\x01\x1d\0\x01\x04\0\0\0\0\x182026-12-02T06:45:50.149Z\0\0\0*1.7bb0e674-f0a9-7b7a-8e68-0b6372d24047@as4\0\0\0\0\x01\0\0\0\x04acme\0\0\0\0\x06seller\0\0\0\x01\0\0\0\x04bolt\0\0\0\0\x05buyer\0\0\0\0\x06orders\0\0\0\0\x07invoice\0\0\0\0\0\0\0\0\x01\x01\0\0\00cid:1.1.7bb0e674-f0a9-7b7a-8e68-0b6372d24047@as4\0\0\0\0\0\0\0\x01\0\0\0,1.1.7bb0e674-f0a9-7b7a-8e68-0b6372d24047@as4\0\0\0\ntext/plain\0\0\0\x02yz\x01\0\0\0\0\0\0\0\x0b\0\x01\x02\0\0\x01\xa25\x80\x9d\xcd\0";
+
 /// The files of a host, the number of its call that fails, the words, and how the run ends.
 #[derive(Clone, Copy)]
 struct Row {
@@ -53,7 +57,7 @@ const RELAY: Row = Row {
     ..AUDIT
 };
 
-const ROWS: [Row; 16] = [
+const ROWS: [Row; 19] = [
     AUDIT,
     Row {
         leaf: TICKED,
@@ -126,6 +130,32 @@ const ROWS: [Row; 16] = [
     },
     Row {
         line: "relay modes j none 0",
+        ..RELAY
+    },
+    Row {
+        leaf: RECEIVED,
+        wanted: (
+            0,
+            b"relayed 0 0.00000000-0000-0000-0000-000000000000@as4
+relayed 1 1.00000000-0000-0000-0000-000000000001@as4\n",
+            b"",
+        ),
+        ..RELAY
+    },
+    Row {
+        leaf: RECEIVED,
+        line: "relay modes j invoice 1",
+        wanted: (
+            0,
+            b"relayed 0 0.00000000-0000-0000-0000-000000000000@as4\n",
+            b"",
+        ),
+        ..RELAY
+    },
+    Row {
+        leaf: RECEIVED,
+        line: "relay modes j none 1",
+        wanted: (14, b"", b"no mode\n"),
         ..RELAY
     },
 ];

@@ -2,8 +2,8 @@
 
 use crate::ended::{NOTHING_FAILS, end_so, ends, words_of};
 use as4_tool::{
-    Collection, Command, HELP, Journal, LIMIT, MAX_COUNT, Relaying, Service, Submission, Suite,
-    VERSION, WordsRefusal, command_of, texts_of,
+    Collection, Command, DrillKind, HELP, Journal, LIMIT, MAX_COUNT, Relaying, Service, Submission,
+    Suite, VERSION, WordsRefusal, command_of, texts_of,
 };
 use as4_values::{MAX_ADDRESS, MAX_MOMENT, Octets, Seq};
 use drill::{MAX_EVENTS, MAX_LINES, MAX_MODES};
@@ -106,7 +106,7 @@ const JOURNAL: Journal = Journal {
     journal: "j",
 };
 
-const COMMANDS: [(&str, Command); 24] = [
+const COMMANDS: [(&str, Command); 25] = [
     ("-h", Command::Help),
     ("-V", Command::Version),
     ("submit --help", Command::Help),
@@ -175,8 +175,9 @@ const COMMANDS: [(&str, Command); 24] = [
     ),
     ("answer 0 0", Command::Answer { stamp: 0, nonce: 0 }),
     ("check", Command::Check),
-    ("drill", Command::Drill { draws: false }),
-    ("drill --draw", Command::Drill { draws: true }),
+    ("drill", Command::Drill(DrillKind::Pair)),
+    ("drill --draw", Command::Drill(DrillKind::Drawing)),
+    ("drill --hub", Command::Drill(DrillKind::Hub)),
     (
         "drill --generate 0 1",
         Command::Generate { seed: 0, count: 1 },
@@ -230,7 +231,7 @@ fn commands_are_read_with_numbers_in_range(rt: HostRuntime) {
     assert_eq!(rt; first_other(rt.alloc(), &COMMANDS), None);
 }
 
-const NO_COMMANDS: [&str; 44] = [
+const NO_COMMANDS: [&str; 46] = [
     "handler m.toml j http://h:1/ http://h:2/ --workers 0",
     "handler m.toml j http://h:1/ http://h:2/ --workers 12",
     "handler m.toml j http://h:1/ http://h:2/ --workers 04",
@@ -266,6 +267,8 @@ const NO_COMMANDS: [&str; 44] = [
     "drill --draw --generate 0 1",
     "drill --draw=true",
     "drill --draw --draw",
+    "drill --draw --hub",
+    "drill --hub --generate 0 1",
     "audit m.toml",
     "audit m.toml j k",
     "relay m.toml j m 1048577",
@@ -346,11 +349,11 @@ fn help_and_version_are_written(rt: HostRuntime) {
     let alloc = rt.alloc();
     assert!(rt; ends(alloc, "--help", b"", NOTHING_FAILS, (0, HELP, b"")));
     assert!(rt; ends(alloc, "--version", b"", NOTHING_FAILS, (0, VERSION, b"")));
-    assert!(rt; VERSION == b"as4 0.1.0\n".as_slice());
+    assert!(rt; VERSION == b"as4 1.0.0\n".as_slice());
 }
 
 /// Lines that a user relies on.
-const HELP_PARTS: [&str; 34] = [
+const HELP_PARTS: [&str; 35] = [
     "\n  as4 handler MODES JOURNAL PEER LOCAL  ",
     "\n  as4 submit LOCAL MODE CONVERSATION MEDIA  ",
     "\n  as4 collect LOCAL FIRST COUNT FOLDER  ",
@@ -361,7 +364,8 @@ const HELP_PARTS: [&str; 34] = [
     "14  relay:",
     "\n  as4 answer STAMP NONCE  ",
     "\n  as4 check  ",
-    "\n  as4 drill [--draw]  ",
+    "\n  as4 drill [--draw | --hub]  ",
+    "\n  relay h MODE  ",
     "\n  as4 audit MODES JOURNAL [--draw]  ",
     "\n  as4 relay MODES JOURNAL MODE COUNT  ",
     "\n  as4 suite [--verify | --list]  ",

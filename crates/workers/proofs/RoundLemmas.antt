@@ -15,7 +15,7 @@ use Rattle.office.specs.declared.fault.OfficeFault.TheVariants as fault
 use Rattle.pass_book.specs.States.{PassState}
 use Rattle.rounds.specs.Endings.{end_halted}
 use Rattle.rounds.specs.Rounds.{After, Answers, AsksOut, Delivers, PullsBy, PullsOn, PullsWith, Pushes, PushesOn, Receives, Sends, SendsOut, Steps, Using, pull_address, pulled, push_address}
-use Rattle.rounds.specs.declared.exchange.Lost.{Lost}
+use Rattle.link_exchange.specs.declared.exchanging.Lost.{Lost}
 use Rattle.rounds.specs.declared.pulling.Pulled.{Pulled}
 use Rattle.sessions.specs.Sending.{TellsSending}
 use Rattle.sessions.specs.declared.naming.Opening.{Ghosts as OpeningMeaning}

@@ -7,7 +7,7 @@ use Rattle.as4_flow.specs.declared.clock.Clock.{Ghosts as ClockMeaning}
 use Rattle.as4_flow.specs.declared.nonces.Nonces.{Ghosts as NoncesMeaning}
 use Rattle.as4_flow.specs.Flow.{Streams, Told}
 use Rattle.as4_host.specs.Counts.{raised}
-use Rattle.as4_host.specs.Lists.{first_of, none_of, without_first}
+use Rattle.as4_host.specs.Lists.{and_one, first_of, none_of, without_first}
 use Rattle.as4_host.specs.declared.door.Door.{Ghosts as DoorMeaning}
 use Rattle.office.specs.declared.call.Call.{Call}
 use Rattle.pass_book.specs.States.{PassState}
@@ -29,7 +29,7 @@ abbrev pub caller : {C N : Type 0} → PassState Call → C → N → Caller C N
 caller pass clock nonces = record { pass = pass; clock = clock; nonces = nonces }
 
 module _ {D J W In Out C N : Type 0} (M : DiskMeaning D) (O : OpeningMeaning J) (G : DoorMeaning W In Out) (T : ClockMeaning C) (R : NoncesMeaning N) where
-  -- the first guest came to the door, a session served it, and its connection was settled
+  -- the first guest came to the door, a session served it, and its connection was settled, which took the response
   pub record ServesGuest (kind : DoorKind) (door later : W) (old new : Caller C N) (end : Ended) : Type 0 where
     pub came : Told (G.guests door) (λ all. all ≢ [])
     pub streams : Streams
@@ -42,6 +42,7 @@ module _ {D J W In Out C N : Type 0} (M : DiskMeaning D) (O : OpeningMeaning J) 
         (DrawsBoth T R old.clock new.clock old.nonces new.nonces)
         ((new.clock ≡ old.clock) × (new.nonces ≡ old.nonces)) kind streams end
     pub guests : G.guests later ≡ without_first (G.guests door)
+    pub answered : G.answered later ≡ and_one (G.answered door) streams.later
     pub faults : G.faults later ≡ G.faults door
     pub reads : G.reads later ≡ raised streams.later_read_faults (G.reads door)
     pub writes : G.writes later ≡ raised streams.later_write_faults (G.writes door)
@@ -50,6 +51,7 @@ module _ {D J W In Out C N : Type 0} (M : DiskMeaning D) (O : OpeningMeaning J) 
   -- no guest came
   pub record MeetsNobody (door later : W) (old new : Caller C N) : Type 0 where
     pub guests : G.guests later ≡ G.guests door
+    pub answered : G.answered later ≡ G.answered door
     pub reads : G.reads later ≡ G.reads door
     pub writes : G.writes later ≡ G.writes door
     pub same : new ≡ old

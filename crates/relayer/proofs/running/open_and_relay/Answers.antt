@@ -52,7 +52,7 @@ returns-in-Ok-open-clause-relays g c =
       disk = c.in-Ok.disk;
       store = opens_store g.H.Host setup g.H.Store.Disk c.args.paths c.args.host.now c.open_disk.new.self c.in-Ok.disk c.requires.paths
           d.fresh d.seen d.only d.made d.names d.files d.guests d.cause d.others.3 d.others.4;
-      start = moment c.in-Ok-open.office c.in-Ok-open.pass;
+      start = moment c.in-Ok-open.office c.in-Ok-open.pass c.time-clock.result c.dice-nonces.result;
       opens = record {
         list = o.first.0;
         modes_are = o.first.1;

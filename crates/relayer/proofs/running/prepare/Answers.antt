@@ -5,7 +5,7 @@ use Rattle.relayer.proofs.running.prepare.Goals as goal
 
 pub returns-in-Ok-clause-relays : goal.returns-in-Ok-clause-relays
 returns-in-Ok-clause-relays g c =
-    with_name g.H.Host c.args.journal.now g.H.Store.Disk c.args.mode.now c.in-Ok.name c.args.count c.args.modes c.args.host.now c.relay_by-end.new.host (g.O.Sink.taken c.args.output.now) (g.O.Sink.taken c.relay_by-end.new.output)
+    with_name g.H.Host c.args.journal.now g.H.Store.Disk g.H.Time.Clock g.H.Dice.Nonces c.args.mode.now c.in-Ok.name c.args.count c.args.modes c.args.host.now c.relay_by-end.new.host (g.O.Sink.taken c.args.output.now) (g.O.Sink.taken c.relay_by-end.new.output)
     c.relay_by-end.result (subst (λ bytes. Spells bytes c.in-Ok.name) c.as_bytes.ensures.value c.in-Ok.ensures.found) c.relay_by-end.ensures.relays
 
 pub returns-in-Err-BadText-clause-relays : goal.returns-in-Err-BadText-clause-relays

@@ -7,10 +7,10 @@ use Rattle.relayer.proofs.running.relay_journal.Goals as goal
 use Rattle.relayer.proofs.running.relay_journal.Goals.{in-Ok, in-Err}
 
 -- what was done
-done : (g : Over) (c : goal.After-judged g) → RelaysBy g.H.Host g.H.Store.Disk c.args.modes.now c.args.journal.now c.args.mode.now c.args.count c.args.host.now c.match-read_modes.host
+done : (g : Over) (c : goal.After-judged g) → RelaysBy g.H.Host g.H.Store.Disk g.H.Time.Clock g.H.Dice.Nonces c.args.modes.now c.args.journal.now c.args.mode.now c.args.count c.args.host.now c.match-read_modes.host
     (g.O.Sink.taken c.args.output.now) (g.O.Sink.taken c.match-read_modes.output) c.match-read_modes.end
 done g c =
-    let B = RelaysBy g.H.Host g.H.Store.Disk c.args.modes.now c.args.journal.now c.args.mode.now c.args.count c.args.host.now in
+    let B = RelaysBy g.H.Host g.H.Store.Disk g.H.Time.Clock g.H.Dice.Nonces c.args.modes.now c.args.journal.now c.args.mode.now c.args.count c.args.host.now in
     let taken = g.O.Sink.taken c.args.output.now in
     elim c.match-read_modes.branch [
       | in-Ok w ↦ subst (λ h. B h taken (g.O.Sink.taken c.match-read_modes.output) c.match-read_modes.end) (sym w.host-is)
@@ -33,10 +33,10 @@ returns-clause-relays g c = (
 
 pub returns-clause-touches : goal.returns-clause-touches
 returns-clause-touches g c =
-    touches_all g.H.Host c.args.journal.now g.H.Store.Disk c.args.modes.now c.args.mode.now c.args.count c.args.host.now c.match-read_modes.host
+    touches_all g.H.Host c.args.journal.now g.H.Store.Disk g.H.Time.Clock g.H.Dice.Nonces c.args.modes.now c.args.mode.now c.args.count c.args.host.now c.match-read_modes.host
     (g.O.Sink.taken c.args.output.now) (g.O.Sink.taken c.match-read_modes.output) c.match-read_modes.end (done g c)
 
 pub returns-clause-store : goal.returns-clause-store
 returns-clause-store g c =
-    leaves_all g.H.Host c.args.journal.now g.H.Store.Disk g.met.H.Store.Disk.reads_now c.args.modes.now c.args.mode.now c.args.count c.args.host.now c.match-read_modes.host
+    leaves_all g.H.Host c.args.journal.now g.H.Store.Disk g.H.Time.Clock g.H.Dice.Nonces g.met.H.Store.Disk.reads_now c.args.modes.now c.args.mode.now c.args.count c.args.host.now c.match-read_modes.host
     (g.O.Sink.taken c.args.output.now) (g.O.Sink.taken c.match-read_modes.output) c.match-read_modes.end (done g c)

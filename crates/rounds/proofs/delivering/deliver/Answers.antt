@@ -1,5 +1,5 @@
 use Rattle.std.proofs.Common.{ℕ, List, Ok, Err, refl, inl, subst}
-use Rattle.rounds.specs.Exchanges.{Exchanges}
+use Rattle.link_exchange.specs.Exchanges.{Exchanges}
 use Rattle.rounds.proofs.RoundLemmas.{stepped}
 use Rattle.rounds.proofs.delivering.deliver.Goals as goal
 

@@ -1,6 +1,7 @@
 use Rattle.std.proofs.Common.{◌∙◌, ap, arith}
 use Rattle.as4_flow.specs.Flow.{between, flow}
 use Rattle.as4_host.specs.Counts.{raised}
+use Rattle.as4_host.specs.Lists.{and_one}
 use Rattle.workers.specs.Guests.{caller}
 use Rattle.workers.proofs.GuestLemmas.{meets}
 use Rattle.workers.proofs.guests.guest_turn.Goals as goal
@@ -25,6 +26,7 @@ returns-in-Open-clause-meets g c =
       tells = s.ensures.tells;
       ends = s.ensures.ends;
       guests = t.others.0 ∙ o.opens.others;
+      answered = t.answered ∙ ap (λ a. and_one a (g.W.Out.Sink.taken s.new.sink)) o.others.2;
       faults = t.others.1 ∙ o.cause;
       reads = t.reads ∙ ap (raised (g.W.In.Source.faults s.new.source)) o.others.0;
       writes = t.writes ∙ ap (raised (g.W.Out.Sink.faults s.new.sink)) o.others.1;

@@ -1,7 +1,7 @@
 use Rattle.std.proofs.Common.{◌≡◌, Err, ap}
 use Rattle.as4_http.specs.declared.refusal.HttpRefusal.TheVariants as http
-use Rattle.clients.proofs.ExchangeLemmas.{why_unread}
-use Rattle.clients.proofs.exchange.talk.Goals as goal
+use Rattle.link_exchange.proofs.ExchangeLemmas.{why_unread}
+use Rattle.link_exchange.proofs.exchanging.talk.Goals as goal
 
 pub returns-in-Err-read_response : goal.returns-in-Err-read_response
 returns-in-Err-read_response g c =

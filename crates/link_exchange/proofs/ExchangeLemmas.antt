@@ -10,9 +10,9 @@ use Rattle.as4_http.specs.Responses.{HasNoResponse, IsCutResponse, IsNoResponse}
 use Rattle.as4_http.specs.declared.message.Response.{Response}
 use Rattle.as4_http.specs.declared.refusal.HttpRefusal.{HttpRefusal}
 use Rattle.as4_http.specs.declared.refusal.HttpRefusal.TheVariants as http
-use Rattle.clients.specs.Exchanges.{Connects, Exchanges, IsWhyUnread, Talks}
-use Rattle.clients.specs.declared.exchange.Lost.{Lost}
-use Rattle.clients.specs.declared.exchange.Lost.TheVariants as lost
+use Rattle.link_exchange.specs.Exchanges.{Connects, Exchanges, IsWhyUnread, Talks}
+use Rattle.link_exchange.specs.declared.exchanging.Lost.{Lost}
+use Rattle.link_exchange.specs.declared.exchanging.Lost.TheVariants as lost
 
 -- an intake that holds nothing stands before what is left
 pub nothing_held : (held : List ℕ) (left : Option (List ℕ)) → held ≡ [] → before held left ≡ left

@@ -1,6 +1,6 @@
 use Rattle.as4_flow.specs.Flow.{flow}
-use Rattle.clients.proofs.ExchangeLemmas.{connected}
-use Rattle.clients.proofs.exchange.exchange.Goals as goal
+use Rattle.link_exchange.proofs.ExchangeLemmas.{connected}
+use Rattle.link_exchange.proofs.exchanging.exchange.Goals as goal
 
 pub returns-in-Ok : goal.returns-in-Ok
 returns-in-Ok g c =

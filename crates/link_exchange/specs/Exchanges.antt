@@ -11,8 +11,8 @@ use Rattle.as4_http.specs.Responses.{BeginsResponse, HasNoResponse, IsCutRespons
 use Rattle.as4_http.specs.declared.message.Response.{Response}
 use Rattle.as4_http.specs.declared.refusal.HttpRefusal.{HttpRefusal}
 use Rattle.as4_http.specs.declared.refusal.HttpRefusal.TheVariants as http
-use Rattle.clients.specs.declared.exchange.Lost.{Lost}
-use Rattle.clients.specs.declared.exchange.Lost.TheVariants as lost
+use Rattle.link_exchange.specs.declared.exchanging.Lost.{Lost}
+use Rattle.link_exchange.specs.declared.exchanging.Lost.TheVariants as lost
 
 -- a response was read from the source, and nothing is said of the bytes that came with it
 pub record ReadsResponse (streams : Streams) (response : Response) : Type 0 where

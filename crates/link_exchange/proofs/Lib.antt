@@ -1,0 +1,2 @@
+-- The lemmas of link_exchange.
+mod ExchangeLemmas

@@ -1,0 +1,2 @@
+-- The specs of link_exchange.
+pub mod Exchanges
