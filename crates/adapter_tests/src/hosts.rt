@@ -7,7 +7,6 @@ use as4_host::{FileGot, Host, HostRefusal, Link};
 use host_adapters::SystemHost;
 use std::alloc::Global;
 use std::fs;
-use std::net::{Ipv4Addr, SocketAddr};
 use std::test::Fail;
 use std::time::Duration;
 
@@ -145,29 +144,6 @@ fn doors<R: Machine>(host: &mut SystemHost<R>, alloc: Global) -> Option<(bool, b
     let after = opens(host, &address);
     drop(address);
     Some((beside, after))
-}
-
-/// Whether a door at loopback listens there alone.
-fn is_local<R: Machine>(host: &mut SystemHost<R>) -> bool {
-    match host.open_door("http://127.0.0.1:0/") {
-        Ok(door) => {
-            let is_so = match door.local_addr() {
-                Ok(address) => address == SocketAddr::from((Ipv4Addr::LOCALHOST, address.port())),
-                Err(_) => false,
-            };
-            host.settle_door("http://127.0.0.1:0/", door);
-            is_so
-        }
-        Err(_) => false,
-    }
-}
-
-#[test]
-fn a_door_at_loopback_listens_there_alone(rt: HostRuntime) {
-    let mut host = host(&rt);
-    let is_local = is_local(&mut host);
-    drop(host);
-    assert!(rt; is_local);
 }
 
 /// Whether a door can be opened at the address.
